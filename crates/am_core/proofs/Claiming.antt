@@ -95,10 +95,10 @@ below_taken slots k q e lt state at =
 
 -- ---- the three answers
 
--- numbers that are used up give WornOut
-pub worn_is : (s : Parameters) (me to : ℕ) (p : PeerState) (xs : List Request) (last : ℕ) → StandsForAsked s me to p xs
-    → last ≡ s.last → last ≤ p.given → claim_answer (limits_of s me to) to xs ≡ asked.WornOut
-worn_is s me to p xs last S same e = let c = S.given in grind (arith, nat_tests)
+-- numbers that are used up give Exhausted
+pub exhausted_is : (s : Parameters) (me to : ℕ) (p : PeerState) (xs : List Request) (last : ℕ) → StandsForAsked s me to p xs
+    → last ≡ s.last → last ≤ p.given → claim_answer (limits_of s me to) to xs ≡ asked.Exhausted
+exhausted_is s me to p xs last S same e = let c = S.given in grind (arith, nat_tests)
 
 -- with no slot vacant it gives NotYet
 pub not_yet_is : (s : Parameters) (me to : ℕ) (p : PeerState) (xs : List Request) (last : ℕ)

@@ -24,7 +24,7 @@ use Rattle.credit_slots.specs.declared.NoClaim.TheVariants as claims
 use Rattle.reply_slots.specs.RepliesState.{ReplyState, Unused, Kept, last_number, JudgesAt, Judges, with_reply}
 use Rattle.reply_slots.specs.RepliesState.{slot_at as reply_at}
 use Rattle.reply_slots.specs.declared.Judged.{Judged}
-use Rattle.reply_slots.specs.declared.Judged.TheVariants.{New, Again, Stale}
+use Rattle.reply_slots.specs.declared.Judged.TheVariants.{New, Duplicate, Stale}
 use Rattle.handler_rules.specs.declared.table.Entry.{Entry}
 use Rattle.handler_rules.specs.declared.rules.Role.{Role}
 use Rattle.handler_rules.specs.declared.rules.Violation.{Violation}
@@ -58,7 +58,7 @@ use Rattle.am_core.specs.Sizes.{AreSlots}
 use Rattle.node_record.specs.declared.answer.Side.TheVariants as side
 use Rattle.node_record.proofs.Keeping.{fewer}
 use Rattle.node_record.proofs.Runs.{last_new, last_other, last_none, run_at_says}
-use Rattle.am_core.proofs.Claiming.{Takes, worn_is, not_yet_is, accepted_is, stands_accepted, stands_back, stands_sent}
+use Rattle.am_core.proofs.Claiming.{Takes, exhausted_is, not_yet_is, accepted_is, stands_accepted, stands_back, stands_sent}
 use Rattle.am_core.proofs.Claiming.{taken_open, open_taken_with}
 use Rattle.lists.proofs.Places.{slice_get-replicate}
 
@@ -208,13 +208,13 @@ outcome_stands e r role o S fits =
 -- ---- a request
 
 -- a refusal for want of numbers is the record's answer
-pub node_worn : (to : ℕ) (e : CoreState) (r : Node Local) → Stands e r → to < e.settings.nodes → to ≢ e.me
-    → IfSome (slice_get e.requests.peers to) (λ p. Refuses p e.requests.last claims.WornOut)
-    → claim_answer (limits_of e.settings e.me to) to (r.asked to) ≡ asked.WornOut
-node_worn to e r S low other h =
+pub node_exhausted : (to : ℕ) (e : CoreState) (r : Node Local) → Stands e r → to < e.settings.nodes → to ≢ e.me
+    → IfSome (slice_get e.requests.peers to) (λ p. Refuses p e.requests.last claims.Exhausted)
+    → claim_answer (limits_of e.settings e.me to) to (r.asked to) ≡ asked.Exhausted
+node_exhausted to e r S low other h =
     let p = S.requests to low other in
-    worn_is e.settings e.me to p.0 (r.asked to) e.requests.last p.2 S.last
-    (subst (λ o. IfSome o (λ q. Refuses q e.requests.last claims.WornOut)) p.1 h)
+    exhausted_is e.settings e.me to p.0 (r.asked to) e.requests.last p.2 S.last
+    (subst (λ o. IfSome o (λ q. Refuses q e.requests.last claims.Exhausted)) p.1 h)
 
 -- a refusal for want of a slot is the record's answer
 pub node_not_yet : (to : ℕ) (e : CoreState) (r : Node Local) → Stands e r → to < e.settings.nodes → to ≢ e.me
@@ -425,7 +425,7 @@ last_is s me peer slot rs = go (last_run slot rs) refl
 judges_last : (state : ReplyState) (number last : ℕ) (j : Judged) → last_number state ≡ last → Judges state number j
     → Judges (Kept last []) number j
 judges_last state number last New e h = omega arith
-judges_last state number last Again e h = h ∙ e
+judges_last state number last Duplicate e h = h ∙ e
 judges_last state number last Stale e h = omega arith
 
 -- the number stands to the greatest one run in the slot as it was judged

@@ -58,7 +58,7 @@ use Rattle.am_core.specs.CoreStep.{after_judgement, asked_fault, judged_at, said
 use Rattle.am_core.specs.CoreStep.{landed_core, request_outcome, with_outcome, with_reply_ran}
 use Rattle.am_core.specs.CoreStep.{with_own_reply, with_own_run}
 use Rattle.am_core.proofs.CoreStands.{noted_stands, locks_stand, segment_stand, outcome_stands}
-use Rattle.am_core.proofs.CoreStands.{node_worn, node_not_yet, node_accepts}
+use Rattle.am_core.proofs.CoreStands.{node_exhausted, node_not_yet, node_accepts}
 use Rattle.am_core.specs.Library.{is_library}
 use Rattle.am_core.proofs.Landings.{landing_fits, reply_kind_is, StaysInside, client_stays, client_reply, said_client}
 use Rattle.am_core.proofs.Landings.{said_stays}
@@ -351,7 +351,7 @@ own_sendable meaning e c lawful client =
     (client_outcome (handlers_at meaning here) role.Request (with_itself e.me) c (start_at here)).reply
     (lawful c.handler frame (start_at here)).reply)
 
--- a request to the own node ran, and its reply
+-- a request to the local node ran, and its reply
 own_run_stands : (meaning : Meaning) (e : CoreState) (r : Node Local) (c : Content) → IsLawfulMeaning meaning
     → Stands e r → is_library c.handler ≡ false → StaysInside e.settings.segment c
     → Stands (with_own_run meaning e c)
@@ -408,7 +408,7 @@ other_answer : (e : CoreState) (r : Node Local) (ask : Ask) (a : AskedAnswer) �
     → claim_answer (limits_of e.settings e.me ask.to) ask.to (r.asked ask.to) ≡ a → passed_answer e r ask ≡ a
 other_answer e r ask a other is = rw (ne_eqb ask.to e.me other) is
 
--- of a request to the own node
+-- of a request to the local node
 own_passed : (e : CoreState) (r : Node Local) (ask : Ask) (lock : Option ℕ) → Stands e r → ask.to ≡ e.me
     → busy_lock e.table ask.what.handler e.locks ≡ lock → passed_answer e r ask ≡ own_answer lock
 own_passed e r ask lock S own is =
@@ -434,10 +434,10 @@ claims_step meaning e now ask allowed (asked.Accepted peer slot number) new j f 
             N.stands,
       );
 }
-claims_step meaning e now ask allowed asked.WornOut new j f low other h = record {
+claims_step meaning e now ask allowed asked.Exhausted new j f low other h = record {
   same = same_core e new h.1;
   steps = λ r S. (
-    answer_is meaning e r ask allowed _ S j f (other_answer e r ask _ other (node_worn ask.to e r S low other h.0)),
+    answer_is meaning e r ask allowed _ S j f (other_answer e r ask _ other (node_exhausted ask.to e r S low other h.0)),
     rw h.1 S,
   );
 }
@@ -485,7 +485,7 @@ own_same meaning e c lawful sized client fits =
           segment_length = as_long ∙ (ap (λ (s : Parameters). s.segment) settings ∙ sym sized);
         }
 
--- a request to the own node that passes the checks, by the lock for which it waits
+-- a request to the local node that passes the checks, by the lock for which it waits
 own_step : (meaning : Meaning) (e : CoreState) (now : ℕ) (ask : Ask) (allowed : Unit {0}) (lock : Option ℕ)
     (a : AskedAnswer) (new : CoreState) → IsLawfulMeaning meaning → length e.segment ≡ e.settings.segment
     → judged_at e ask.thread call.Request ≡ Ok allowed → asked_fault e ask ≡ None → ask.to ≡ e.me
@@ -521,7 +521,7 @@ target_in e ask f = elim (cases_lt ask.to e.settings.nodes) [
     bad : nat_le e.settings.nodes ask.to ≡ true → ⊥
     bad t = let it = rw t at f in cc
 
--- a request that passes the checks, by whether it is for the own node
+-- a request that passes the checks, by whether it is for the local node
 asks_node : (meaning : Meaning) (e : CoreState) (now : ℕ) (ask : Ask) (allowed : Unit {0}) (a : AskedAnswer)
     (new : CoreState) (own : Bool) → eqb ask.to e.me ≡ own → IsLawfulMeaning meaning
     → length e.segment ≡ e.settings.segment
@@ -604,9 +604,9 @@ own_ask_step e now to work (asked.Accepted peer slot number) new low other h = r
             S.segment_is N.stands,
       );
 }
-own_ask_step e now to work asked.WornOut new low other h = record {
+own_ask_step e now to work asked.Exhausted new low other h = record {
   same = same_core e new h.1;
-  steps = λ r S. (sym (node_worn to e r S low other h.0), rw h.1 S);
+  steps = λ r S. (sym (node_exhausted to e r S low other h.0), rw h.1 S);
 }
 own_ask_step e now to work asked.NotYet new low other h = record {
   same = same_core e new h.1;

@@ -26,7 +26,7 @@ use Rattle.node_record.specs.Step.{judged as judged_answer, taken_back, unless_r
 use Rattle.node_record.specs.Step.{Waits as WaitsVerdict}
 use Rattle.node_record.specs.Step.{deliver_answer, after_delivery}
 use Rattle.node_record.specs.Step.{address_fault, first_why, with_run, with_back}
-use Rattle.node_record.specs.Step.{Verdict, Refused as RefusedVerdict, Repeated, Passed, Runs as RunsVerdict, Missed}
+use Rattle.node_record.specs.Step.{Verdict, Refused as RefusedVerdict, Duplicated, Passed, Runs as RunsVerdict, Missed}
 use Rattle.node_record.specs.Step.{Returns as ReturnsVerdict, verdict, answer_by, with_sender}
 use Rattle.datagram_grammar.specs.Parameters.{credits_of}
 use Rattle.am_core.specs.Kept.{Local, start_of, with_writes}
@@ -121,7 +121,7 @@ judged_new m last lock l = grind (arith, nat_tests)
 
 -- the greatest number came again
 judged_again : (m : Message) (last : ℕ) (lock : Option ℕ) → m.number ≡ last
-    → judged_answer m.number last lock ≡ Repeated
+    → judged_answer m.number last lock ≡ Duplicated
 judged_again m last lock l = grind (arith, nat_tests)
 
 -- a smaller number is stale
@@ -269,15 +269,15 @@ message_step meaning e m (delivered.Ran at) new lawful sized h =
     new_step meaning e m (delivered.Ran at) new lawful sized h
 message_step meaning e m (delivered.Noted at note) new lawful sized h =
     new_step meaning e m (delivered.Noted at note) new lawful sized h
-message_step meaning e m (delivered.Again at) new lawful sized h = record {
+message_step meaning e m (delivered.Duplicate at) new lawful sized h = record {
   same = same_core e new h.3;
   steps = λ r S.
       let ours = h.0.known in
-      let same = node_judged m.from m.slot m.number e r judged.Again S ours.from (from_other e m ours h.0.spelled)
+      let same = node_judged m.from m.slot m.number e r judged.Duplicate S ours.from (from_other e m ours h.0.spelled)
       (request_slot_in e m h.0) h.2 in
-      by_verdict meaning e new r m Repeated _
+      by_verdict meaning e new r m Duplicated _
       (request_verdict meaning e r m _ h.0 S (judged_again m (greatest m.slot (r.ran m.from)) (lock_at e m) same))
-      (ap delivered.Again h.1) (rw h.3 S);
+      (ap delivered.Duplicate h.1) (rw h.3 S);
 }
 message_step meaning e m delivered.Stale new lawful sized h = record {
   same = same_core e new h.2;
@@ -420,13 +420,13 @@ pub message_answered : (meaning : Meaning) (e : CoreState) (m : Message) (a : De
     → WouldAnswer e m a → a ≡ deliver_answer (site_at meaning e) r m
 message_answered meaning e m (delivered.Ran at) r S h = run_answered meaning e m (delivered.Ran at) r S h
 message_answered meaning e m (delivered.Noted at note) r S h = run_answered meaning e m (delivered.Noted at note) r S h
-message_answered meaning e m (delivered.Again at) r S h =
+message_answered meaning e m (delivered.Duplicate at) r S h =
     let ours = h.0.known in
-    let same = node_judged m.from m.slot m.number e r judged.Again S ours.from (from_other e m ours h.0.spelled)
+    let same = node_judged m.from m.slot m.number e r judged.Duplicate S ours.from (from_other e m ours h.0.spelled)
     (request_slot_in e m h.0) h.2 in
-    answer_by_verdict meaning e r m Repeated _
+    answer_by_verdict meaning e r m Duplicated _
     (request_verdict meaning e r m _ h.0 S (judged_again m (greatest m.slot (r.ran m.from)) (lock_at e m) same))
-    (ap delivered.Again h.1)
+    (ap delivered.Duplicate h.1)
 message_answered meaning e m delivered.Stale r S h =
     let ours = h.0.known in
     let below = node_judged m.from m.slot m.number e r judged.Stale S ours.from (from_other e m ours h.0.spelled)

@@ -4,7 +4,7 @@ use Rattle.std.specs.Prelude.{◌==◌, nat_lt}
 use Rattle.std.proofs.lemmas.Bool.Decides.{nat_tests}
 use Rattle.reply_slots.specs.RepliesState.{JudgesAt, Judges, Kept}
 use Rattle.reply_slots.specs.declared.Judged.{Judged}
-use Rattle.reply_slots.specs.declared.Judged.TheVariants.{New, Again, Stale}
+use Rattle.reply_slots.specs.declared.Judged.TheVariants.{New, Duplicate, Stale}
 use Rattle.datagram_grammar.specs.Parameters.{credits_of}
 use Rattle.node_record.specs.Executed.{greatest}
 use Rattle.am_core.specs.CoreState.{CoreState}
@@ -14,13 +14,13 @@ use Rattle.am_core.proofs.CoreStands.{node_judged}
 -- the request was judged to come again
 abbrev pub is_again : Judged → Bool
 is_again New = false
-is_again Again = true
+is_again Duplicate = true
 is_again Stale = false
 
 judged_last : (number last : ℕ) (answer : Judged) → Judges (Kept last []) number answer
     → is_again answer ≡ (number == last)
 judged_last number last New judged = rw (ne_eqb number last (λ same. omega (arith, same, judged))) refl
-judged_last number last Again judged = rw (eq-eqb number last judged) refl
+judged_last number last Duplicate judged = rw (eq-eqb number last judged) refl
 judged_last number last Stale judged = rw (ne_eqb number last (λ same. omega (arith, same, judged))) refl
 
 -- a slot of another node, with the judgement of the number there

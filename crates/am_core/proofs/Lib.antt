@@ -1,6 +1,6 @@
 pub mod Claiming
 pub mod CoreStands
-pub mod Floors
+pub mod HandlerContexts
 pub mod Sized
 pub mod SlotCounts
 pub mod Dues

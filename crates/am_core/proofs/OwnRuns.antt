@@ -1,4 +1,4 @@
--- What the reply of a request of the own node is, for the run of its handler.
+-- What the reply of a request of the local node is, for the run of its handler.
 use Rattle.std.proofs.Common.{ℕ, zero, suc, ◌≡◌, ◌+◌, ◌-◌, ◌≤◌, ◌++◌, List, [], ◌∷◌, Option, Some, None, Bool, true}
 use Rattle.std.proofs.Common.{false}
 use Rattle.std.proofs.Common.{length, take, drop, refl, sym, ap, ap₂, ◌∙◌, subst, arith, inl, inr, eq-eqb, take_all}
@@ -25,9 +25,9 @@ use Rattle.am_core.specs.ClientRules.{payload_len, said_in}
 use Rattle.hsl_locks.specs.declared.answer.Owner.TheVariants as owner
 use Rattle.hsl_locks.specs.Locks.{holds}
 use Rattle.handler_rules.specs.Runs.{Meaning}
-use Rattle.am_core.specs.declared.floor.OwnReply.{OwnReply}
-use Rattle.am_core.specs.FloorRuns.{FloorRun, OwnFrame, Touched, Ran, Leaves, RunsReply, RunsOwn, CanRunOwnReply}
-use Rattle.am_core.specs.FloorRuns.{own_reply_run, landed_on, start_on}
+use Rattle.am_core.specs.declared.context.OwnReply.{OwnReply}
+use Rattle.am_core.specs.HandlerContextRuns.{HandlerContextRun, OwnFrame, Touched, Ran, Leaves, RunsReply, RunsOwn, CanRunOwnReply}
+use Rattle.am_core.specs.HandlerContextRuns.{own_reply_run, landed_on, start_on}
 use Rattle.handler_rules.specs.declared.rules.Role.TheVariants as role
 use Rattle.handler_rules.specs.LogState.{Logged, notes}
 use Rattle.handler_rules.specs.Runs.{closed, violation}
@@ -77,7 +77,7 @@ reply_free table handler held registered free =
 front : {X : Type 0} (xs ys : List X) → take (length xs) (xs ++ ys) ≡ xs
 front xs ys = take-append-le (length xs) xs ys (omega arith) ∙ take_all (length xs) xs (omega arith)
 
--- the reply of a request of the own node is this content, and its payload stands at the front of the buffer
+-- the reply of a request of the local node is this content, and its payload stands at the front of the buffer
 pub record IsOwnReply (frame : Frame) (content : Content) (buffer : List ℕ) (reply : Reply) : Type 0 where
   pub good : IsGood frame content
   pub content_is : content_at buffer reply ≡ content
@@ -95,7 +95,7 @@ a_content content args payload = record {
   payload = payload;
 }
 
--- a reply that was sent to the own node
+-- a reply that was sent to the local node
 pub own_reply_is : (frame : Frame) (sent : Option Content) (reply : Reply) (buffer new_buffer : List ℕ)
     → frame.arrival.source ≡ frame.arrival.me → IsLawful frame sent
     → Some reply ≡ reply_after frame.settings frame.arrival sent
@@ -153,7 +153,7 @@ placed_inside segment content inside = elim (cases_Bool (is_long (code content.k
 ]
 
 -- the handler of the reply can run
-pub can_run_own : (run : FloorRun) (middle : Touched) (reply : Reply) (buffer new_buffer : List ℕ) (own : OwnReply)
+pub can_run_own : (run : HandlerContextRun) (middle : Touched) (reply : Reply) (buffer new_buffer : List ℕ) (own : OwnReply)
     → run.frame.arrival.source ≡ run.frame.arrival.me → Ran run middle buffer new_buffer (Some reply)
     → own.reply ≡ reply → own.settings.now ≡ run.frame.settings → own.table.now ≡ run.frame.table
     → length run.before.segment ≡ run.frame.settings.segment → holds owner.Handler run.before.locks ≡ false
@@ -180,7 +180,7 @@ can_run_own run middle reply buffer new_buffer own to_itself ran reply_is settin
     })
 
 -- the reply ran
-pub replied_ran : (meaning : Meaning) (run : FloorRun) (middle after : Touched) (reply : Reply)
+pub replied_ran : (meaning : Meaning) (run : HandlerContextRun) (middle after : Touched) (reply : Reply)
     (buffer new_buffer : List ℕ) → run.frame.arrival.source ≡ run.frame.arrival.me
     → Ran run middle buffer new_buffer (Some reply)
     → Leaves (own_reply_run meaning (record {
@@ -207,7 +207,7 @@ replied_ran meaning run middle after reply buffer new_buffer to_itself ran left 
     }
 
 -- there was none
-pub unreplied_ran : (meaning : Meaning) (run : FloorRun) (after : Touched) (sent : Option Reply)
+pub unreplied_ran : (meaning : Meaning) (run : HandlerContextRun) (after : Touched) (sent : Option Reply)
     (buffer new_buffer : List ℕ) → Ran run after buffer new_buffer sent
     → ((reply : Reply) → sent ≡ Some reply → ⊥) → RunsOwn meaning run after
 unreplied_ran meaning run after sent buffer new_buffer ran none = record {
@@ -221,7 +221,7 @@ unreplied_ran meaning run after sent buffer new_buffer ran none = record {
     by_reply None is = refl
     by_reply (Some content) is = absurd (none (reply_of run.frame.settings run.frame.arrival content) is)
 
--- ---- a request to the own node
+-- ---- a request to the local node
 
 -- the core with what handlers write
 abbrev pub with_touched : CoreState → Touched → CoreState
@@ -236,11 +236,11 @@ abbrev a_touched : List ℤ → List ℕ → List Held → Logged → Touched
 a_touched cells segment locks log = record { cells = cells; segment = segment; locks = locks; log = log }
 
 -- what a run leaves of what it found
-abbrev after_run : FloorRun → Touched
+abbrev after_run : HandlerContextRun → Touched
 after_run run = a_touched run.outcome.cells (written_by run.before.segment run.outcome.writes) run.before.locks
     (notes run.before.log (map (violation run.frame.arrival.role) run.outcome.refused))
 
-left_is : (run : FloorRun) (after : Touched) → Leaves run after → after ≡ after_run run
+left_is : (run : HandlerContextRun) (after : Touched) → Leaves run after → after ≡ after_run run
 left_is run after left =
     ap (λ (cells : List ℤ). a_touched cells after.segment after.locks after.log) left.cells_are
     ∙ (ap (λ (segment : List ℕ). a_touched run.outcome.cells segment after.locks after.log) left.segment_is
@@ -254,7 +254,7 @@ abbrev touched_at : CoreState → Touched
 touched_at core = a_touched core.cells core.segment core.locks core.log
 
 -- the run of an own request at a core where its payload landed
-abbrev pub own_request_run : Meaning → CoreState → Content → FloorRun
+abbrev pub own_request_run : Meaning → CoreState → Content → HandlerContextRun
 own_request_run meaning core content =
     let frame = frame_of_run (handlers_at meaning core) role.Request (with_itself core.me) content in
     record {
@@ -274,7 +274,7 @@ own_run_is meaning core content after lawful client ran =
     (subst (λ (middle : Touched). RunsReply meaning run run.outcome.reply middle after)
     (left_is run ran.middle ran.left) ran.replied))
   where
-    run : FloorRun
+    run : HandlerContextRun
     run = own_request_run meaning core content
 
     by_reply : (sent : Option Content) → IsLawful run.frame sent → RunsReply meaning run sent (after_run run) after
@@ -287,14 +287,14 @@ own_run_is meaning core content after lawful client ran =
 -- ---- what an own request finds
 
 -- the run of a handler in this frame, that found this
-abbrev a_run : Meaning → (handler : ℕ) → Frame → Touched → FloorRun
+abbrev a_run : Meaning → (handler : ℕ) → Frame → Touched → HandlerContextRun
 a_run meaning handler frame before = record {
   frame = frame;
   outcome = closed frame (meaning handler frame (start_on before));
   before = before;
 }
 
--- what stays the same while a request of the own node runs
+-- what stays the same while a request of the local node runs
 abbrev a_frame : CoreState → (listed : ℕ) → List ℤ → List ℕ → Option (ℕ × ℕ) → Frame
 a_frame core listed args payload place = record {
   settings = core.settings;

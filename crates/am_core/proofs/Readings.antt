@@ -13,7 +13,7 @@ use Rattle.std.proofs.lemmas.Option.{same_Some}
 use Rattle.datagram_grammar.specs.Parameters.{Parameters, credits_of}
 use Rattle.node_record.specs.Credits.{limits_of}
 use Rattle.node_record.specs.Step.{request_slot, reply_slot}
-use Rattle.credit_slots.specs.SlotsState.{SlotState, PeerState, is_vacant, vacant_count, is_worn_out}
+use Rattle.credit_slots.specs.SlotsState.{SlotState, PeerState, is_vacant, vacant_count, is_exhausted}
 use Rattle.credit_slots.specs.SlotsState.{message_at as request_bytes_at, message_of as request_of}
 use Rattle.reply_slots.specs.RepliesState.{message_at as reply_bytes_at, message_of as reply_of}
 use Rattle.node_record.specs.declared.answer.SlotRef.{SlotRef}
@@ -199,9 +199,9 @@ free_is e r to S low other =
     ∙ peer_vacant e.settings e.me to p.0 (r.asked to) p.2 (S.invariant_.orderly to)
 
 -- whether the numbers are used up
-pub worn_out_is : (e : CoreState) (r : Node Local) (to : ℕ) → Stands e r → to < e.settings.nodes → to ≢ e.me
-    → is_worn_out e.requests to ≡ nat_le e.settings.last (length (r.asked to))
-worn_out_is e r to S low other =
+pub exhausted_is : (e : CoreState) (r : Node Local) (to : ℕ) → Stands e r → to < e.settings.nodes → to ≢ e.me
+    → is_exhausted e.requests to ≡ nat_le e.settings.last (length (r.asked to))
+exhausted_is e r to S low other =
     let p = S.requests to low other in
     ap (λ (o : Option PeerState). elim o as (λ _. Bool) [ Some q ↦ nat_le e.requests.last q.given | None ↦ true ]) p.1
     ∙ rw (S.last, p.2.given) refl

@@ -21,7 +21,7 @@ pub record AreFilled (settings : Parameters) (me : ℕ) (which : Side) (below : 
   pub room : length counts ≡ 256
   pub filled : (node : ℕ) → node < below → node ≢ me → get_or counts node 0 ≡ slots_of settings me which node
 
--- the own node has none
+-- the local node has none
 pub filled_own : (settings : Parameters) (me : ℕ) (which : Side) (node : ℕ) (counts : List ℕ)
     → AreFilled settings me which node counts → node ≡ me → AreFilled settings me which (node + 1) counts
 filled_own settings me which node counts F own = record {

@@ -23,10 +23,10 @@ use Rattle.am_core.specs.Stands.{Stands, slot_state}
 use Rattle.node_record.specs.declared.answer.Ticked.{Ticked}
 use Rattle.node_record.specs.NodeStep.{NodeAnswer, OfTick, Ticks}
 use Rattle.node_record.specs.Step.{after_resend, tick_answer, tick_choice, after_tick, choice_of}
-use Rattle.node_record.specs.Step.{Rests, Resends as ResendsDue}
-use Rattle.am_core.specs.CoreContracts.{IsSameNode, CoreTold, CoreSteps, resends}
+use Rattle.node_record.specs.Step.{Rests, Retransmits as RetransmitsDue}
+use Rattle.am_core.specs.CoreContracts.{IsSameNode, CoreTold, CoreSteps, retransmits}
 use Rattle.am_core.proofs.CoreSteps.{site_at}
-use Rattle.am_core.specs.CoreStep.{Resends}
+use Rattle.am_core.specs.CoreStep.{Retransmits}
 use Rattle.node_record.proofs.Lists.{slice_get_past, numbered_nil}
 use Rattle.node_record.proofs.Keeping.{open_found, open_says, one_open}
 use Rattle.am_core.proofs.Dues.{Among, IsDueOf, dues_has, dues_from, all_dues_has, all_dues_from, NotAfter, earliest_is}
@@ -212,7 +212,7 @@ resent_slot None = None
 resent_slot (Some at) = Some (request_slot at.0 at.1)
 
 -- what the code sends again is what the record has to send again
-resends_step : (e : CoreState) (now : ℕ) (at : Option (ℕ × ℕ)) (new : CoreState) → Resends e now at new
+resends_step : (e : CoreState) (now : ℕ) (at : Option (ℕ × ℕ)) (new : CoreState) → Retransmits e now at new
     → Resent e now (resent_slot at) new
 resends_step e now None new h = tick_none e now new h.0 h.1
 resends_step e now (Some at) new h = tick_some e now at.0 at.1 new h.0 h.1
@@ -224,19 +224,19 @@ of_tick a = OfTick a
 -- a node that sends nothing of its own accord answers a tick by what is due, and is left as by a resending
 tick_is : (meaning : Meaning) (e : CoreState) (r : Node Local) (now : ℕ) (due : Option Due) (new : CoreState)
     → next_due e.settings r now ≡ due → Stands new (after_resend r now due)
-    → (resends (due_slot due) ≡ tick_answer (site_at meaning e).behaviour r (tick_choice (site_at meaning e) r now))
+    → (retransmits (due_slot due) ≡ tick_answer (site_at meaning e).behaviour r (tick_choice (site_at meaning e) r now))
     × Stands new (after_tick (site_at meaning e) r now (tick_choice (site_at meaning e) r now))
 tick_is meaning e r now None new is stands =
     let choice : tick_choice (site_at meaning e) r now ≡ Rests = ap (λ due. choice_of due None) is in
     rw choice (refl, stands)
 tick_is meaning e r now (Some due) new is stands =
-    let choice : tick_choice (site_at meaning e) r now ≡ ResendsDue due = ap (λ due. choice_of due None) is in
+    let choice : tick_choice (site_at meaning e) r now ≡ RetransmitsDue due = ap (λ due. choice_of due None) is in
     rw choice (refl, stands)
 
 -- a tick is the record's step
 pub ticks_step : (meaning : Meaning) (e : CoreState) (now : ℕ) (at : Option (ℕ × ℕ)) (new : CoreState)
-    → Resends e now at new
-    → CoreSteps meaning e (record { now = now; event = Ticks; answer = OfTick (resends (resent_slot at)) }) new
+    → Retransmits e now at new
+    → CoreSteps meaning e (record { now = now; event = Ticks; answer = OfTick (retransmits (resent_slot at)) }) new
 ticks_step meaning e now at new h =
     let it = resends_step e now at new h in
     record {
@@ -244,7 +244,7 @@ ticks_step meaning e now at new h =
       steps = λ r S.
           let step = it.steps r S in
           let told = tick_is meaning e r now (next_due e.settings r now) new refl step.1 in
-          (ap of_tick (ap resends step.0 ∙ told.0), told.1);
+          (ap of_tick (ap retransmits step.0 ∙ told.0), told.1);
     }
 
 -- what the table of slots tells of the next tick is so of the record

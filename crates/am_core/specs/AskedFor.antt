@@ -41,7 +41,7 @@ ask_of asking = asks_of asking.thread asking.to (asking_of asking)
 abbrev pub content_with : Asking → (payload : List ℕ) → Content
 content_with asking payload = content_by (category_of asking.category) (asking_of asking) payload
 
--- what the request says, where the own segment has these bytes
+-- what the request says, where the local segment has these bytes
 abbrev pub content_asked : (segment : List ℕ) → Asking → Content
 content_asked segment asking = said_in segment (asking_of asking)
 

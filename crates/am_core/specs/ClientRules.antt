@@ -31,7 +31,7 @@ use Rattle.am_core.specs.HandlerRuns.{handlers_of, run_request, run_reply, liste
 
 -- ---- requests
 
--- a payload, where the own segment has these bytes
+-- a payload, where the local segment has these bytes
 abbrev pub payload_in : (segment : List ℕ) → PayloadFrom → List ℕ
 payload_in segment (Lent bytes) = bytes
 payload_in segment (Own offset len) = part segment offset len
@@ -42,7 +42,7 @@ content_by Short asking payload = short_request asking.handler asking.args
 content_by Medium asking payload = medium_request asking.handler asking.args payload
 content_by Long asking payload = long_request asking.handler asking.args asking.offset payload
 
--- what a client asks for, as the content of a request, where the own segment has these bytes
+-- what a client asks for, as the content of a request, where the local segment has these bytes
 abbrev pub said_in : (segment : List ℕ) → Asking → Content
 said_in segment asking = content_by asking.category asking (payload_in segment asking.payload)
 
@@ -100,7 +100,7 @@ abbrev pub payload_len : PayloadFrom → ℕ
 payload_len (Lent bytes) = length bytes
 payload_len (Own offset len) = len
 
--- the payload is a range that passes the end of the own segment
+-- the payload is a range that passes the end of the local segment
 abbrev pub passes_source : (segment : ℕ) → PayloadFrom → Bool
 passes_source segment (Lent bytes) = false
 passes_source segment (Own offset len) = nat_lt segment (offset + len)

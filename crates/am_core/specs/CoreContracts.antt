@@ -72,7 +72,7 @@ core_job meaning core =
       settings = core.settings;
       behaviour = record {
         messages = messages;
-        does = λ me worn thread call local. core_does messages thread call local;
+        does = λ me exhausted thread call local. core_does messages thread call local;
       };
     }
 
@@ -130,9 +130,9 @@ pub record AsksOwn (old : CoreState) (step : OwnAsk) (new : CoreState) : Type 0 
 -- ---- ticks
 
 -- how a tick is answered that sends the request of this slot again, or nothing
-abbrev pub resends : Option SlotRef → Ticked
-resends None = ticked.Nothing
-resends (Some at) = ticked.Resend at
+abbrev pub retransmits : Option SlotRef → Ticked
+retransmits None = ticked.Nothing
+retransmits (Some at) = ticked.Retransmission at
 
 -- ---- what is read of a core
 

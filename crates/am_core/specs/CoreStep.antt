@@ -12,7 +12,7 @@ use Rattle.credit_slots.specs.SlotsState.{with_slot_changed}
 use Rattle.credit_slots.specs.Due.{IsDueNext, sent_again}
 use Rattle.credit_slots.specs.declared.NoClaim.TheVariants as claims
 use Rattle.reply_slots.specs.RepliesState.{JudgesAt, with_reply}
-use Rattle.reply_slots.specs.declared.Judged.TheVariants.{New, Again, Stale}
+use Rattle.reply_slots.specs.declared.Judged.TheVariants.{New, Duplicate, Stale}
 use Rattle.reply_slots.specs.RepliesState.{IsNew as IsNewReplies}
 use Rattle.handler_rules.specs.declared.table.Entry.{Entry}
 use Rattle.handler_rules.specs.declared.rules.Role.{Role}
@@ -124,7 +124,7 @@ abbrev pub with_own_reply : Meaning → CoreState → Option Content → CoreSta
 with_own_reply meaning core None = core
 with_own_reply meaning core (Some content) = with_reply_ran meaning core (with_itself core.me) content
 
--- the core after a request to the own node
+-- the core after a request to the local node
 abbrev pub with_own_run : Meaning → CoreState → Content → CoreState
 with_own_run meaning core content =
     let landed = landed_core core content in
@@ -168,8 +168,8 @@ Claims core step new = elim step.answer [
         event = step.event;
         answer = record { slot = slot; number = number };
       }) new
-  | asked.WornOut ↦
-      IfSome (slice_get core.requests.peers step.event.to) (λ peer. Refuses peer core.requests.last claims.WornOut)
+  | asked.Exhausted ↦
+      IfSome (slice_get core.requests.peers step.event.to) (λ peer. Refuses peer core.requests.last claims.Exhausted)
       × (new ≡ core)
   | asked.NotYet ↦
       IfSome (slice_get core.requests.peers step.event.to) (λ peer. Refuses peer core.requests.last claims.NotYet)
@@ -302,9 +302,9 @@ abbrev pub DeliversMessage : Meaning → CoreState → Message → Delivered →
 DeliversMessage meaning core message (delivered.Ran at) new = RunsNew meaning core message (delivered.Ran at) new
 DeliversMessage meaning core message (delivered.Noted at note) new =
     RunsNew meaning core message (delivered.Noted at note) new
-DeliversMessage meaning core message (delivered.Again at) new =
+DeliversMessage meaning core message (delivered.Duplicate at) new =
     IsOurRequest core message × (at ≡ reply_slot message.from message.slot)
-    × JudgesAt core.replies message.from message.slot message.number Again × (new ≡ core)
+    × JudgesAt core.replies message.from message.slot message.number Duplicate × (new ≡ core)
 DeliversMessage meaning core message delivered.Stale new =
     IsOurRequest core message × JudgesAt core.replies message.from message.slot message.number Stale × (new ≡ core)
 DeliversMessage meaning core message (delivered.Returned to slot number) new =
@@ -321,9 +321,9 @@ DeliversMessage meaning core message (delivered.Deferred lock) new =
 -- ---- ticks
 
 -- the request that is sent again, and what that leaves
-abbrev pub Resends : CoreState → (now : ℕ) → Option (ℕ × ℕ) → CoreState → Type 0
-Resends core now None new = IsDueNext core.requests now core.settings.resend None × (new ≡ core)
-Resends core now (Some at) new =
+abbrev pub Retransmits : CoreState → (now : ℕ) → Option (ℕ × ℕ) → CoreState → Type 0
+Retransmits core now None new = IsDueNext core.requests now core.settings.resend None × (new ≡ core)
+Retransmits core now (Some at) new =
     IsDueNext core.requests now core.settings.resend (Some at) ×
     (new ≡ record core { requests = with_slot_changed core.requests at.0 at.1 (sent_again now) })
 
@@ -347,13 +347,13 @@ claim_of core step = record {
   answer = step.answer;
 }
 
--- a request to the own node, by the lock for which it waits: with none it runs at once
+-- a request to the local node, by the lock for which it waits: with none it runs at once
 abbrev pub AsksHere : Option ℕ → Meaning → CoreState → Transition Ask AskedAnswer → CoreState → Type 0
 AsksHere (Some lock) meaning core step new = (step.answer ≡ asked.LockBusy lock) × (new ≡ core)
 AsksHere None meaning core step new =
     (step.answer ≡ asked.Ran) × (new ≡ with_own_run meaning core (said_at core step.event))
 
--- a request with no fault: to the own node, or to another one, where it is claimed
+-- a request with no fault: to the local node, or to another one, where it is claimed
 abbrev pub AsksNode : (is_own : Bool) → Meaning → CoreState → Transition Ask AskedAnswer → CoreState → Type 0
 AsksNode true meaning core step new =
     AsksHere (busy_lock core.table step.event.what.handler core.locks) meaning core step new

@@ -23,7 +23,7 @@ asked_place asking = if has_place asking.category then Some (asking.offset, payl
 abbrev pub replied_place : Reply → Option (ℕ × ℕ)
 replied_place reply = if is_long (code reply.kind) then Some (reply.offset, reply.len) else None
 
--- the content of a reply of the own node, whose payload stands at the front of a buffer
+-- the content of a reply of the local node, whose payload stands at the front of a buffer
 abbrev pub content_at : (buffer : List ℕ) → Reply → Content
 content_at buffer reply = record {
   kind = reply.kind;

@@ -7,7 +7,7 @@ pub mod Stands
 pub mod CoreContracts
 pub mod Known
 pub mod WouldDeliver
-pub mod FloorRuns
+pub mod HandlerContextRuns
 pub mod AskedFor
 pub mod CoreStep
 pub mod Landed

@@ -63,9 +63,9 @@ has_library kind.Ack handler = false
 
 -- what the library asks of another node
 pub data Work : Type 0 where
-  -- `len` bytes of the own segment from `local` on go to the other's segment, from `remote` on
+  -- `len` bytes of the local segment from `local` on go to the other's segment, from `remote` on
   Put : (local remote len : ℕ) → Work
-  -- `len` bytes of the other's segment from `remote` on come to the own segment, from `local` on
+  -- `len` bytes of the other's segment from `remote` on come to the local segment, from `local` on
   Get : (local remote len : ℕ) → Work
   -- `len` bytes of the other's segment from `remote` on become this byte
   Memset : (remote len byte : ℕ) → Work

@@ -29,9 +29,9 @@ pub record WouldRun (core : CoreState) (message : Message) (answer : Delivered) 
 abbrev pub WouldAnswer : CoreState → Message → Delivered → Type 0
 WouldAnswer core message (delivered.Ran at) = WouldRun core message (delivered.Ran at)
 WouldAnswer core message (delivered.Noted at note) = WouldRun core message (delivered.Noted at note)
-WouldAnswer core message (delivered.Again at) =
+WouldAnswer core message (delivered.Duplicate at) =
     IsOurRequest core message × (at ≡ reply_slot message.from message.slot)
-    × JudgesAt core.replies message.from message.slot message.number judged.Again
+    × JudgesAt core.replies message.from message.slot message.number judged.Duplicate
 WouldAnswer core message delivered.Stale =
     IsOurRequest core message × JudgesAt core.replies message.from message.slot message.number judged.Stale
 WouldAnswer core message (delivered.Returned to slot number) =

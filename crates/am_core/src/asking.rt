@@ -20,7 +20,7 @@ pub enum Category {
 pub enum Payload<'a> {
     /// These bytes.
     Lent(&'a [u8]),
-    /// A range of the own segment.
+    /// A range of the local segment.
     Own {
         /// Its first byte.
         offset: u64,

@@ -24,7 +24,7 @@ impl Core {
             return false;
         }
         match self.replies.judge(from, slot, number) {
-            Judged::Again => true,
+            Judged::Duplicate => true,
             Judged::New => false,
             Judged::Stale => false,
         }
@@ -46,7 +46,7 @@ impl Core {
         if let Some(_) = self.bad_argument(asking) {
             return false;
         }
-        if asking.to == self.me || self.worn_out(asking.to) {
+        if asking.to == self.me || self.exhausted(asking.to) {
             return false;
         }
         self.free(asking.to) > 0
@@ -60,7 +60,7 @@ impl Core {
         if to >= self.settings.nodes() || to == self.me {
             return false;
         }
-        !self.worn_out(to) && self.free(to) > 0
+        !self.exhausted(to) && self.free(to) > 0
     }
 
     /// Whether a tick at `now` sends a request again, a look at one entry. It changes nothing.

@@ -42,7 +42,7 @@ pub fn land(segment: &mut Segment, message: &View<'_>)
     }
 }
 
-/// The bytes of a payload, which lies inside the own segment where it is a range of it.
+/// The bytes of a payload, which lies inside the local segment where it is a range of it.
 pub fn payload_of<'a>(segment: &'a Segment, payload: &Payload<'a>) -> &'a [u8]
     requires { passes_source (length segment.now) (payload_from payload.now) ≡ false }
     ensures { result.now ≡ payload_in segment.now (payload_from payload.now) }
@@ -95,7 +95,7 @@ fn copy(segment: &mut Segment, from: u64, to: u64, len: u64)
     }
 }
 
-/// Puts the payload of a reply of the own node, which stands at the front of the buffer, where its handler finds it: a
+/// Puts the payload of a reply of the local node, which stands at the front of the buffer, where its handler finds it: a
 /// Long's at its place of the segment. Tells how many bytes of the buffer are the handler's.
 pub fn land_reply(segment: &mut Segment, buffer: &[u8], reply: &Reply) -> usize
     requires len { reply.now.len ≤ length buffer.now }

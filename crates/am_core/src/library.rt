@@ -32,7 +32,7 @@ pub(crate) const LAST_OWN: u8 = 127;
 /// (profile), or a note of the barrier.
 #[derive(Clone, Copy)]
 pub enum Library {
-    /// Bytes of the own segment go to the other's.
+    /// Bytes of the local segment go to the other's.
     Put {
         /// Their first byte here.
         local: u64,
@@ -41,7 +41,7 @@ pub enum Library {
         /// How many they are.
         len: u64,
     },
-    /// Bytes of the other's segment come to the own one.
+    /// Bytes of the other's segment come to the local one.
     Get {
         /// Their first byte here.
         local: u64,

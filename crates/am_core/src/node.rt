@@ -20,7 +20,7 @@ ghost use Rattle.am_core.specs.Sizes.{HasSegment};
 ghost use Rattle.am_core.specs.Stands.{Stands};
 ghost use Rattle.am_core.specs.CoreContracts.{CoreSteps, Check, Lock, Unlock, Checked, Locked};
 ghost use Rattle.am_core.specs.CoreContracts.{Unlocked, Delivers};
-ghost use Rattle.am_core.specs.CoreContracts.{AsksOwn, ForItsRecord, resends};
+ghost use Rattle.am_core.specs.CoreContracts.{AsksOwn, ForItsRecord, retransmits};
 
 use crate::answer::{Asked, Delivered, Side, SlotRef, Why};
 use crate::asking::{Asking, Payload};
@@ -50,7 +50,7 @@ pub struct Core {
     pub(crate) locks: Locks,
     pub(crate) cells: Cells,
     pub(crate) log: Log,
-    // For a call on the own node: the payload of its request, and its reply. Each is the one part of a block, whose
+    // For a call on the local node: the payload of its request, and its reply. Each is the one part of a block, whose
     // memory is reserved, and touched at the first such call.
     pub(crate) lent: Block,
     pub(crate) desk: Block,
@@ -146,10 +146,10 @@ impl Core {
     /// The answer is the first of these that applies: `Forbidden` by the rule table, where the thread holds a
     /// handler-safe lock; `BadArg` with `Node` where `to` is no node, with `Handler` where no handler of requests is
     /// registered for the index, with `Count` where there are more than 16 arguments, with `Payload` where there are
-    /// more than 8,192 bytes, with `Source` where the payload is a range that passes the end of the own segment, with
-    /// `Offset` where its place passes the end of the target's; for the own node `LockBusy` with the smallest lock that
+    /// more than 8,192 bytes, with `Source` where the payload is a range that passes the end of the local segment, with
+    /// `Offset` where its place passes the end of the target's; for the local node `LockBusy` with the smallest lock that
     /// a thread holds among those of the handler and of all handlers of replies, else `Ran`, where the handler runs at
-    /// once and then that of its reply; `WornOut` where the numbers of the pair are used up; `NotYet` where all its
+    /// once and then that of its reply; `Exhausted` where the numbers of the pair are used up; `NotYet` where all its
     /// credits are out; else `Accepted`. `now` is the time of its sending, in any one unit. After a refusal the core
     /// stands for the same record, but that `Forbidden` is noted as a violation.
     ///
@@ -168,13 +168,13 @@ impl Core {
     }
 
     /// A request of the library to another node, of the node's own accord (GASNet 1.8.1, extended API): a chunk of a
-    /// transfer, or a note of the barrier. A put's bytes are copied out of the own segment as it is now.
+    /// transfer, or a note of the barrier. A put's bytes are copied out of the local segment as it is now.
     ///
-    /// `WornOut` exactly where the numbers of the pair are used up, then `NotYet` where all its credits are out, else
+    /// `Exhausted` exactly where the numbers of the pair are used up, then `NotYet` where all its credits are out, else
     /// `Accepted`. `now` is the time of its sending.
     ///
     /// Ranges are of 1 to 8,192 bytes inside the segments, a note's mask is within the nodes and its flags 0 to 3, and
-    /// the own segment is as long as the settings say.
+    /// the local segment is as long as the settings say.
     pub fn ask(&mut self, now: u64, to: u16, work: &Library) -> Asked
         requires node { to < self.old.settings.nodes }
         requires other { to ≢ self.old.me }
@@ -189,7 +189,7 @@ impl Core {
     /// A datagram that was delivered: any bytes.
     ///
     /// The answer is the first of these that applies. `Refused`, with the first of the reasons in the order of `Why`.
-    /// For a request `Again` where its number is the last one run in its slot, `Stale` where it is less, `Deferred`
+    /// For a request `Duplicate` where its number is the last one run in its slot, `Stale` where it is less, `Deferred`
     /// with the smallest lock that a thread holds among those of its handler, else `Ran`: its handler ran, and its
     /// reply is kept in that slot, or an Ack where the handler sent none. For a reply `Late` where no request that
     /// isn't back has that node, slot and number, `Deferred` as for a request, else `Returned`: its handler ran, if it
@@ -212,7 +212,7 @@ impl Core {
     /// one in the lower slot. None exactly where none is due.
     pub fn tick(&mut self, now: u64) -> Option<SlotRef>
         ensures { (meaning : Meaning) → CoreSteps meaning self.old
-            (record { now = now; event = Ticks; answer = OfTick (resends result) }) self.new }
+            (record { now = now; event = Ticks; answer = OfTick (retransmits result) }) self.new }
     {
         let (peer, slot) = self.resend(now)?;
         Some(SlotRef {
@@ -347,13 +347,13 @@ impl Core {
     }
 
     /// Whether all numbers of requests to another node are used up.
-    pub fn worn_out(&self, to: u16) -> bool
+    pub fn exhausted(&self, to: u16) -> bool
         requires node { to < self.now.settings.nodes }
         requires other { to ≢ self.now.me }
         ensures { ForItsRecord self.now (λ node.
             result ≡ nat_le self.now.settings.last (length (node.asked to))) }
     {
-        self.requests.worn_out(to)
+        self.requests.exhausted(to)
     }
 
     /// The segment.

@@ -1,4 +1,4 @@
-//! Where the payloads of the own node's messages stand.
+//! Where the payloads of the local node's messages stand.
 
 ghost use Rattle.std.specs.Prelude.{◌≡◌};
 ghost use Rattle.am_core.specs.AskedFor.{asking_of};
@@ -8,7 +8,7 @@ use crate::asking::{Asking, Category};
 use datagram_grammar::Kind;
 use handler_rules::Reply;
 
-/// Where the payload of a Long request stands in the own segment: its first byte and its length.
+/// Where the payload of a Long request stands in the local segment: its first byte and its length.
 pub fn place_asked(asking: &Asking<'_>) -> Option<(u64, u64)>
     ensures { result ≡ asked_place (asking_of asking.now) }
 {
@@ -18,7 +18,7 @@ pub fn place_asked(asking: &Asking<'_>) -> Option<(u64, u64)>
     }
 }
 
-/// Where the payload of a Long reply stands in the own segment: its first byte and its length.
+/// Where the payload of a Long reply stands in the local segment: its first byte and its length.
 pub fn place_replied(reply: &Reply) -> Option<(u64, u64)>
     ensures { result ≡ replied_place reply.now }
 {

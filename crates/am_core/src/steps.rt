@@ -14,7 +14,7 @@ ghost use Rattle.handler_rules.specs.Runs.{IsPlaced, passes_end};
 ghost use Rattle.am_core.specs.ClientRules.{IsFine, busy_lock, content_refusal, is_handled};
 ghost use Rattle.am_core.specs.CoreStep.{AsksFor, Claims, DeliversMessage, IsOurRequest};
 ghost use Rattle.am_core.specs.CoreStep.{IsOurReply, IsOurs};
-ghost use Rattle.am_core.specs.CoreStep.{IsNewRequest, RunsBy, Resends, after_judgement, judged_at};
+ghost use Rattle.am_core.specs.CoreStep.{IsNewRequest, RunsBy, Retransmits, after_judgement, judged_at};
 ghost use Rattle.am_core.specs.CoreStep.{CanRunReply, asked_fault, claim_of, lock_at};
 ghost use Rattle.am_core.specs.CoreStep.{message_refusal, with_own_run};
 ghost use Rattle.am_core.specs.CoreStep.{client_delivered, with_reply_ran, with_client_reply_ran};
@@ -24,7 +24,7 @@ ghost use Rattle.am_core.specs.Sizes.{HasSegment};
 use crate::answer::{Asked, Delivered, Side, SlotRef, Why};
 use crate::arguments::arguments;
 use crate::asking::{Asking, Category, Payload};
-use crate::floor::{Floor, listed_for};
+use crate::context::{HandlerContext, listed_for};
 use crate::landing::{land, lend_own};
 use crate::library::LAST_OWN;
 use crate::library_runs::library_fault;
@@ -119,7 +119,7 @@ impl Core {
         self.locks.blocked(listed_for(&self.table, handler) | self.table.reply_locks())
     }
 
-    /// A request to the own node: its handler runs, and then that of its reply where it sent one.
+    /// A request to the local node: its handler runs, and then that of its reply where it sent one.
     fn run_here<H: Handlers>(&mut self, handlers: &H, asking: &Asking<'_>)
         requires segment { HasSegment self.old }
         requires fine { IsFine (length self.old.segment) (asking_of asking.now) }
@@ -139,7 +139,7 @@ impl Core {
             payload: &self.lent.part(0)[..shown],
             place: place_asked(asking),
         };
-        let mut floor = Floor {
+        let mut context = HandlerContext {
             cells: &mut self.cells,
             segment: &mut self.segment,
             locks: &mut self.locks,
@@ -148,7 +148,7 @@ impl Core {
             table: &self.table,
             listed,
         };
-        floor.run_own(handlers, asking.handler, request, self.desk.part_mut(0));
+        context.run_own(handlers, asking.handler, request, self.desk.part_mut(0));
     }
 
     /// A request to another node.
@@ -196,12 +196,12 @@ impl Core {
         };
         match seal_request(&mut self.requests, way, now, asking, payload) {
             Ok((slot, number)) => Asked::Accepted { to, slot, number },
-            Err(NoClaim::WornOut) => Asked::WornOut,
+            Err(NoClaim::Exhausted) => Asked::Exhausted,
             Err(NoClaim::NotYet) => Asked::NotYet,
         }
     }
 
-    /// A request to another node with a range of the own segment as its payload, which is written straight into its
+    /// A request to another node with a range of the local segment as its payload, which is written straight into its
     /// slot.
     pub(crate) fn claim_own(
         &mut self,
@@ -241,7 +241,7 @@ impl Core {
         };
         match seal_request(&mut self.requests, way, now, asking, payload) {
             Ok((slot, number)) => Asked::Accepted { to, slot, number },
-            Err(NoClaim::WornOut) => Asked::WornOut,
+            Err(NoClaim::Exhausted) => Asked::Exhausted,
             Err(NoClaim::NotYet) => Asked::NotYet,
         }
     }
@@ -381,7 +381,7 @@ impl Core {
             .replies
             .judge(message.from, message.slot, message.number)
         {
-            Judged::Again => Delivered::Again(at),
+            Judged::Duplicate => Delivered::Duplicate(at),
             Judged::Stale => Delivered::Stale,
             Judged::New => match self.awaited(message) {
                 Some(lock) => Delivered::Deferred(lock),
@@ -408,7 +408,7 @@ impl Core {
         let listed = listed_for(&self.table, message.handler);
         let incoming = self.received(Role::Request, message, &args[..count], message.payload);
         land(&mut self.segment, message);
-        let mut floor = Floor {
+        let mut context = HandlerContext {
             cells: &mut self.cells,
             segment: &mut self.segment,
             locks: &mut self.locks,
@@ -417,7 +417,7 @@ impl Core {
             table: &self.table,
             listed,
         };
-        floor.answer(handlers, message.handler, incoming, &mut self.replies);
+        context.answer(handlers, message.handler, incoming, &mut self.replies);
     }
 
     /// A message of another node, with these as its arguments. Its payload, where it isn't a Long's, is lent out of the
@@ -511,7 +511,7 @@ impl Core {
         let listed = listed_for(&self.table, reply.handler);
         let incoming = self.received(Role::Reply, reply, &args[..count], reply.payload);
         land(&mut self.segment, reply);
-        let mut floor = Floor {
+        let mut context = HandlerContext {
             cells: &mut self.cells,
             segment: &mut self.segment,
             locks: &mut self.locks,
@@ -520,12 +520,12 @@ impl Core {
             table: &self.table,
             listed,
         };
-        let _ = floor.run(handlers, reply.handler, incoming, self.desk.part_mut(0));
+        let _ = context.run(handlers, reply.handler, incoming, self.desk.part_mut(0));
     }
 
     /// Notes that the request which is due at `now` is sent again, and tells its node and slot.
     pub(crate) fn resend(&mut self, now: u64) -> Option<(u16, u16)>
-        ensures { Resends self.old now result self.new }
+        ensures { Retransmits self.old now result self.new }
     {
         let resend = self.settings.resend();
         self.requests.due(now, resend)

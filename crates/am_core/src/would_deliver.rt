@@ -56,7 +56,7 @@ impl Core {
             .replies
             .judge(message.from, message.slot, message.number)
         {
-            Judged::Again => Delivered::Again(at),
+            Judged::Duplicate => Delivered::Duplicate(at),
             Judged::Stale => Delivered::Stale,
             Judged::New => match self.awaited(message) {
                 Some(lock) => Delivered::Deferred(lock),

@@ -43,7 +43,7 @@ use Rattle.atomic_laws.proofs.Serving.{request_left, reply_left, reply_with}
 ran_is : {X : Type 0} (answer : Delivered) (found : Option X) → IsRanAnswer answer → if_ran answer found ≡ found
 ran_is (delivered.Ran at) found ran = refl
 ran_is (delivered.Noted at note) found ran = refl
-ran_is (delivered.Again at) found ran = absurd ran.1
+ran_is (delivered.Duplicate at) found ran = absurd ran.1
 ran_is delivered.Stale found ran = absurd ran.1
 ran_is (delivered.Returned to slot number) found ran = absurd ran.1
 ran_is delivered.Late found ran = absurd ran.1

@@ -1,4 +1,4 @@
--- A batch to the own node acts in its call.
+-- A batch to the local node acts in its call.
 use Rattle.std.proofs.Common.{◌≡◌, List, [], ◌∷◌, ◌++◌, Bool, true, Option, None, Some, refl, ap, ◌∙◌, subst}
 use Rattle.std.specs.Prelude.{if◌then◌else◌, ◌==◌, option_and_then}
 use Rattle.std.proofs.lemmas.Bool.{eq-eqb}

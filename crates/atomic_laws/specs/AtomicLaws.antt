@@ -70,7 +70,7 @@ AcceptedBatchesGo job =
     ≡ Some batch
     → BatchGoes job (before ++ event ∷ later) (named name.from name.to name.number) batch
 
--- ---- a batch to the own node
+-- ---- a batch to the local node
 
 -- all of its operations act, and then what the words were and the tag are written into the block
 pub record ActsHere (job : EndpointJob) (events : List (Timed OtherCall)) (event : Timed OtherCall) (node : ℕ)

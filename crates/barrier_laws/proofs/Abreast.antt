@@ -59,7 +59,7 @@ try_high kept tried.Mismatch high = omega (arith, high)
 try_high kept tried.NotReady high = high
 try_high kept tried.NoNotify high = high
 try_high kept tried.BadFlags high = high
-try_high kept (tried.WornOut node) high = high
+try_high kept (tried.Exhausted node) high = high
 
 send_high : (kept : BarrierRecord) (to : ℕ) (note : Option BarrierNote) → IsHigh kept → IsHigh (send kept to note)
 send_high kept to None high = high

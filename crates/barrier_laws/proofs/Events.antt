@@ -27,8 +27,8 @@ use Rattle.node_record.specs.Requests.{as_back, sent_at}
 use Rattle.node_record.specs.Executed.{run_of}
 use Rattle.node_record.specs.Behaviour.{Asking, Ask, Contact, Sending}
 use Rattle.node_record.specs.Step.{request_answer, after_request, Verdict, Runs, Returns, verdict, after_delivery}
-use Rattle.node_record.specs.Step.{with_sender, with_local, next_due, can_ask, TickChoice, Resends, Sends, Rests}
-use Rattle.node_record.specs.Step.{tick_choice, after_tick, with_asked, is_worn_out}
+use Rattle.node_record.specs.Step.{with_sender, with_local, next_due, can_ask, TickChoice, Retransmits, Sends, Rests}
+use Rattle.node_record.specs.Step.{tick_choice, after_tick, with_asked, is_exhausted}
 use Rattle.node_record.specs.NodeStep.{site_of, done, OfCall}
 use Rattle.node_record.specs.Invariant.{request_message, reply_message}
 use Rattle.node_record.proofs.Runs.{run_of_there}
@@ -46,7 +46,7 @@ use Rattle.am_core.specs.ClientRules.{asking_fault, payload_in, said_in}
 use Rattle.am_core.specs.Library.{Note, work_content, note_said, note_handler}
 use Rattle.endpoint_rules.specs.EndpointLocal.{EndpointLocal}
 use Rattle.endpoint_rules.specs.TransferCalls.{Caller}
-use Rattle.endpoint_rules.specs.BarrierCalls.{Notify, TryBarrier, identifier, has_ranges, worn_out_for}
+use Rattle.endpoint_rules.specs.BarrierCalls.{Notify, TryBarrier, identifier, has_ranges, exhausted_for}
 use Rattle.endpoint_rules.specs.EndpointRules.{OtherCall, OnBarrier, Records, note_among}
 use Rattle.endpoint_rules.specs.EndpointRules.{next_note, chunk_work, note_first, next_sending, after_sent}
 use Rattle.endpoint_rules.specs.EndpointRules.{after_note, endpoint_rules, unless_forbidden, job_of}
@@ -131,7 +131,7 @@ by_judgement Holds settings table meaning thread (Err forbidden) local outcome s
 -- a thread of the node
 abbrev pub caller_at : Parameters → Records → (node thread : ℕ) → Caller
 caller_at settings records node thread =
-    record { settings = settings; me = node; thread = thread; worn = is_worn_out settings (records node) }
+    record { settings = settings; me = node; thread = thread; exhausted = is_exhausted settings (records node) }
 
 -- what a call adds to the barrier of its node, by its answer
 abbrev pub call_adds : OtherCall → Answer → Added
@@ -145,7 +145,7 @@ notify_is_told : (id : ℤ) (flags : ℕ) (answer : Notified)
 notify_is_told id flags told.Ok = refl
 notify_is_told id flags told.BadFlags = refl
 notify_is_told id flags told.Twice = refl
-notify_is_told id flags told.WornOut = refl
+notify_is_told id flags told.Exhausted = refl
 
 try_is_told : (id : ℤ) (flags : ℕ) (answer : BarrierAnswer)
     → try_adds answer ≡ call_adds (OnBarrier (TryBarrier id flags)) (answers.Barrier answer)
@@ -154,7 +154,7 @@ try_is_told id flags tried.Mismatch = refl
 try_is_told id flags tried.NotReady = refl
 try_is_told id flags tried.NoNotify = refl
 try_is_told id flags tried.BadFlags = refl
-try_is_told id flags (tried.WornOut node) = refl
+try_is_told id flags (tried.Exhausted node) = refl
 
 -- a thread makes another call
 does_steps : (settings : Parameters) (table : List (Option Entry)) (meaning : Meaning) (records : Records)
@@ -173,8 +173,8 @@ does_steps settings table meaning records node thread (OnBarrier (Notify id flag
     (step_notify settings.nodes (barriers_of records) node id flags there holds.within))
 does_steps settings table meaning records node thread (OnBarrier (TryBarrier id flags)) there holds =
     let barrier = barriers_of records node in
-    let worn = worn_out_for (caller_at settings records node thread) barrier in
-    let try : Try = record { id = identifier id; flags = flags; worn = worn } in
+    let exhausted = exhausted_for (caller_at settings records node thread) barrier in
+    let try : Try = record { id = identifier id; flags = flags; exhausted = exhausted } in
     let says = try_answer settings.nodes node barrier try in
     by_judgement
     (λ answer. Steps settings.nodes (barriers_of records) node (call_adds (OnBarrier (TryBarrier id flags)) answer))
@@ -421,7 +421,7 @@ pub tick_step : (settings : Parameters) (table : List (Option Entry)) (meaning :
     → tick_choice (site_of (job_of settings table meaning) node) (records node) now ≡ choice
     → NodeSteps settings records node nothing_added
     (after_tick (site_of (job_of settings table meaning) node) (records node) now choice)
-tick_step settings table meaning records now node (Resends due) range there holds e =
+tick_step settings table meaning records now node (Retransmits due) range there holds e =
     stepping settings records node nothing_added _
     (step_same settings.nodes (barriers_of records) node _ holds.within refl)
     (said_put settings (barriers_of records node).sent (records node).asked due.peer _ holds.said

@@ -29,7 +29,7 @@ use Rattle.named_barrier.proofs.Combining.{all_of-same}
 use Rattle.named_barrier.proofs.Runs.{try_tells, are_covered}
 use Rattle.named_barrier.proofs.Phases.{ended_by_all}
 use Rattle.endpoint_rules.specs.EndpointLocal.{EndpointLocal}
-use Rattle.endpoint_rules.specs.BarrierCalls.{identifier, worn_out_for}
+use Rattle.endpoint_rules.specs.BarrierCalls.{identifier, exhausted_for}
 use Rattle.endpoint_rules.specs.EndpointRules.{OtherCall, Records, at_the_opening, endpoint_rules, unless_forbidden}
 use Rattle.endpoint_rules.specs.EndpointRules.{job_of}
 use Rattle.endpoint_rules.specs.declared.answer.Answer.{Answer}
@@ -233,14 +233,14 @@ allowed settings table meaning thread (Ok done) local says left answer e = cc
 allowed settings table meaning thread (Err forbidden) local says left answer e = absurd (cc)
 
 -- what a try tells of barriers whose run is one by themselves
-outcome_told : (settings : Parameters) (records : Records) (try : BarrierTry) (answer : BarrierAnswer) (worn : Option ℕ)
+outcome_told : (settings : Parameters) (records : Records) (try : BarrierTry) (answer : BarrierAnswer) (exhausted : Option ℕ)
     → Holds settings records → try.node < settings.nodes → EndsPhase answer
     → try_answer settings.nodes try.node (barriers_of records try.node)
-    (record { id = identifier try.id; flags = try.flags; worn = worn }) ≡ answer
+    (record { id = identifier try.id; flags = try.flags; exhausted = exhausted }) ≡ answer
     → TellsOutcome settings records try answer
-outcome_told settings records try answer worn holds there ends is =
+outcome_told settings records try answer exhausted holds there ends is =
     let law = alone_law TryTells settings.nodes (barriers_of records) try_tells holds.alone try.node
-    (record { id = identifier try.id; flags = try.flags; worn = worn }) there (subst EndsPhase (sym is) ends) in
+    (record { id = identifier try.id; flags = try.flags; exhausted = exhausted }) there (subst EndsPhase (sym is) ends) in
     record { all = law.0; mismatch = subst (λ (says : BarrierAnswer). IsTold says) is law.1 }
   where
     IsTold : BarrierAnswer → Type 0
@@ -255,7 +255,7 @@ barrier_holds settings table meaning range lawful = record {
       let local = (records try.node).local in
       let judged = (endpoint_rules settings table meaning).judges try.thread kinds.Barrier local in
       outcome_told settings records try answer
-      (worn_out_for (caller_at settings records try.node try.thread) local.barrier) (steps events among).holds there
+      (exhausted_for (caller_at settings records try.node try.thread) local.barrier) (steps events among).holds there
       ends (allowed settings table meaning try.thread judged local _ _ answer told);
   final = λ events later phase among more all.
       let records = records_after settings table meaning events in

@@ -54,7 +54,7 @@ notify_sent : (kept : BarrierRecord) (id : ℤ) (flags : ℕ) (answer : Notified
 notify_sent kept id flags told.Ok place one there = there
 notify_sent kept id flags told.BadFlags place one there = there
 notify_sent kept id flags told.Twice place one there = there
-notify_sent kept id flags told.WornOut place one there = there
+notify_sent kept id flags told.Exhausted place one there = there
 
 -- what a notify adds
 abbrev pub notify_adds : (id : ℤ) → (flags : ℕ) → Notified → Added
@@ -66,14 +66,14 @@ notify_notifies : (kept : BarrierRecord) (id : ℤ) (flags : ℕ) (answer : Noti
 notify_notifies kept id flags told.Ok = refl
 notify_notifies kept id flags told.BadFlags = sym (append-nil kept.notifies)
 notify_notifies kept id flags told.Twice = sym (append-nil kept.notifies)
-notify_notifies kept id flags told.WornOut = sym (append-nil kept.notifies)
+notify_notifies kept id flags told.Exhausted = sym (append-nil kept.notifies)
 
 notify_ends : (kept : BarrierRecord) (id : ℤ) (flags : ℕ) (answer : Notified)
     → (notify_after kept id flags answer).ended ≡ kept.ended + (notify_adds id flags answer).ended
 notify_ends kept id flags told.Ok = omega arith
 notify_ends kept id flags told.BadFlags = omega arith
 notify_ends kept id flags told.Twice = omega arith
-notify_ends kept id flags told.WornOut = omega arith
+notify_ends kept id flags told.Exhausted = omega arith
 
 pub step_notify : (nodes : ℕ) (barriers : Barriers) (node : ℕ) (id : ℤ) (flags : ℕ) → node < nodes
     → IsWithin nodes (barriers node)
@@ -96,7 +96,7 @@ try_sent kept tried.Mismatch place one there = there
 try_sent kept tried.NotReady place one there = there
 try_sent kept tried.NoNotify place one there = there
 try_sent kept tried.BadFlags place one there = there
-try_sent kept (tried.WornOut node) place one there = there
+try_sent kept (tried.Exhausted node) place one there = there
 
 -- what a try adds
 abbrev pub try_adds : BarrierAnswer → Added
@@ -111,7 +111,7 @@ try_notifies kept tried.Mismatch = sym (append-nil kept.notifies)
 try_notifies kept tried.NotReady = sym (append-nil kept.notifies)
 try_notifies kept tried.NoNotify = sym (append-nil kept.notifies)
 try_notifies kept tried.BadFlags = sym (append-nil kept.notifies)
-try_notifies kept (tried.WornOut node) = sym (append-nil kept.notifies)
+try_notifies kept (tried.Exhausted node) = sym (append-nil kept.notifies)
 
 try_ends : (kept : BarrierRecord) (answer : BarrierAnswer)
     → (try_after kept answer).ended ≡ kept.ended + (try_adds answer).ended
@@ -120,7 +120,7 @@ try_ends kept tried.Mismatch = omega arith
 try_ends kept tried.NotReady = omega arith
 try_ends kept tried.NoNotify = omega arith
 try_ends kept tried.BadFlags = omega arith
-try_ends kept (tried.WornOut node) = omega arith
+try_ends kept (tried.Exhausted node) = omega arith
 
 pub step_try : (nodes : ℕ) (barriers : Barriers) (node : ℕ) (try : Try) → node < nodes
     → IsWithin nodes (barriers node)

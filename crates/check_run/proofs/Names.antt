@@ -13,7 +13,7 @@ use Rattle.handler_rules.specs.Runs.{Meaning}
 use Rattle.lists.specs.Put.{put}
 use Rattle.node_record.specs.NodeStep.{Does, done, node_after, node_answer}
 use Rattle.node_record.specs.Record.{Node}
-use Rattle.node_record.specs.Step.{is_worn_out}
+use Rattle.node_record.specs.Step.{is_exhausted}
 use Rattle.am_core.specs.ClientRules.{rules}
 use Rattle.am_core.specs.Kept.{segment_of}
 use Rattle.endpoint_rules.specs.Called.{Requests, Performs, node_event}
@@ -99,7 +99,7 @@ range_shown endpoint settings table meaning me thread now node offset len stands
 -- a thread of the node, as it calls
 abbrev caller_at : Parameters → (me thread : ℕ) → Node EndpointLocal → Caller
 caller_at settings me thread node =
-    record { settings = settings; me = me; thread = thread; worn = is_worn_out settings node }
+    record { settings = settings; me = me; thread = thread; exhausted = is_exhausted settings node }
 
 -- a call that makes no request
 call_names : (endpoint : EndpointState) (settings : Parameters) (table : List (Option TableEntry)) (meaning : Meaning)
@@ -155,7 +155,7 @@ asked_nothing (asked.Accepted to slot number) = tt
 asked_nothing asked.Ran = tt
 asked_nothing (asked.BadArg part) = tt
 asked_nothing (asked.LockBusy lock) = tt
-asked_nothing asked.WornOut = tt
+asked_nothing asked.Exhausted = tt
 asked_nothing asked.NotYet = tt
 
 -- the first of the calls, if there is one, is a request

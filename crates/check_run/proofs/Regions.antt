@@ -35,9 +35,9 @@ use Rattle.node_record.specs.Behaviour.{Ask, Contact}
 use Rattle.node_record.specs.NodeStep.{Asks as NodeAsks, Does as NodeDoes, Comes as NodeComes, Ticks as NodeTicks}
 use Rattle.node_record.specs.NodeStep.{OfCall, node_after, site_of}
 use Rattle.node_record.specs.Record.{Node}
-use Rattle.node_record.specs.Step.{Site, TickChoice, Resends, Rests, Runs, Returns, Sends, Verdict, after_delivery}
+use Rattle.node_record.specs.Step.{Site, TickChoice, Retransmits, Rests, Runs, Returns, Sends, Verdict, after_delivery}
 use Rattle.node_record.specs.Step.{after_request, after_tick, request_answer, said, tick_choice, verdict, with_asked}
-use Rattle.node_record.specs.Step.{is_worn_out, with_itself, with_sender}
+use Rattle.node_record.specs.Step.{is_exhausted, with_itself, with_sender}
 use Rattle.node_record.specs.declared.answer.Asked.{Asked}
 use Rattle.node_record.specs.declared.answer.Asked.TheVariants as asked
 use Rattle.plain_world.specs.World.{Fall, OfNode, Timed, after_at, falls, run, world_after, world_answer}
@@ -468,7 +468,7 @@ asks_holds Base Fact settings table meaning me now node ask asked.Ran H =
 asks_holds Base Fact settings table meaning me now node ask (asked.BadArg part) H = H
 asks_holds Base Fact settings table meaning me now node ask (asked.Forbidden forbidden) H = H
 asks_holds Base Fact settings table meaning me now node ask (asked.LockBusy lock) H = H
-asks_holds Base Fact settings table meaning me now node ask asked.WornOut H = H
+asks_holds Base Fact settings table meaning me now node ask asked.Exhausted H = H
 asks_holds Base Fact settings table meaning me now node ask asked.NotYet H = H
 
 comes_holds : (Base : ℕ → Type 0) (Fact : (count name : ℕ) → Type 0) (settings : Parameters)
@@ -493,7 +493,7 @@ ticks_holds : (Base : ℕ → Type 0) (Fact : (count name : ℕ) → Type 0) (se
     (table : List (Option TableEntry)) (meaning : Meaning) (me now : ℕ) (node : Node EndpointLocal)
     (choice : TickChoice) → HoldsOf Base Fact node.local
     → HoldsOf Base Fact (after_tick (site_at settings table meaning me) node now choice).local
-ticks_holds Base Fact settings table meaning me now node (Resends due) H = H
+ticks_holds Base Fact settings table meaning me now node (Retransmits due) H = H
 ticks_holds Base Fact settings table meaning me now node (Sends sending) H =
     sent_holds Base Fact settings (with_asked me node sending.to) sending.content node.local H
 ticks_holds Base Fact settings table meaning me now node Rests H = H
@@ -507,7 +507,7 @@ event_holds Base Fact rule settings table meaning me now node (NodeAsks ask) H =
     (request_answer (site_at settings table meaning me) node ask) H
 event_holds Base Fact rule settings table meaning me now node (NodeDoes thread call) H =
     call_holds Base Fact rule settings table meaning
-    (record { settings = settings; me = me; thread = thread; worn = is_worn_out settings node }) call node.local H
+    (record { settings = settings; me = me; thread = thread; exhausted = is_exhausted settings node }) call node.local H
 event_holds Base Fact rule settings table meaning me now node (NodeComes message) H =
     comes_holds Base Fact settings table meaning me node message
     (verdict (site_at settings table meaning me) node message) H
@@ -696,10 +696,10 @@ chosen_there choice at (first ∷ later) some = by_choice (choice at first) refl
         (suc it.0, it.1, it.2, ap (λ (n : ℕ). choice n it.1) same ∙ it.3)
 
 -- an answer of Ok has chosen some
-some_chosen : (worn : ℕ → Bool) (thread : ℕ) (operations : List Operation)
-    → members_answer worn thread operations ≡ synced.Ok → is_empty operations ≡ false
-some_chosen worn thread [] ok = absurd (cc)
-some_chosen worn thread (first ∷ later) ok = refl
+some_chosen : (exhausted : ℕ → Bool) (thread : ℕ) (operations : List Operation)
+    → members_answer exhausted thread operations ≡ synced.Ok → is_empty operations ≡ false
+some_chosen exhausted thread [] ok = absurd (cc)
+some_chosen exhausted thread (first ∷ later) ok = refl
 
 -- the operation of the handle's number, which is complete, and wasn't synchronised before
 pub record IsTheOne (local : EndpointLocal) (number : ℕ) : Type 0 where
@@ -708,20 +708,20 @@ pub record IsTheOne (local : EndpointLocal) (number : ℕ) : Type 0 where
   pub unmarked : operation.synced ≡ false
   pub chosen_so : members_by number local.operations number operation ≡ true
 
-pub the_one : (worn : ℕ → Bool) (thread number : ℕ) (local : EndpointLocal) → number ≢ 0
+pub the_one : (exhausted : ℕ → Bool) (thread number : ℕ) (local : EndpointLocal) → number ≢ 0
     → HoldsOf (AreThere number) (IsOther number) local
-    → handle_answer worn thread number local.operations ≡ synced.Ok → IsTheOne local number
-the_one worn thread number local some H ok =
+    → handle_answer exhausted thread number local.operations ≡ synced.Ok → IsTheOne local number
+the_one exhausted thread number local some H ok =
     let none = none_inside number 1 local.operations H.named_so in
     let operations = local.operations in
     let members_are : (n : ℕ) (one : Operation) → members number operations n one ≡ (not one.synced && (n == number)) =
     λ n one. ap (λ (xs : List Operation). cond (is_empty xs) (not one.synced && (n == number)) (in_region number n one))
     none in
-    let answered : members_answer worn thread (chosen (members number operations) 1 operations) ≡ synced.Ok =
+    let answered : members_answer exhausted thread (chosen (members number operations) 1 operations) ≡ synced.Ok =
     ap (λ (b : Bool). cond b synced.Ok
-    (members_answer worn thread (chosen (members number operations) 1 operations))) (sym (ne_eqb number 0 some)) ∙ ok in
+    (members_answer exhausted thread (chosen (members number operations) 1 operations))) (sym (ne_eqb number 0 some)) ∙ ok in
     let it = chosen_there (members number operations) 1 operations
-    (some_chosen worn thread (chosen (members number operations) 1 operations) answered) in
+    (some_chosen exhausted thread (chosen (members number operations) 1 operations) answered) in
     let parts = and_parts (not it.1.synced) (eqb (1 + it.0) number) (sym (members_are (1 + it.0) it.1) ∙ it.3) in
     let same : suc it.0 ≡ number = let e = eqb-true (1 + it.0) number parts.1 in omega (arith, e) in
     record {

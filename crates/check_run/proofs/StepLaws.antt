@@ -29,7 +29,7 @@ use Rattle.machine.specs.declared.entry.Entry.{Entry}
 use Rattle.node_machine.specs.Laws.{IsRunOf, order_by}
 use Rattle.node_record.specs.NodeStep.{OfCall}
 use Rattle.node_record.specs.Record.{Node}
-use Rattle.node_record.specs.Step.{is_worn_out}
+use Rattle.node_record.specs.Step.{is_exhausted}
 use Rattle.node_runs.specs.Actions.{Form, StepContext, Twice, unless}
 use Rattle.node_runs.specs.Scripts.{ThreadCall}
 use Rattle.node_runs.specs.Order.{own_entries}
@@ -305,7 +305,7 @@ synced_same one other same = cc
 sync_says : (job : JobState) (world : Records) (at : StepAt) (now : ℕ) (handle : Handle)
     → world_answer (rules_of job) world (call_event at now (on_transfers (SyncHandle handle)))
     ≡ OfNode (OfCall (answers.Synced synced.Ok))
-    → handle_answer (is_worn_out job.settings (world at.rank)) at.thread handle.serial (world at.rank).local.operations
+    → handle_answer (is_exhausted job.settings (world at.rank)) at.thread handle.serial (world at.rank).local.operations
     ≡ synced.Ok
 sync_says job world at now handle answered =
     let settings = job.settings in
@@ -347,7 +347,7 @@ synchronises job at transfer handle before events begun_at now holds began answe
     began in
     let last = begins_last settings table meaning (records_after job before) begun_at at.rank at.thread
     (Begin None transfer) transfer handle.serial (refl, began) in
-    let one = the_one (is_worn_out settings (world at.rank)) at.thread handle.serial (world at.rank).local
+    let one = the_one (is_exhausted settings (world at.rank)) at.thread handle.serial (world at.rank).local
     (some_number handle.serial _ last.number_is)
     (subst (λ (w : Records). HoldsOf (AreThere handle.serial) (IsOther handle.serial) (w at.rank).local) (sym same) free)
     (sync_says job world at now handle answered) in

@@ -33,7 +33,7 @@ use Rattle.node_record.specs.Record.{Node}
 use Rattle.node_record.specs.Requests.{is_open}
 use Rattle.node_record.specs.Step.{Site, Verdict, answer_by, judged, refusal, taken_back, unless_refused, unless_waiting}
 use Rattle.node_record.specs.Step.{reply_slot}
-use Rattle.node_record.specs.Step.Verdict.{Repeated, Passed, Runs, Missed, Returns}
+use Rattle.node_record.specs.Step.Verdict.{Duplicated, Passed, Runs, Missed, Returns}
 use Rattle.node_record.specs.declared.answer.Delivered.{Delivered}
 use Rattle.node_record.specs.declared.answer.SlotRef.{SlotRef}
 use Rattle.node_record.specs.declared.answer.Why.{Why}
@@ -76,7 +76,7 @@ module _ (settings : Parameters) (table : List (Option TableEntry)) (meaning : M
   waits_told (Some lock) found told = refl
 
   judged_told : (same less : Bool) (lock : Option ℕ)
-      → is_refusal (answers_as (if same then Repeated else (if less then Passed else unless_waiting lock Runs))) ≡ false
+      → is_refusal (answers_as (if same then Duplicated else (if less then Passed else unless_waiting lock Runs))) ≡ false
   judged_told true less lock = refl
   judged_told false true lock = refl
   judged_told false false lock = waits_told lock Runs runs

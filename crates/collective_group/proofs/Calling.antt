@@ -146,7 +146,7 @@ end_runs job area group now node thread dest =
     by_answer end_answers.NotReady = refl
     by_answer end_answers.NotStarted = refl
     by_answer (end_answers.BadArg argument) = refl
-    by_answer (end_answers.WornOut other) = refl
+    by_answer (end_answers.Exhausted other) = refl
     by_answer (end_answers.Forbidden forbidden) = refl
     by_answer end_answers.NoMemory = refl
 

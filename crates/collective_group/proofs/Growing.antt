@@ -123,7 +123,7 @@ start_grows meaning old new event start_answers.Busy same may does = λ history 
 start_grows meaning old new event (start_answers.BadArg argument) same may does = λ history is.
     grows meaning old new history event same is (may history.area (left_by meaning old history))
     (_, (does history.area (left_by meaning old history) is.is_left.0 is.is_left.1).1)
-start_grows meaning old new event start_answers.WornOut same may does = λ history is.
+start_grows meaning old new event start_answers.Exhausted same may does = λ history is.
     grows meaning old new history event same is (may history.area (left_by meaning old history))
     (_, (does history.area (left_by meaning old history) is.is_left.0 is.is_left.1).1)
 start_grows meaning old new event (start_answers.Forbidden forbidden) same may does = λ history is.
@@ -254,6 +254,6 @@ tells meaning old new at answer lawful does history is there = by_answer answer 
     by_answer end_answers.NotReady same = tt
     by_answer end_answers.NotStarted same = tt
     by_answer (end_answers.BadArg argument) same = tt
-    by_answer (end_answers.WornOut other) same = tt
+    by_answer (end_answers.Exhausted other) same = tt
     by_answer (end_answers.Forbidden forbidden) same = tt
     by_answer end_answers.NoMemory same = tt

@@ -33,7 +33,7 @@ same_told told.Ran = refl
 same_told (told.BadArg part) = refl
 same_told (told.Forbidden forbidden) = refl
 same_told (told.LockBusy lock) = refl
-same_told told.WornOut = refl
+same_told told.Exhausted = refl
 same_told told.NotYet = refl
 
 -- what a start does of which this is the first refusal
@@ -103,29 +103,29 @@ has_set marks to value low = fun_ext (λ other. elim (cases_eq other to) [
   | inr apart ↦ get_or-set_other marks to other value false apart ∙ sym (put_other (has marks) to value other apart)
 ])
 
-goes_same : (it : CollectivesState) (to : ℕ) (answer : Told) → to < length it.sent → to < length it.worn
+goes_same : (it : CollectivesState) (to : ℕ) (answer : Told) → to < length it.sent → to < length it.exhausted
     → step_goes (progress_of it) to answer
     ≡ goes_by (step_told to (Some (asked_answer answer))) (progress_of (noted it to (Some (asked_answer answer))))
-goes_same it to (told.Accepted there slot number) low worn_low =
+goes_same it to (told.Accepted there slot number) low exhausted_low =
     ap (λ (sent : ℕ → Bool). Stops (step_answers.Sent to) (record (progress_of it) { sent = sent }))
     (sym (has_set it.sent to true low))
-goes_same it to (told.Forbidden forbidden) low worn_low = refl
-goes_same it to told.WornOut low worn_low =
-    ap (λ (worn : ℕ → Bool). GoesOn (record (progress_of it) { worn = worn })) (sym (has_set it.worn to true worn_low))
-goes_same it to told.NotYet low worn_low =
-    ap (λ (worn : ℕ → Bool). GoesOn (record (progress_of it) { worn = worn })) (sym (has_set it.worn to false worn_low))
-goes_same it to told.Ran low worn_low =
-    ap (λ (worn : ℕ → Bool). GoesOn (record (progress_of it) { worn = worn })) (sym (has_set it.worn to false worn_low))
-goes_same it to (told.BadArg part) low worn_low =
-    ap (λ (worn : ℕ → Bool). GoesOn (record (progress_of it) { worn = worn })) (sym (has_set it.worn to false worn_low))
-goes_same it to (told.LockBusy lock) low worn_low =
-    ap (λ (worn : ℕ → Bool). GoesOn (record (progress_of it) { worn = worn })) (sym (has_set it.worn to false worn_low))
+goes_same it to (told.Forbidden forbidden) low exhausted_low = refl
+goes_same it to told.Exhausted low exhausted_low =
+    ap (λ (exhausted : ℕ → Bool). GoesOn (record (progress_of it) { exhausted = exhausted })) (sym (has_set it.exhausted to true exhausted_low))
+goes_same it to told.NotYet low exhausted_low =
+    ap (λ (exhausted : ℕ → Bool). GoesOn (record (progress_of it) { exhausted = exhausted })) (sym (has_set it.exhausted to false exhausted_low))
+goes_same it to told.Ran low exhausted_low =
+    ap (λ (exhausted : ℕ → Bool). GoesOn (record (progress_of it) { exhausted = exhausted })) (sym (has_set it.exhausted to false exhausted_low))
+goes_same it to (told.BadArg part) low exhausted_low =
+    ap (λ (exhausted : ℕ → Bool). GoesOn (record (progress_of it) { exhausted = exhausted })) (sym (has_set it.exhausted to false exhausted_low))
+goes_same it to (told.LockBusy lock) low exhausted_low =
+    ap (λ (exhausted : ℕ → Bool). GoesOn (record (progress_of it) { exhausted = exhausted })) (sym (has_set it.exhausted to false exhausted_low))
 
 pub step_is_of_group : StepIsOfGroup
 step_is_of_group site group it thread to at low =
     let few = at.good.few_nodes in
     let sent = at.good.sent_long in
-    let worn = at.good.worn_long in
+    let exhausted = at.good.exhausted_long in
     let ask_is = ap₂ (λ (me : ℕ) (progress : Progress). step_ask it.area me thread to progress) at.me_is
     (sym at.progress_is) in
     let here = asked_in (world_answer (job_at site) group.records (timed site.now (Asks site.node
@@ -134,5 +134,5 @@ step_is_of_group site group it thread to at low =
       event = ap (λ (ask : Ask). records_then site group.records (call_of ask)) ask_is;
       goes = ap₂ (λ (progress : Progress) (ask : Ask). step_goes progress to (asked_in
           (world_answer (job_at site) group.records (timed site.now (Asks site.node ask))))) at.progress_is (sym ask_is)
-          ∙ goes_same it to here (omega (arith, low, few, sent)) (omega (arith, low, few, worn));
+          ∙ goes_same it to here (omega (arith, low, few, sent)) (omega (arith, low, few, exhausted));
     }

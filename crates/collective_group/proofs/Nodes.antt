@@ -86,13 +86,13 @@ pub fresh_idle : (settings : Parameters) (me base room : ℕ) (it : CollectivesS
     → IsFresh settings me base room it → idle ≡ progress_of it
 fresh_idle settings me base room it fresh =
     let sent : has it.sent ≡ (λ node. false) = ap has fresh.sent ∙ none_has in
-    let worn : has it.worn ≡ (λ node. false) = ap has fresh.worn ∙ none_has in
+    let exhausted : has it.exhausted ≡ (λ node. false) = ap has fresh.exhausted ∙ none_has in
     let same : progress_of it ≡ idle = λ i. record {
       started = fresh.started i;
       ended = fresh.ended i;
       shape = fresh.shape i;
       sent = sent i;
-      worn = worn i;
+      exhausted = exhausted i;
     } in
     sym same
 

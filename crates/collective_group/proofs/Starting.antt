@@ -94,7 +94,7 @@ started_same : (progress : Progress) (it : CollectivesState) (shape : Shape) →
     → after_start progress shape ≡ progress_of (started_then start_answers.Started it shape)
 started_same progress it shape is =
     ap (λ (one : Progress). after_start one shape) is
-    ∙ ap (λ (marks : ℕ → Bool). record (after_start (progress_of it) shape) { sent = marks; worn = marks }) (sym none_has)
+    ∙ ap (λ (marks : ℕ → Bool). record (after_start (progress_of it) shape) { sent = marks; exhausted = marks }) (sym none_has)
 
 started_far : (job : EndpointJob) (group : Group) (node : ℕ) (shape : Shape) (from : ℕ) (records : Records)
     (it : CollectivesState) (answer : StartAnswer) → group.progress node ≡ progress_of it
@@ -105,7 +105,7 @@ started_far job group node shape from records it start_answers.Started is =
     ∙ started_same (group.progress node) it shape is
 started_far job group node shape from records it start_answers.Busy is = is
 started_far job group node shape from records it (start_answers.BadArg argument) is = is
-started_far job group node shape from records it start_answers.WornOut is = is
+started_far job group node shape from records it start_answers.Exhausted is = is
 started_far job group node shape from records it (start_answers.Forbidden forbidden) is = is
 started_far job group node shape from records it (start_answers.LockBusy lock) is = is
 started_far job group node shape from records it start_answers.NoMemory is = is
@@ -117,7 +117,7 @@ started_others job group node shape from records start_answers.Started other apa
     put_other group.progress node (after_start (group.progress node) shape) other apart
 started_others job group node shape from records start_answers.Busy other apart = refl
 started_others job group node shape from records (start_answers.BadArg argument) other apart = refl
-started_others job group node shape from records start_answers.WornOut other apart = refl
+started_others job group node shape from records start_answers.Exhausted other apart = refl
 started_others job group node shape from records (start_answers.Forbidden forbidden) other apart = refl
 started_others job group node shape from records (start_answers.LockBusy lock) other apart = refl
 started_others job group node shape from records start_answers.NoMemory other apart = refl
@@ -127,7 +127,7 @@ pub started_records : (job : EndpointJob) (group : Group) (node : ℕ) (shape : 
 started_records job group node shape from records start_answers.Started = refl
 started_records job group node shape from records start_answers.Busy = refl
 started_records job group node shape from records (start_answers.BadArg argument) = refl
-started_records job group node shape from records start_answers.WornOut = refl
+started_records job group node shape from records start_answers.Exhausted = refl
 started_records job group node shape from records (start_answers.Forbidden forbidden) = refl
 started_records job group node shape from records (start_answers.LockBusy lock) = refl
 started_records job group node shape from records start_answers.NoMemory = refl
@@ -141,7 +141,7 @@ never_lacks told.Ran is = cc
 never_lacks (told.BadArg part) is = cc
 never_lacks (told.Forbidden forbidden) is = cc
 never_lacks (told.LockBusy lock) is = cc
-never_lacks told.WornOut is = cc
+never_lacks told.Exhausted is = cc
 never_lacks told.NotYet is = cc
 
 does_then : (meaning : Meaning) (old new : GroupState) (area : Area) (group : Group) (most : ℕ → ℕ)
@@ -151,7 +151,7 @@ does_then : (meaning : Meaning) (old new : GroupState) (area : Area) (group : Gr
 does_then meaning old new area group most event start_answers.Started lacked does = does
 does_then meaning old new area group most event start_answers.Busy lacked does = does
 does_then meaning old new area group most event (start_answers.BadArg argument) lacked does = does
-does_then meaning old new area group most event start_answers.WornOut lacked does = does
+does_then meaning old new area group most event start_answers.Exhausted lacked does = does
 does_then meaning old new area group most event (start_answers.Forbidden forbidden) lacked does = does
 does_then meaning old new area group most event (start_answers.LockBusy lock) lacked does = does
 does_then meaning old new area group most event start_answers.NoMemory lacked does = lacked refl

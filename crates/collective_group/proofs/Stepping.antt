@@ -256,13 +256,13 @@ never_lacks to told.Ran end is lacks = cc
 never_lacks to (told.BadArg part) end is lacks = cc
 never_lacks to (told.Forbidden forbidden) end is lacks = cc
 never_lacks to (told.LockBusy lock) end is lacks = cc
-never_lacks to told.WornOut end is lacks = cc
+never_lacks to told.Exhausted end is lacks = cc
 never_lacks to told.NotYet end is lacks = cc
 
 -- what is noted then stands
-with_marks : (it : CollectivesState) (sent worn : List Bool) → Stands it → length sent ≡ 256 → length worn ≡ 256
-    → Stands (record it { sent = sent; worn = worn })
-with_marks it sent worn good sent_long worn_long = record {
+with_marks : (it : CollectivesState) (sent exhausted : List Bool) → Stands it → length sent ≡ 256 → length exhausted ≡ 256
+    → Stands (record it { sent = sent; exhausted = exhausted })
+with_marks it sent exhausted good sent_long exhausted_long = record {
   there = good.there;
   nodes = good.nodes;
   few_nodes = good.few_nodes;
@@ -273,24 +273,24 @@ with_marks it sent worn good sent_long worn_long = record {
   count = good.count;
   shape_good = good.shape_good;
   sent_long = sent_long;
-  worn_long = worn_long;
+  exhausted_long = exhausted_long;
 }
 
 noted_stands : (it : CollectivesState) (to : ℕ) (answer : Told) → Stands it
     → Stands (noted it to (Some (asked_answer answer)))
 noted_stands it to (told.Accepted there slot number) good =
-    with_marks it (slice_set it.sent to true) it.worn good (length-set it.sent to true ∙ good.sent_long) good.worn_long
+    with_marks it (slice_set it.sent to true) it.exhausted good (length-set it.sent to true ∙ good.sent_long) good.exhausted_long
 noted_stands it to (told.Forbidden forbidden) good = good
-noted_stands it to told.WornOut good =
-    with_marks it it.sent (slice_set it.worn to true) good good.sent_long (length-set it.worn to true ∙ good.worn_long)
+noted_stands it to told.Exhausted good =
+    with_marks it it.sent (slice_set it.exhausted to true) good good.sent_long (length-set it.exhausted to true ∙ good.exhausted_long)
 noted_stands it to told.Ran good =
-    with_marks it it.sent (slice_set it.worn to false) good good.sent_long (length-set it.worn to false ∙ good.worn_long)
+    with_marks it it.sent (slice_set it.exhausted to false) good good.sent_long (length-set it.exhausted to false ∙ good.exhausted_long)
 noted_stands it to (told.BadArg part) good =
-    with_marks it it.sent (slice_set it.worn to false) good good.sent_long (length-set it.worn to false ∙ good.worn_long)
+    with_marks it it.sent (slice_set it.exhausted to false) good good.sent_long (length-set it.exhausted to false ∙ good.exhausted_long)
 noted_stands it to (told.LockBusy lock) good =
-    with_marks it it.sent (slice_set it.worn to false) good good.sent_long (length-set it.worn to false ∙ good.worn_long)
+    with_marks it it.sent (slice_set it.exhausted to false) good good.sent_long (length-set it.exhausted to false ∙ good.exhausted_long)
 noted_stands it to told.NotYet good =
-    with_marks it it.sent (slice_set it.worn to false) good good.sent_long (length-set it.worn to false ∙ good.worn_long)
+    with_marks it it.sent (slice_set it.exhausted to false) good good.sent_long (length-set it.exhausted to false ∙ good.exhausted_long)
 
 -- ---- both, from a node on
 

@@ -86,7 +86,7 @@ left_by site group it asked (end_answers.Mismatch other) at = refl
 left_by site group it asked end_answers.NotReady at = refl
 left_by site group it asked end_answers.NotStarted at = refl
 left_by site group it asked (end_answers.BadArg argument) at = refl
-left_by site group it asked (end_answers.WornOut other) at = refl
+left_by site group it asked (end_answers.Exhausted other) at = refl
 left_by site group it asked (end_answers.Forbidden forbidden) at = refl
 left_by site group it asked end_answers.NoMemory at = refl
 
@@ -104,7 +104,7 @@ far_by site group it asked (end_answers.Mismatch other) at =
 far_by site group it asked end_answers.NotReady at = at.progress_is
 far_by site group it asked end_answers.NotStarted at = at.progress_is
 far_by site group it asked (end_answers.BadArg argument) at = at.progress_is
-far_by site group it asked (end_answers.WornOut other) at = at.progress_is
+far_by site group it asked (end_answers.Exhausted other) at = at.progress_is
 far_by site group it asked (end_answers.Forbidden forbidden) at = at.progress_is
 far_by site group it asked end_answers.NoMemory at = at.progress_is
 
@@ -120,7 +120,7 @@ others_by site group it asked (end_answers.Mismatch which) other apart =
 others_by site group it asked end_answers.NotReady other apart = refl
 others_by site group it asked end_answers.NotStarted other apart = refl
 others_by site group it asked (end_answers.BadArg argument) other apart = refl
-others_by site group it asked (end_answers.WornOut which) other apart = refl
+others_by site group it asked (end_answers.Exhausted which) other apart = refl
 others_by site group it asked (end_answers.Forbidden forbidden) other apart = refl
 others_by site group it asked end_answers.NoMemory other apart = refl
 
@@ -165,7 +165,7 @@ behind_called site group it asked (end_answers.Mismatch other) at = refl
 behind_called site group it asked end_answers.NotReady at = refl
 behind_called site group it asked end_answers.NotStarted at = refl
 behind_called site group it asked (end_answers.BadArg argument) at = refl
-behind_called site group it asked (end_answers.WornOut other) at = refl
+behind_called site group it asked (end_answers.Exhausted other) at = refl
 behind_called site group it asked (end_answers.Forbidden forbidden) at = refl
 behind_called site group it asked end_answers.NoMemory at = refl
 

@@ -77,7 +77,7 @@ impl Group {
     /// The answer is that of the group's try, in the order that stands there; `NoMemory` never comes. Whatever happened to
     /// the group before, `Ended` says that all nodes have started that phase with one shape, and that the bytes at `dest`
     /// are the node's result; `Mismatch(k)` says that all have started it, and that `k` is the first node whose shape isn't
-    /// the own one.
+    /// the local one.
     pub fn coll_end<H: Handlers>(
         &mut self,
         handlers: &H,

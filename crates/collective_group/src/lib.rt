@@ -7,7 +7,7 @@
 //!   [`history`] (`specs/Histories.antt`).
 //! - `Group::coll_end` carries the law of results as a clause [`law`: `TellsOfHistory`]: whatever happened to the group
 //!   before, `Ended` says that all nodes have started that phase with one shape, and that the node's result stands at
-//!   `dest`; `Mismatch(k)` that all have started it, and that `k` is the first node whose shape isn't the own one.
+//!   `dest`; `Mismatch(k)` that all have started it, and that `k` is the first node whose shape isn't the local one.
 //! - `AtGroup` is a `Caller` at a node of a group. The whole for which it stands is the group: a call is an event that no
 //!   collective makes, and leaves the collectives as they are (`calls_are_other_events`).
 //! - `calls_are_of_a_group` carries what joins the contracts of `gas_collectives` with the laws: what a start, a step and

@@ -16,7 +16,7 @@ use Rattle.transfer_laws.specs.Chunks.{EndpointJob, segment_at}
 use Rattle.collective_area.specs.declared.shape.Shape.{Shape}
 use Rattle.collective_area.specs.Area.{Area}
 use Rattle.collective_area.specs.Results.{pieces_of, result_of}
-use Rattle.gas_collectives.specs.Progress.{end_answer, end_refusal, is_bad_dest, is_open, is_ready, other_shape, worn_node}
+use Rattle.gas_collectives.specs.Progress.{end_answer, end_refusal, is_bad_dest, is_open, is_ready, other_shape, exhausted_node}
 use Rattle.gas_collectives.specs.Progress.{writes_from}
 use Rattle.collective_laws.specs.Groups.{Group, OfEnd, after_writes, does_end, end_by, ended_group, opening_group}
 use Rattle.collective_laws.specs.Groups.{result_pieces}
@@ -51,40 +51,40 @@ refused_apart true false told other is same = cc
 refused_apart false bad told other is same = cc
 
 -- shapes are compared where it is ready
-none_ok : (ready : Bool) (shape worn : Option ℕ)
+none_ok : (ready : Bool) (shape exhausted : Option ℕ)
     → (if ready then (elim shape [ Some node ↦ end_answers.Mismatch node | None ↦ end_answers.Ended ])
-    else elim worn [ Some node ↦ end_answers.WornOut node | None ↦ end_answers.NotReady ]) ≡ end_answers.Ended
+    else elim exhausted [ Some node ↦ end_answers.Exhausted node | None ↦ end_answers.NotReady ]) ≡ end_answers.Ended
     → (ready ≡ true) × (shape ≡ None)
-none_ok true None worn is = (refl, refl)
-none_ok true (Some node) worn is = absurd (apart node is)
+none_ok true None exhausted is = (refl, refl)
+none_ok true (Some node) exhausted is = absurd (apart node is)
   where
     apart : (node : ℕ) → end_answers.Mismatch node ≡ end_answers.Ended → ⊥
     apart node is = cc
-none_ok false shape (Some node) is = absurd (worn node is)
+none_ok false shape (Some node) is = absurd (exhausted node is)
   where
-    worn : (node : ℕ) → end_answers.WornOut node ≡ end_answers.Ended → ⊥
-    worn node is = cc
+    exhausted : (node : ℕ) → end_answers.Exhausted node ≡ end_answers.Ended → ⊥
+    exhausted node is = cc
 none_ok false shape None is = absurd (early is)
   where
     early : end_answers.NotReady ≡ end_answers.Ended → ⊥
     early is = cc
 
-some_apart : (ready : Bool) (shape worn : Option ℕ) (other : ℕ)
+some_apart : (ready : Bool) (shape exhausted : Option ℕ) (other : ℕ)
     → (if ready then (elim shape [ Some node ↦ end_answers.Mismatch node | None ↦ end_answers.Ended ])
-    else elim worn [ Some node ↦ end_answers.WornOut node | None ↦ end_answers.NotReady ]) ≡ end_answers.Mismatch other
+    else elim exhausted [ Some node ↦ end_answers.Exhausted node | None ↦ end_answers.NotReady ]) ≡ end_answers.Mismatch other
     → (ready ≡ true) × (shape ≡ Some other)
-some_apart true None worn other is = absurd (same other is)
+some_apart true None exhausted other is = absurd (same other is)
   where
     same : (other : ℕ) → end_answers.Ended ≡ end_answers.Mismatch other → ⊥
     same other is = cc
-some_apart true (Some node) worn other is = (refl, found node other is)
+some_apart true (Some node) exhausted other is = (refl, found node other is)
   where
     found : (node other : ℕ) → end_answers.Mismatch node ≡ end_answers.Mismatch other → Some node ≡ Some other
     found node other is = cc
-some_apart false shape (Some node) other is = absurd (worn node other is)
+some_apart false shape (Some node) other is = absurd (exhausted node other is)
   where
-    worn : (node other : ℕ) → end_answers.WornOut node ≡ end_answers.Mismatch other → ⊥
-    worn node other is = cc
+    exhausted : (node other : ℕ) → end_answers.Exhausted node ≡ end_answers.Mismatch other → ⊥
+    exhausted node other is = cc
 some_apart false shape None other is = absurd (early other is)
   where
     early : (other : ℕ) → end_answers.NotReady ≡ end_answers.Mismatch other → ⊥
@@ -217,7 +217,7 @@ collectives_hold settings table meaning area range lawful registered serves good
         let answered = same_end (does_end job_here area group try.now node try.thread try.dest).0 end_answers.Ended is in
         let told = told_ok job_here area group try.now node try.thread try.dest answered in
         let found = none_ok (is_ready area node progress segment) (other_shape area progress segment)
-        (worn_node area node progress) told.answered in
+        (exhausted_node area node progress) told.answered in
         let it = ready_here settings table meaning area group node try.dest setting holds try.there told.none found.0 in
         let own = all_gave job_here area group node it node try.there in
         let mine = own_shape job_here area group node it own.0 own.1 in
@@ -261,7 +261,7 @@ collectives_hold settings table meaning area range lawful registered serves good
         let answered = same_end (does_end job_here area group try.now node try.thread try.dest).0 (end_answers.Mismatch other) is in
         let told = told_apart job_here area group try.now node try.thread try.dest other answered in
         let found = some_apart (is_ready area node progress segment) (other_shape area progress segment)
-        (worn_node area node progress) other told.answered in
+        (exhausted_node area node progress) other told.answered in
         let it = ready_here settings table meaning area group node try.dest setting holds try.there told.none found.0 in
         let own = all_gave job_here area group node it node try.there in
         let differ = shapes_apart job_here area group node other it found.1 own.0 own.1 in

@@ -3,7 +3,7 @@ use Rattle.std.proofs.Common.{◌≡◌, ◌⊎◌, inl, inr, ℕ, ◌+◌, ◌-
 use Rattle.std.proofs.Common.{sym, ap, ◌∙◌, subst, arith}
 use Rattle.std.specs.Prelude.{◌≢◌}
 use Rattle.std.proofs.lemmas.Bool.{cases_eq, cases_lt, cases_Bool}
-use Rattle.collective_laws.specs.Phases.{Phases, IsNothing, Happening, Nothing, Starts, Sends, Runs, Ends, IsReady}
+use Rattle.collective_laws.specs.Phases.{Phases, IsNothing, PhaseEvent, Nothing, Starts, Sends, Runs, Ends, IsReady}
 use Rattle.collective_laws.specs.Phases.{MayHappen, RunsOne, RisesOne, Leaves, Happened, IsRun, last_of}
 use Rattle.collective_laws.specs.Phases.{PairHolds, AllHold, IsSafe, ComesInTime, PhasesAreSafe}
 
@@ -415,7 +415,7 @@ kept_ends nodes now next ender all may left = record {
       });
 }
 
-pub kept : (nodes : ℕ) (now next : Phases) (event : Happening) → AllHold nodes now → MayHappen nodes now event
+pub kept : (nodes : ℕ) (now next : Phases) (event : PhaseEvent) → AllHold nodes now → MayHappen nodes now event
     → Leaves nodes now event next → AllHold nodes next
 kept nodes now next Nothing all may left = kept_nothing nodes now next all left
 kept nodes now next (Starts node) all may left = kept_starts nodes now next node all may left
@@ -475,7 +475,7 @@ ready_safe nodes now node all has ready = record {
     there from has_from =
         (all.pair from node has_from has).stands (now.ended node) (ready.all from has_from ∙ ready.started)
 
-in_time : (nodes : ℕ) (now : Phases) (event : Happening) → AllHold nodes now → MayHappen nodes now event
+in_time : (nodes : ℕ) (now : Phases) (event : PhaseEvent) → AllHold nodes now → MayHappen nodes now event
     → ComesInTime now event
 in_time nodes now (Runs from to phase) all may = comes_in_time nodes now from to phase all may.0 may.1 may.4
 in_time nodes now event all may = tt

@@ -63,9 +63,9 @@ abbrev pub group_sent : Group → (next : Records) (node to : ℕ) → Group
 group_sent group next node to =
     with_progress (record group { records = next }) node (with_sent (group.progress node) to)
 
--- ---- the own part has what the node gave
+-- ---- the local part has what the node gave
 
--- the stamp of the own part is that of the phase that is started
+-- the stamp of the local part is that of the phase that is started
 own_stamp : (settings : Parameters) (table : List (Option Entry)) (meaning : Meaning) (area : Area)
     (group : Group) (next : Records) (node thread to slot number : ℕ)
     → SendsSo settings table meaning area group next node thread to slot number

@@ -90,7 +90,7 @@ accepted area size progress shape from is =
     let three = if_none (nat_lt area.room shape.len || (is_reduction shape.kind && not (shape.len % 8 == 0)))
     (start_answers.BadArg arguments.Length) _ two.1 in
     let four = if_none (nat_lt size (from + shape.len)) (start_answers.BadArg arguments.Source) _ three.1 in
-    let five = if_none (nat_le (2 ^ 64 - 1) progress.started) start_answers.WornOut None four.1 in
+    let five = if_none (nat_le (2 ^ 64 - 1) progress.started) start_answers.Exhausted None four.1 in
     let roots = or_none (nat_le area.nodes shape.root) _ two.0 in
     let lens = or_none (nat_lt area.room shape.len) _ three.0 in
     record {
@@ -105,7 +105,7 @@ accepted area size progress shape from is =
 
 -- ---- a start that is accepted
 
--- the call of the start ran at the own node
+-- the call of the start ran at the local node
 pub record StartsSo (settings : Parameters) (table : List (Option Entry)) (meaning : Meaning) (area : Area)
     (group : Group) (next : Records) (node thread : ℕ) (shape : Shape) (from : ℕ) : Type 0 where
   pub setting : Setting settings table meaning area

@@ -101,7 +101,7 @@ ask_still settings table meaning area group next node ask (asked.Forbidden forbi
     (local_still group.records next node _ step.1 refl)
 ask_still settings table meaning area group next node ask asked.NotYet setting holds after step ran accepted =
     same_still settings table meaning area group next setting holds after step.3
-ask_still settings table meaning area group next node ask asked.WornOut setting holds after step ran accepted =
+ask_still settings table meaning area group next node ask asked.Exhausted setting holds after step ran accepted =
     same_still settings table meaning area group next setting holds after step.2
 ask_still settings table meaning area group next node ask (asked.BadArg part) setting holds after step ran accepted =
     same_still settings table meaning area group next setting holds after step.2

@@ -146,7 +146,7 @@ start_by settings table meaning area group now node thread shape from it (asked.
     absurd (step.0.other refl)
 start_by settings table meaning area group now node thread shape from it asked.NotYet step =
     absurd (step.0.other refl)
-start_by settings table meaning area group now node thread shape from it asked.WornOut step =
+start_by settings table meaning area group now node thread shape from it asked.Exhausted step =
     absurd (step.0.other refl)
 start_by settings table meaning area group now node thread shape from it (asked.BadArg which) step =
     absurd (none_some (sym (no_fault settings table area node thread (group.progress node) shape from

@@ -23,7 +23,7 @@ use Rattle.endpoint_rules.specs.declared.answer.Answer.{Answer}
 use Rattle.transfer_laws.specs.Chunks.{EndpointJob}
 use Rattle.collective_area.specs.Area.{Area}
 use Rattle.collective_laws.specs.Phases.{Nothing}
-use Rattle.gas_collectives.specs.Progress.{Progress, is_left, is_open, step_ask, with_worn}
+use Rattle.gas_collectives.specs.Progress.{Progress, is_left, is_open, step_ask, with_exhausted}
 use Rattle.collective_laws.specs.Groups.{Group, GoesOn, Stops, asked_in, does_step, step_from, step_goes, with_progress}
 use Rattle.collective_laws.specs.CollectiveLaws.{Gave}
 use Rattle.collective_laws.specs.Invariant.{GroupHolds, phases_of, sent_count}
@@ -34,9 +34,9 @@ use Rattle.collective_laws.proofs.Starting.{ask_still}
 use Rattle.collective_laws.proofs.Sent.{sent_kept}
 use Rattle.gas_collectives.specs.declared.answers.StepAnswer.{StepAnswer}
 
--- ---- where only the worn nodes changed
+-- ---- where only the exhausted nodes changed
 
-pub record SameButWorn (progress other : Progress) : Type 0 where
+pub record SameButExhausted (progress other : Progress) : Type 0 where
   pub started : other.started ≡ progress.started
   pub ended : other.ended ≡ progress.ended
   pub shape : other.shape ≡ progress.shape
@@ -53,7 +53,7 @@ put_field field group node progress same one = elim (cases_eq one node) [
 ]
 
 pub progress_kept : (job : EndpointJob) (area : Area) (group : Group) (node : ℕ) (progress : Progress)
-    → GroupHolds job area group → SameButWorn (group.progress node) progress
+    → GroupHolds job area group → SameButExhausted (group.progress node) progress
     → GroupHolds job area (with_progress group node progress)
 progress_kept job area group node progress holds same =
     let count = λ (one other : ℕ). counts group node progress same one other in
@@ -95,7 +95,7 @@ progress_kept job area group node progress holds same =
           record { shape = old.shape; bytes = old.bytes };
     }
   where
-    counts : (group : Group) (node : ℕ) (progress : Progress) → SameButWorn (group.progress node) progress
+    counts : (group : Group) (node : ℕ) (progress : Progress) → SameButExhausted (group.progress node) progress
         → (one other : ℕ)
         → sent_count (put group.progress node progress one) other ≡ sent_count (group.progress one) other
     counts group node progress same one other =
@@ -174,14 +174,14 @@ goes_so job area group now node thread to many said left is holds =
     rw left (subst (λ (answer : WorldAnswer Answer). GroupHolds job area
     (goes job area group now node thread to many answer).1) (sym is) holds)
 
--- the group with what a call left, where only the worn nodes changed
+-- the group with what a call left, where only the exhausted nodes changed
 called : (settings : Parameters) (table : List (Option Entry)) (meaning : Meaning) (area : Area) (group : Group)
     (now node thread to many : ℕ) → Calls settings table meaning area group now node thread to many
     → (said : Asked) → said ≢ asked.Ran → ((there slot number : ℕ) → said ≢ asked.Accepted there slot number)
     → AskStep (site_of (job_of settings table meaning) node) (plain_of group.records)
     (step_ask area node thread to (group.progress node)) said
     (plain_of (records_then (job_of settings table meaning) area group now node thread to))
-    → (progress : Progress) → SameButWorn (group.progress node) progress
+    → (progress : Progress) → SameButExhausted (group.progress node) progress
     → GroupHolds (job_of settings table meaning) area
     (with_progress (with_records group (records_then (job_of settings table meaning) area group now node thread to))
     node progress)
@@ -194,14 +194,14 @@ called settings table meaning area group now node thread to many it said ran acc
     (step_keeps job (IsEndpointKept settings) group.records (timed now (Asks node ask)) it.setting.sound
     it.holds.records it.there) step ran accepted) same
 
-worn_same : (progress : Progress) (to : ℕ) (worn : Bool) → SameButWorn progress (with_worn progress to worn)
-worn_same progress to worn = record { started = refl; ended = refl; shape = refl; sent = refl }
+exhausted_same : (progress : Progress) (to : ℕ) (exhausted : Bool) → SameButExhausted progress (with_exhausted progress to exhausted)
+exhausted_same progress to exhausted = record { started = refl; ended = refl; shape = refl; sent = refl }
 
-still_open : (group : Group) (records : Records) (node to : ℕ) (worn : Bool) → is_open (group.progress node) ≡ true
-    → is_open ((with_progress (with_records group records) node (with_worn (group.progress node) to worn)).progress node)
+still_open : (group : Group) (records : Records) (node to : ℕ) (exhausted : Bool) → is_open (group.progress node) ≡ true
+    → is_open ((with_progress (with_records group records) node (with_exhausted (group.progress node) to exhausted)).progress node)
     ≡ true
-still_open group records node to worn is =
-    ap is_open (put_same group.progress node (with_worn (group.progress node) to worn)) ∙ is
+still_open group records node to exhausted is =
+    ap is_open (put_same group.progress node (with_exhausted (group.progress node) to exhausted)) ∙ is
 
 call_kept : (settings : Parameters) (table : List (Option Entry)) (meaning : Meaning) (area : Area) (group : Group)
     (now node thread to many : ℕ) → Calls settings table meaning area group now node thread to many
@@ -239,25 +239,25 @@ call_kept settings table meaning area group now node thread to many it (asked.Fo
     (called settings table meaning area group now node thread to many it (asked.Forbidden forbidden) (λ same. cc)
     (λ there slot number same. cc) step (group.progress node)
     (record { started = refl; ended = refl; shape = refl; sent = refl }))
-call_kept settings table meaning area group now node thread to many it asked.WornOut is step =
+call_kept settings table meaning area group now node thread to many it asked.Exhausted is step =
     goes_so (job_of settings table meaning) area group now node thread to many _ it.left is
-    (it.rest _ (called settings table meaning area group now node thread to many it asked.WornOut (λ same. cc)
-    (λ there slot number same. cc) step _ (worn_same (group.progress node) to true))
+    (it.rest _ (called settings table meaning area group now node thread to many it asked.Exhausted (λ same. cc)
+    (λ there slot number same. cc) step _ (exhausted_same (group.progress node) to true))
     (still_open group (records_then (job_of settings table meaning) area group now node thread to) node to true it.open_now))
 call_kept settings table meaning area group now node thread to many it asked.NotYet is step =
     goes_so (job_of settings table meaning) area group now node thread to many _ it.left is
     (it.rest _ (called settings table meaning area group now node thread to many it asked.NotYet (λ same. cc)
-    (λ there slot number same. cc) step _ (worn_same (group.progress node) to false))
+    (λ there slot number same. cc) step _ (exhausted_same (group.progress node) to false))
     (still_open group (records_then (job_of settings table meaning) area group now node thread to) node to false it.open_now))
 call_kept settings table meaning area group now node thread to many it (asked.BadArg which) is step =
     goes_so (job_of settings table meaning) area group now node thread to many _ it.left is
     (it.rest _ (called settings table meaning area group now node thread to many it (asked.BadArg which) (λ same. cc)
-    (λ there slot number same. cc) step _ (worn_same (group.progress node) to false))
+    (λ there slot number same. cc) step _ (exhausted_same (group.progress node) to false))
     (still_open group (records_then (job_of settings table meaning) area group now node thread to) node to false it.open_now))
 call_kept settings table meaning area group now node thread to many it (asked.LockBusy lock) is step =
     goes_so (job_of settings table meaning) area group now node thread to many _ it.left is
     (it.rest _ (called settings table meaning area group now node thread to many it (asked.LockBusy lock) (λ same. cc)
-    (λ there slot number same. cc) step _ (worn_same (group.progress node) to false))
+    (λ there slot number same. cc) step _ (exhausted_same (group.progress node) to false))
     (still_open group (records_then (job_of settings table meaning) area group now node thread to) node to false it.open_now))
 
 -- all of them

@@ -20,7 +20,7 @@ use Rattle.endpoint_rules.specs.declared.answer.Local.TheVariants as local
 use Rattle.transfer_laws.specs.Chunks.{EndpointJob, segment_at}
 use Rattle.collective_area.specs.Area.{Area}
 use Rattle.gas_collectives.specs.Progress.{after_end, end_answer, end_refusal, is_bad_dest, is_open, is_ready, other_shape}
-use Rattle.gas_collectives.specs.Progress.{worn_node, writes_from}
+use Rattle.gas_collectives.specs.Progress.{exhausted_node, writes_from}
 use Rattle.collective_laws.specs.Groups.{Group, after_writes, does_end, end_by, ended_group}
 use Rattle.collective_area.specs.Area.{SpareArea, SparesArea}
 use Rattle.collective_laws.specs.Groups.{result_pieces, with_progress, write_event}
@@ -129,7 +129,7 @@ ended_kept settings table meaning area group now node thread dest answer setting
     by_answer end_answers.NotReady ok apart = still
     by_answer end_answers.NotStarted ok apart = still
     by_answer (end_answers.BadArg argument) ok apart = still
-    by_answer (end_answers.WornOut other) ok apart = still
+    by_answer (end_answers.Exhausted other) ok apart = still
     by_answer (end_answers.Forbidden forbidden) ok apart = still
     by_answer end_answers.NoMemory ok apart = still
 
@@ -166,16 +166,16 @@ forbids_ok forbidden is = cc
 pub forbids_apart : (forbidden : Forbidden) (other : ℕ) → end_answers.Forbidden forbidden ≡ end_answers.Mismatch other → ⊥
 forbids_apart forbidden other is = cc
 
-pub ready_ok : (ready : Bool) (worn : Option ℕ) (first : EndAnswer)
-    → (if ready then first else elim worn [ Some node ↦ end_answers.WornOut node | None ↦ end_answers.NotReady ]) ≡ end_answers.Ended → ready ≡ true
-ready_ok true worn first is = refl
+pub ready_ok : (ready : Bool) (exhausted : Option ℕ) (first : EndAnswer)
+    → (if ready then first else elim exhausted [ Some node ↦ end_answers.Exhausted node | None ↦ end_answers.NotReady ]) ≡ end_answers.Ended → ready ≡ true
+ready_ok true exhausted first is = refl
 ready_ok false (Some node) first is = cc
 ready_ok false None first is = cc
 
-pub ready_apart : (ready : Bool) (worn : Option ℕ) (first : EndAnswer) (other : ℕ)
-    → (if ready then first else elim worn [ Some node ↦ end_answers.WornOut node | None ↦ end_answers.NotReady ]) ≡ end_answers.Mismatch other
+pub ready_apart : (ready : Bool) (exhausted : Option ℕ) (first : EndAnswer) (other : ℕ)
+    → (if ready then first else elim exhausted [ Some node ↦ end_answers.Exhausted node | None ↦ end_answers.NotReady ]) ≡ end_answers.Mismatch other
     → ready ≡ true
-ready_apart true worn first other is = refl
+ready_apart true exhausted first other is = refl
 ready_apart false (Some node) first other is = cc
 ready_apart false None first other is = cc
 
@@ -200,7 +200,7 @@ end_kept settings table meaning area group now node thread dest setting holds th
         let progress = group.progress node in
         let told = world_answer job group.records (timed now (Does node thread (OnCore Poll))) in
         let ready = is_ready area node progress segment in
-        let worn = worn_node area node progress in
+        let exhausted = exhausted_node area node progress in
         let first : EndAnswer = elim (other_shape area progress segment) [ Some other ↦ end_answers.Mismatch other | None ↦ end_answers.Ended ] in
         subst (λ (one : Option EndAnswer). GroupHolds job area
         (tries_by job area group now node thread dest one).1) (sym is)
@@ -212,9 +212,9 @@ end_kept settings table meaning area group now node thread dest setting holds th
         (dest_good (is_open progress) (is_bad_dest area settings.segment node progress.shape dest) is))
         (λ ended. elim (end_by_is job area group now node thread dest told) [
           | inl forbidden ↦ absurd (forbids_ok forbidden.0 (sym forbidden.1 ∙ ended))
-          | inr by_segment ↦ ready_ok ready worn first (sym by_segment ∙ ended)
+          | inr by_segment ↦ ready_ok ready exhausted first (sym by_segment ∙ ended)
         ])
         (λ other apart. elim (end_by_is job area group now node thread dest told) [
           | inl forbidden ↦ absurd (forbids_apart forbidden.0 other (sym forbidden.1 ∙ apart))
-          | inr by_segment ↦ ready_apart ready worn first other (sym by_segment ∙ apart)
+          | inr by_segment ↦ ready_apart ready exhausted first other (sym by_segment ∙ apart)
         ]))

@@ -30,7 +30,7 @@ use Rattle.collective_area.specs.Served.{collective_handler, header_for}
 use Rattle.collective_area.specs.Results.{Contribution, pieces_of}
 use Rattle.gas_collectives.specs.Progress.{Progress, idle, is_open}
 use Rattle.gas_collectives.specs.Progress.{start_refusal, start_ask, start_answer}
-use Rattle.gas_collectives.specs.Progress.{has_started, after_start, step_ask, is_left, with_sent, with_worn, end_refusal}
+use Rattle.gas_collectives.specs.Progress.{has_started, after_start, step_ask, is_left, with_sent, with_exhausted, end_refusal}
 use Rattle.gas_collectives.specs.Progress.{end_answer, after_end, data_of_all, writes_from}
 use Rattle.gas_collectives.specs.declared.answers.EndAnswer.{EndAnswer}
 use Rattle.gas_collectives.specs.declared.answers.StartAnswer.{StartAnswer}
@@ -109,8 +109,8 @@ pub data StepGoes : Type 0 where
 abbrev pub step_goes : Progress → (to : ℕ) → Asked → StepGoes
 step_goes progress to (asked.Accepted there slot number) = Stops (step_answers.Sent to) (with_sent progress to)
 step_goes progress to (asked.Forbidden forbidden) = Stops (step_answers.Forbidden forbidden) progress
-step_goes progress to asked.WornOut = GoesOn (with_worn progress to true)
-step_goes progress to other = GoesOn (with_worn progress to false)
+step_goes progress to asked.Exhausted = GoesOn (with_exhausted progress to true)
+step_goes progress to other = GoesOn (with_exhausted progress to false)
 
 -- it tries this node and the next ones, so many, in their order
 abbrev pub step_from : EndpointJob → Area → Group → (now node thread to many : ℕ) → StepAnswer × Group

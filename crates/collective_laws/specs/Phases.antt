@@ -22,12 +22,12 @@ pub record IsNothing (now : Phases) : Type 0 where
 
 -- ---- events
 
-pub data Happening : Type 0 where
-  Nothing : Happening  -- an event of something else
-  Starts : (node : ℕ) → Happening  -- the next phase; its message to itself runs at once
-  Sends : (from to : ℕ) → Happening  -- the message of the phase that is started
-  Runs : (from to phase : ℕ) → Happening  -- it runs at the other node
-  Ends : (node : ℕ) → Happening
+pub data PhaseEvent : Type 0 where
+  Nothing : PhaseEvent  -- an event of something else
+  Starts : (node : ℕ) → PhaseEvent  -- the next phase; its message to itself runs at once
+  Sends : (from to : ℕ) → PhaseEvent  -- the message of the phase that is started
+  Runs : (from to phase : ℕ) → PhaseEvent  -- it runs at the other node
+  Ends : (node : ℕ) → PhaseEvent
 
 -- a node is ready to end its phase: it has sent to all, and all parts of the phase have its stamp
 pub record IsReady (nodes : ℕ) (now : Phases) (node : ℕ) : Type 0 where
@@ -36,7 +36,7 @@ pub record IsReady (nodes : ℕ) (now : Phases) (node : ℕ) : Type 0 where
   pub all : (from : ℕ) → from < nodes → now.stands node (now.ended node % 2) from ≡ now.started node
 
 -- where each of these may happen
-abbrev pub MayHappen : (nodes : ℕ) → Phases → Happening → Type 0
+abbrev pub MayHappen : (nodes : ℕ) → Phases → PhaseEvent → Type 0
 MayHappen nodes now Nothing = Unit {0}
 MayHappen nodes now (Starts node) = (node < nodes) × (now.started node ≡ now.ended node)
 MayHappen nodes now (Sends from to) =
@@ -84,7 +84,7 @@ pub record RisesOne (now next : ℕ → ℕ) (node : ℕ) : Type 0 where
   pub here : next node ≡ now node + 1
   pub others : (other : ℕ) → other ≢ node → next other ≡ now other
 
-abbrev pub Leaves : (nodes : ℕ) → Phases → Happening → Phases → Type 0
+abbrev pub Leaves : (nodes : ℕ) → Phases → PhaseEvent → Phases → Type 0
 Leaves nodes now Nothing next =
     SameStarted now next × SameEnded now next × SameSent nodes now next × SameRan nodes now next
 Leaves nodes now (Starts node) next =
@@ -100,7 +100,7 @@ Leaves nodes now (Ends node) next =
 
 -- an event, and the state after it
 pub record Happened : Type 0 where
-  pub event : Happening
+  pub event : PhaseEvent
   pub next : Phases
 
 -- each of these events may happen where it comes, and leaves the state behind it
@@ -148,13 +148,13 @@ pub record IsSafe (nodes : ℕ) (now : Phases) (node : ℕ) : Type 0 where
   pub ran : (from : ℕ) → from < nodes → now.ran from node (now.ended node) ≡ true
 
 -- a message that runs doesn't come behind a later one of its part: what stands there is of an earlier phase
-abbrev pub ComesInTime : Phases → Happening → Type 0
+abbrev pub ComesInTime : Phases → PhaseEvent → Type 0
 ComesInTime now (Runs from to phase) = now.stands to (phase % 2) from ≤ phase
 ComesInTime now event = Unit {0}
 
 pub record PhasesHold (nodes : ℕ) (now : Phases) : Type 0 where
   pub ready : (node : ℕ) → node < nodes → IsReady nodes now node → IsSafe nodes now node
-  pub in_time : (event : Happening) → MayHappen nodes now event → ComesInTime now event
+  pub in_time : (event : PhaseEvent) → MayHappen nodes now event → ComesInTime now event
 
 abbrev pub PhasesAreSafe : Type 0
 PhasesAreSafe =

@@ -36,7 +36,7 @@ use Rattle.node_runs.specs.Fitting.{KeptFits}
 use Rattle.node_runs.specs.Scripts.{TryContext}
 use Rattle.node_runs.specs.Turn.{events_of, node_run}
 use Rattle.node_runs.specs.declared.script_answer.ScriptAnswer.TheVariants as said
-use Rattle.collective_steps.specs.Outcomes.{Outcome, end_by, end_outcome, is_nothing, is_quiet, is_started, is_unworn}
+use Rattle.collective_steps.specs.Outcomes.{Outcome, end_by, end_outcome, is_nothing, is_quiet, is_started, is_unexhausted}
 use Rattle.collective_steps.specs.Outcomes.{start_by, start_ends, step_ends, step_from, step_outcome, try_ends}
 use Rattle.collective_steps.specs.Parts.{end_asked, end_behind, first_part, later_by, later_part, site_of, start_asked}
 use Rattle.collective_steps.specs.Tries.{job_at}
@@ -45,22 +45,22 @@ use Rattle.collective_steps.proofs.Resting.{asked_from, from_left, from_open, re
 
 -- ---- a request to another node never runs at once
 
-claimed : (worn out : Bool) (to slot number : ℕ)
-    → cond {A = Asked} worn asked.WornOut (cond {A = Asked} out asked.NotYet (asked.Accepted to slot number)) ≡ asked.Ran
+claimed : (exhausted out : Bool) (to slot number : ℕ)
+    → cond {A = Asked} exhausted asked.Exhausted (cond {A = Asked} out asked.NotYet (asked.Accepted to slot number)) ≡ asked.Ran
     → ⊥
 claimed true out to slot number e = cc
 claimed false true to slot number e = cc
 claimed false false to slot number e = cc
 
-judged : (judges : Result (Unit {0}) Forbidden) (fault : Option Which) (own worn out : Bool) (busy : Option ℕ)
+judged : (judges : Result (Unit {0}) Forbidden) (fault : Option Which) (own exhausted out : Bool) (busy : Option ℕ)
     (to slot number : ℕ) → own ≡ false
     → unless_forbidden judges (unless_bad fault (cond {A = Asked} own (own_answer busy)
-    (cond {A = Asked} worn asked.WornOut (cond {A = Asked} out asked.NotYet (asked.Accepted to slot number)))))
+    (cond {A = Asked} exhausted asked.Exhausted (cond {A = Asked} out asked.NotYet (asked.Accepted to slot number)))))
     ≡ asked.Ran → ⊥
-judged (Err why) fault own worn out busy to slot number apart e = cc
-judged (Ok allowed) (Some part) own worn out busy to slot number apart e = cc
-judged (Ok allowed) None true worn out busy to slot number apart e = true≢false apart
-judged (Ok allowed) None false worn out busy to slot number apart e = claimed worn out to slot number e
+judged (Err why) fault own exhausted out busy to slot number apart e = cc
+judged (Ok allowed) (Some part) own exhausted out busy to slot number apart e = cc
+judged (Ok allowed) None true exhausted out busy to slot number apart e = true≢false apart
+judged (Ok allowed) None false exhausted out busy to slot number apart e = claimed exhausted out to slot number e
 
 abbrev ask_by : TryContext → (to : ℕ) → Asking → Ask
 ask_by at to what = record { thread = at.thread; to = to; what = what }
@@ -176,8 +176,8 @@ answered_calm at to many node it here apart deeper (asked.BadArg fault) e =
     passed at to many node it (asked.BadArg fault) here deeper e refl refl
 answered_calm at to many node it here apart deeper (asked.LockBusy lock) e =
     passed at to many node it (asked.LockBusy lock) here deeper e refl refl
-answered_calm at to many node it here apart deeper asked.WornOut e =
-    passed at to many node it asked.WornOut here deeper e refl refl
+answered_calm at to many node it here apart deeper asked.Exhausted e =
+    passed at to many node it asked.Exhausted here deeper e refl refl
 answered_calm at to many node it here apart deeper asked.NotYet e =
     passed at to many node it asked.NotYet here deeper e refl refl
 
@@ -240,7 +240,7 @@ end_calm at node it dest = by_refusal (end_refusal it.area it.settings.segment i
     unready ends.NotReady e = refl
     unready ends.NotStarted e = absurd (cc)
     unready (ends.BadArg argument) e = absurd (cc)
-    unready (ends.WornOut other) e = absurd (cc)
+    unready (ends.Exhausted other) e = absurd (cc)
     unready (ends.Forbidden why) e = absurd (cc)
     unready ends.NoMemory e = absurd (cc)
 
@@ -282,7 +282,7 @@ first_calm at shape from node it =
     by_answer (asked.Forbidden why) e still = absurd (cc)
     by_answer (asked.BadArg fault) e still = absurd (true≢false still)
     by_answer (asked.LockBusy lock) e still = refl
-    by_answer asked.WornOut e still = absurd (true≢false still)
+    by_answer asked.Exhausted e still = absurd (true≢false still)
     by_answer asked.NotYet e still = absurd (true≢false still)
 
     by_refusal : (refusal : Option StartAnswer)
@@ -311,9 +311,9 @@ quiet_is true true next e = refl
 quiet_is true false next e = absurd (true≢false e)
 quiet_is false quiet next e = absurd (true≢false e)
 
-nothing_is : (nothing unworn : Bool) → (nothing && unworn) ≡ true → nothing ≡ true
-nothing_is true unworn e = refl
-nothing_is false unworn e = absurd (true≢false (sym e))
+nothing_is : (nothing unexhausted : Bool) → (nothing && unexhausted) ≡ true → nothing ≡ true
+nothing_is true unexhausted e = refl
+nothing_is false unexhausted e = absurd (true≢false (sym e))
 
 -- a step that sent nothing, and a try that isn't ready
 pub later_calm : (at : TryContext) (dest : ℕ) (node : Node EndpointLocal) (it : CollectivesState) → it.me ≡ at.me
@@ -330,7 +330,7 @@ later_calm at dest node it here = by_end (step_ends step.answer)
         let behind = node_in_the_end (site_of at) node step.calls in
         let none = none_mapped (try_ends try.answer) e in
         let quiet = quiet_is (is_none (try_ends try.answer)) (is_quiet it step.answer) try.next still in
-        let left = (step_calm at node it here).leaves (nothing_is (is_nothing step.answer) (is_unworn it) quiet) in
+        let left = (step_calm at node it here).leaves (nothing_is (is_nothing step.answer) (is_unexhausted it) quiet) in
         run_both at node step.calls try.calls
         ∙ (ap (λ (n : Node EndpointLocal). node_run (job_at at) at.me at.now (events_by at try.calls) n)
         (left.run ∙ sym left.ended)

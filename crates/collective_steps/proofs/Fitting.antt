@@ -106,7 +106,7 @@ ends_fit at dest node it fits =
     behind ends.NotReady = tt
     behind ends.NotStarted = tt
     behind (ends.BadArg argument) = tt
-    behind (ends.WornOut other) = tt
+    behind (ends.Exhausted other) = tt
     behind (ends.Forbidden why) = tt
     behind ends.NoMemory = tt
 
@@ -123,7 +123,7 @@ end_keeps it (ends.Mismatch other) fits =
 end_keeps it ends.NotReady fits = fits
 end_keeps it ends.NotStarted fits = fits
 end_keeps it (ends.BadArg argument) fits = fits
-end_keeps it (ends.WornOut other) fits = fits
+end_keeps it (ends.Exhausted other) fits = fits
 end_keeps it (ends.Forbidden why) fits = fits
 end_keeps it ends.NoMemory fits = fits
 
@@ -220,16 +220,16 @@ or_parts : (a b : Bool) → (a || b) ≡ false → (a ≡ false) × (b ≡ false
 or_parts true b e = absurd (true≢false e)
 or_parts false b e = (refl, e)
 
-unrefused : (busy root length_ source worn : Bool)
+unrefused : (busy root length_ source exhausted : Bool)
     → cond {A = Option StartAnswer} busy (Some starts.Busy)
     (cond root (Some (starts.BadArg arguments.Root))
     (cond length_ (Some (starts.BadArg arguments.Length))
-    (cond source (Some (starts.BadArg arguments.Source)) (cond worn (Some starts.WornOut) None)))) ≡ None
-    → (root ≡ false) × (length_ ≡ false) × (worn ≡ false)
-unrefused true root length_ source worn same = absurd (cc)
-unrefused false true length_ source worn same = absurd (cc)
-unrefused false false true source worn same = absurd (cc)
-unrefused false false false true worn same = absurd (cc)
+    (cond source (Some (starts.BadArg arguments.Source)) (cond exhausted (Some starts.Exhausted) None)))) ≡ None
+    → (root ≡ false) × (length_ ≡ false) × (exhausted ≡ false)
+unrefused true root length_ source exhausted same = absurd (cc)
+unrefused false true length_ source exhausted same = absurd (cc)
+unrefused false false true source exhausted same = absurd (cc)
+unrefused false false false true exhausted same = absurd (cc)
 unrefused false false false false true same = absurd (cc)
 unrefused false false false false false same = (refl, refl, refl)
 
@@ -239,8 +239,8 @@ passes it shape from none =
     let all = unrefused (is_open (progress_of it)) _ _ _ _ none in
     let root = (or_parts (nat_le it.area.nodes shape.root) _ all.0).0 in
     let len = (or_parts (nat_lt it.area.room shape.len) _ all.1).0 in
-    let worn = all.2 in
-    record { root = grind (arith, root); len = grind (arith, len); left = grind (arith, worn) }
+    let exhausted = all.2 in
+    record { root = grind (arith, root); len = grind (arith, len); left = grind (arith, exhausted) }
 
 word_fits : (k : CollectiveKind) (root len : ℕ) → root < 256 → len ≤ 8192
     → shape_word (record { kind = k; root = root; len = len }) < 2 ^ 64
@@ -272,7 +272,7 @@ start_both at shape from node it fits =
     }
     next_fits P starts.Busy = fits
     next_fits P (starts.BadArg argument) = fits
-    next_fits P starts.WornOut = fits
+    next_fits P starts.Exhausted = fits
     next_fits P (starts.Forbidden why) = fits
     next_fits P (starts.LockBusy lock) = fits
     next_fits P starts.NoMemory = fits

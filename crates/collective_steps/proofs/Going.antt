@@ -128,7 +128,7 @@ end_goes at node it dest sound keeps =
     behind ends.NotReady = goes_none at polled kept
     behind ends.NotStarted = goes_none at polled kept
     behind (ends.BadArg argument) = goes_none at polled kept
-    behind (ends.WornOut other) = goes_none at polled kept
+    behind (ends.Exhausted other) = goes_none at polled kept
     behind (ends.Forbidden why) = goes_none at polled kept
     behind ends.NoMemory = goes_none at polled kept
 
@@ -160,7 +160,7 @@ slots_by at node to what asked.Ran e = refl
 slots_by at node to what (asked.BadArg fault) e = refl
 slots_by at node to what (asked.Forbidden why) e = refl
 slots_by at node to what (asked.LockBusy lock) e = refl
-slots_by at node to what asked.WornOut e = refl
+slots_by at node to what asked.Exhausted e = refl
 slots_by at node to what asked.NotYet e = refl
 
 slots_sent : (at : TryContext) (node : Node EndpointLocal) (to : ℕ) (what : Asking) (a : Asked)
@@ -274,8 +274,8 @@ answered_goes at to many node it sound keeps deeper (asked.BadArg fault) e end =
     passed_goes at to many node it (asked.BadArg fault) sound keeps deeper e refl tt refl end
 answered_goes at to many node it sound keeps deeper (asked.LockBusy lock) e end =
     passed_goes at to many node it (asked.LockBusy lock) sound keeps deeper e refl tt refl end
-answered_goes at to many node it sound keeps deeper asked.WornOut e end =
-    passed_goes at to many node it asked.WornOut sound keeps deeper e refl tt refl end
+answered_goes at to many node it sound keeps deeper asked.Exhausted e end =
+    passed_goes at to many node it asked.Exhausted sound keeps deeper e refl tt refl end
 answered_goes at to many node it sound keeps deeper asked.NotYet e end =
     passed_goes at to many node it asked.NotYet sound keeps deeper e refl tt refl end
 

@@ -21,8 +21,8 @@ use Rattle.endpoint_rules.specs.declared.answer.Answer.{Answer}
 use Rattle.endpoint_rules.specs.declared.answer.Answer.TheVariants as answers
 use Rattle.gas_collectives.specs.CollectivesState.{CollectivesState, IsSameNode, Stands, progress_of}
 use Rattle.gas_collectives.specs.Ends.{EndAsked, end_told, ended_then, poll_call, segment_in, tried_answer}
-use Rattle.gas_collectives.specs.Progress.{end_refusal, is_bad_dest, is_open, is_ready, is_worn, other_shape}
-use Rattle.gas_collectives.specs.Progress.{start_refusal, worn_node}
+use Rattle.gas_collectives.specs.Progress.{end_refusal, is_bad_dest, is_open, is_ready, has_exhausted, other_shape}
+use Rattle.gas_collectives.specs.Progress.{start_refusal, exhausted_node}
 use Rattle.gas_collectives.specs.Starts.{StartAsked, start_call, start_told, started_then}
 use Rattle.gas_collectives.specs.declared.answers.Argument.TheVariants as arguments
 use Rattle.gas_collectives.specs.declared.answers.EndAnswer.{EndAnswer}
@@ -38,7 +38,7 @@ use Rattle.node_runs.specs.Scripts.{ThreadCall, TryContext}
 use Rattle.node_runs.specs.Turn.{node_run, node_sends}
 use Rattle.node_runs.specs.declared.script_answer.ScriptAnswer.{ScriptAnswer}
 use Rattle.node_runs.specs.declared.script_answer.ScriptAnswer.TheVariants as said
-use Rattle.collective_steps.specs.Outcomes.{Outcome, end_by, end_outcome, is_nothing, is_quiet, is_started, is_unworn}
+use Rattle.collective_steps.specs.Outcomes.{Outcome, end_by, end_outcome, is_nothing, is_quiet, is_started, is_unexhausted}
 use Rattle.collective_steps.specs.Outcomes.{last_from, sent_by, start_by, start_ends, start_outcome, step_ends}
 use Rattle.collective_steps.specs.Outcomes.{step_outcome, try_ends}
 use Rattle.collective_steps.specs.Parts.{calls_of_all, end_asked, end_behind, first_part, later_by, later_part}
@@ -48,7 +48,7 @@ use Rattle.collective_steps.specs.Tries.{went_on}
 use Rattle.collective_steps.specs.declared.tries.AtThread.{AtThread}
 use Rattle.collective_steps.specs.declared.tries.PartTried.{PartTried}
 use Rattle.collective_steps.proofs.Going.{Goes, Keeps, events_by}
-use Rattle.collective_steps.proofs.Quiet.{AllUnworn, none_first, step_same}
+use Rattle.collective_steps.proofs.Quiet.{NoneExhausted, none_first, step_same}
 
 -- ---- the invariant
 
@@ -136,7 +136,7 @@ start_kept site node it asked =
     by_answer starts.Started e = absurd (true≢false e)
     by_answer starts.Busy e = refl
     by_answer (starts.BadArg argument) e = refl
-    by_answer starts.WornOut e = refl
+    by_answer starts.Exhausted e = refl
     by_answer (starts.Forbidden why) e = refl
     by_answer (starts.LockBusy lock) e = refl
     by_answer starts.NoMemory e = refl
@@ -289,32 +289,32 @@ step_ended at node it dest told end last next new C G is =
       next_is = ap Some C.next_is;
     })
 
--- no node is known to be worn out
-none_worn : (it : CollectivesState) → worn_node it.area it.me (progress_of it) ≡ None → AllUnworn it it.area.nodes
-none_worn it none node low =
+-- no node is known to be exhausted out
+none_exhausted : (it : CollectivesState) → exhausted_node it.area it.me (progress_of it) ≡ None → NoneExhausted it it.area.nodes
+none_exhausted it none node low =
     let high : node < 0 + it.area.nodes = omega (arith, low) in
-    none_first (is_worn it.me (progress_of it)) 0 it.area.nodes node none (omega arith) high
+    none_first (has_exhausted it.me (progress_of it)) 0 it.area.nodes node none (omega arith) high
 
-unworn_is : (it : CollectivesState) → is_unworn it ≡ true → worn_node it.area it.me (progress_of it) ≡ None
-unworn_is it = go (worn_node it.area it.me (progress_of it))
+unexhausted_is : (it : CollectivesState) → is_unexhausted it ≡ true → exhausted_node it.area it.me (progress_of it) ≡ None
+unexhausted_is it = go (exhausted_node it.area it.me (progress_of it))
   where
     go : (o : Option ℕ) → is_none o ≡ true → o ≡ None
     go None e = refl
     go (Some node) e = absurd (true≢false (sym e))
 
--- a try that isn't ready leaves the collectives, and knows no node to be worn out
+-- a try that isn't ready leaves the collectives, and knows no node to be exhausted out
 record IsUnready (it next : CollectivesState) : Type 0 where
   pub same : next ≡ it
-  pub none : worn_node it.area it.me (progress_of it) ≡ None
+  pub none : exhausted_node it.area it.me (progress_of it) ≡ None
 
 abbrev ready_says : Option ℕ → EndAnswer
 ready_says other = elim other [ Some node ↦ ends.Mismatch node | None ↦ ends.Ended ]
 
 abbrev unready_says : Option ℕ → EndAnswer
-unready_says worn = elim worn [ Some node ↦ ends.WornOut node | None ↦ ends.NotReady ]
+unready_says exhausted = elim exhausted [ Some node ↦ ends.Exhausted node | None ↦ ends.NotReady ]
 
 told_unready : (it : CollectivesState) (segment : List ℕ) (poll : Answer)
-    → try_ends (end_told it segment poll) ≡ None → worn_node it.area it.me (progress_of it) ≡ None
+    → try_ends (end_told it segment poll) ≡ None → exhausted_node it.area it.me (progress_of it) ≡ None
 told_unready it segment (answers.Forbidden why) e = absurd (cc)
 told_unready it segment _ e = by_ready (is_ready it.area it.me (progress_of it) segment) e
   where
@@ -322,16 +322,16 @@ told_unready it segment _ e = by_ready (is_ready it.area it.me (progress_of it) 
     by_other (Some node) h = cc
     by_other None h = cc
 
-    by_worn : (worn : Option ℕ) → try_ends (unready_says worn) ≡ None → worn ≡ None
-    by_worn (Some node) h = absurd (cc)
-    by_worn None h = refl
+    by_exhausted : (exhausted : Option ℕ) → try_ends (unready_says exhausted) ≡ None → exhausted ≡ None
+    by_exhausted (Some node) h = absurd (cc)
+    by_exhausted None h = refl
 
     by_ready : (ready : Bool)
         → try_ends (cond {A = EndAnswer} ready (ready_says (other_shape it.area (progress_of it) segment))
-        (unready_says (worn_node it.area it.me (progress_of it)))) ≡ None
-        → worn_node it.area it.me (progress_of it) ≡ None
+        (unready_says (exhausted_node it.area it.me (progress_of it)))) ≡ None
+        → exhausted_node it.area it.me (progress_of it) ≡ None
     by_ready true h = absurd (by_other (other_shape it.area (progress_of it) segment) h)
-    by_ready false h = by_worn (worn_node it.area it.me (progress_of it)) h
+    by_ready false h = by_exhausted (exhausted_node it.area it.me (progress_of it)) h
 
 kept_unready : (it : CollectivesState) (answer : EndAnswer) → try_ends answer ≡ None → ended_then answer it ≡ it
 kept_unready it ends.NotReady e = refl
@@ -339,7 +339,7 @@ kept_unready it ends.Ended e = absurd (cc)
 kept_unready it (ends.Mismatch other) e = absurd (cc)
 kept_unready it ends.NotStarted e = absurd (cc)
 kept_unready it (ends.BadArg argument) e = absurd (cc)
-kept_unready it (ends.WornOut other) e = absurd (cc)
+kept_unready it (ends.Exhausted other) e = absurd (cc)
 kept_unready it (ends.Forbidden why) e = absurd (cc)
 kept_unready it ends.NoMemory e = absurd (cc)
 
@@ -389,11 +389,11 @@ quiet_leaves at node it dest stands area_is not_ready quiet =
     let step = step_outcome (site_of at) at.thread node it in
     let U = end_unready (site_of at) (node_in_the_end (site_of at) node step.calls) step.next (end_asked at dest)
     not_ready in
-    let parts = both_true (is_nothing step.answer) (is_unworn it) quiet in
-    let after : AllUnworn step.next it.area.nodes =
-    subst (λ (area : Area). AllUnworn step.next area.nodes) area_is (none_worn step.next U.none) in
-    U.same ∙ step_same (site_of at) at.thread node it (omega (arith, stands.nodes, stands.few_nodes, stands.worn_long))
-    (none_worn it (unworn_is it parts.1)) parts.0 after
+    let parts = both_true (is_nothing step.answer) (is_unexhausted it) quiet in
+    let after : NoneExhausted step.next it.area.nodes =
+    subst (λ (area : Area). NoneExhausted step.next area.nodes) area_is (none_exhausted step.next U.none) in
+    U.same ∙ step_same (site_of at) at.thread node it (omega (arith, stands.nodes, stands.few_nodes, stands.exhausted_long))
+    (none_exhausted it (unexhausted_is it parts.1)) parts.0 after
 
 -- ---- how a later try is told
 
@@ -434,7 +434,7 @@ pub ended_later : (at : TryContext) (node : Node EndpointLocal) (it : Collective
     → Goes at behind (end_outcome (site_of at) behind between (end_asked at dest)).calls []
     → step_ends told ≡ None
     → IsPartTried at node (later_part at dest node it) it
-    (went_on (sent_by last) (is_nothing told && is_unworn it) answer) next new
+    (went_on (sent_by last) (is_nothing told && is_unexhausted it) answer) next new
 ended_later at node it dest told last between mid answer next new stands same S G ends H none =
     let site = site_of at in
     let step = step_outcome site at.thread node it in
@@ -452,9 +452,9 @@ ended_later at node it dest told last between mid answer next new stands same S 
     let area_is : step.next.area ≡ it.area =
     ap (λ (one : CollectivesState). one.area) (sym S.next_is) ∙ same.area_is in
     subst (λ (o : Option StepAnswer). IsPartTried at node (later_by at dest node it step o) it
-    (went_on sent (is_nothing told && is_unworn it) answer) next new) (sym none ∙ ap step_ends S.answered)
+    (went_on sent (is_nothing told && is_unexhausted it) answer) next new) (sym none ∙ ap step_ends S.answered)
     (subst (λ (says : StepAnswer). IsPartTried at node (later_by at dest node it step None) it
-    (went_on sent (is_nothing says && is_unworn it) answer) next new) (sym S.answered)
+    (went_on sent (is_nothing says && is_unexhausted it) answer) next new) (sym S.answered)
     (subst (λ (says : EndAnswer). IsPartTried at node (later_by at dest node it step None) it
     (went_on sent quiet says) next new) (sym E.answered)
     (record {
@@ -475,17 +475,17 @@ same_first : (one first : StartAnswer) → Some one ≡ Some first → is_starte
 same_first one first same none = ap is_started (sym (same_Some one first same)) ∙ none
 
 -- a refusal doesn't start
-refusal_starts : (busy root length_ source worn : Bool) (first : StartAnswer)
+refusal_starts : (busy root length_ source exhausted : Bool) (first : StartAnswer)
     → cond {A = Option StartAnswer} busy (Some starts.Busy)
     (cond root (Some (starts.BadArg arguments.Root))
     (cond length_ (Some (starts.BadArg arguments.Length))
-    (cond source (Some (starts.BadArg arguments.Source)) (cond worn (Some starts.WornOut) None)))) ≡ Some first
+    (cond source (Some (starts.BadArg arguments.Source)) (cond exhausted (Some starts.Exhausted) None)))) ≡ Some first
     → is_started first ≡ false
-refusal_starts true root length_ source worn first same = same_first starts.Busy first same refl
-refusal_starts false true length_ source worn first same = same_first (starts.BadArg arguments.Root) first same refl
-refusal_starts false false true source worn first same = same_first (starts.BadArg arguments.Length) first same refl
-refusal_starts false false false true worn first same = same_first (starts.BadArg arguments.Source) first same refl
-refusal_starts false false false false true first same = same_first starts.WornOut first same refl
+refusal_starts true root length_ source exhausted first same = same_first starts.Busy first same refl
+refusal_starts false true length_ source exhausted first same = same_first (starts.BadArg arguments.Root) first same refl
+refusal_starts false false true source exhausted first same = same_first (starts.BadArg arguments.Length) first same refl
+refusal_starts false false false true exhausted first same = same_first (starts.BadArg arguments.Source) first same refl
+refusal_starts false false false false true first same = same_first starts.Exhausted first same refl
 refusal_starts false false false false false first same = absurd (cc)
 
 pub first_there : (at : TryContext) (node : Node EndpointLocal) (it : CollectivesState) (shape : Shape) (from : ℕ)
@@ -537,12 +537,12 @@ tried_as at node part it sent told_sent ended told_ended moved told_moved next n
     (sym d) tried))
 
 pub went_as : (at : TryContext) (node : Node EndpointLocal) (part : Part) (it : CollectivesState) (told : PartTried)
-    (sent told_sent : Option SlotRef) (quiet unworn known : Bool) (says : StepAnswer) (answer : EndAnswer)
+    (sent told_sent : Option SlotRef) (quiet unexhausted known : Bool) (says : StepAnswer) (answer : EndAnswer)
     (next : CollectivesState) (new : EndpointState) → told ≡ went_on told_sent quiet answer → told_sent ≡ sent
-    → quiet ≡ (is_nothing says && unworn) → unworn ≡ known
+    → quiet ≡ (is_nothing says && unexhausted) → unexhausted ≡ known
     → IsPartTried at node part it (went_on sent (is_nothing says && known) answer) next new
     → IsPartTried at node part it told next new
-went_as at node part it told sent told_sent quiet unworn known says answer next new a b d e tried =
+went_as at node part it told sent told_sent quiet unexhausted known says answer next new a b d e tried =
     subst (λ (t : PartTried). IsPartTried at node part it t next new) (sym a)
     (subst (λ (s : Option SlotRef). IsPartTried at node part it (went_on s quiet answer) next new) (sym b)
     (subst (λ (q : Bool). IsPartTried at node part it (went_on sent q answer) next new)

@@ -11,7 +11,7 @@ use Rattle.endpoint_rules.specs.EndpointLocal.{EndpointLocal}
 use Rattle.endpoint_rules.specs.EndpointRules.{asked_answer}
 use Rattle.endpoint_rules.specs.declared.answer.Answer.{Answer}
 use Rattle.gas_collectives.specs.CollectivesState.{CollectivesState, has, progress_of}
-use Rattle.gas_collectives.specs.Progress.{first_node, is_left, is_open, is_worn}
+use Rattle.gas_collectives.specs.Progress.{first_node, is_left, is_open, has_exhausted}
 use Rattle.gas_collectives.specs.Steps.{noted, step_call, step_told}
 use Rattle.gas_collectives.specs.declared.answers.StepAnswer.{StepAnswer}
 use Rattle.node_caller.specs.Sites.{Site, node_then}
@@ -39,34 +39,34 @@ set_apart marks node other mark apart = get_or-set_other marks node other mark f
 record IsLeftAt (it next : CollectivesState) (node : ℕ) : Type 0 where
   pub me_is : next.me ≡ it.me
   pub sent : has next.sent node ≡ has it.sent node
-  pub worn : has next.worn node ≡ has it.worn node
+  pub exhausted : has next.exhausted node ≡ has it.exhausted node
 
 same_at : (it : CollectivesState) (node : ℕ) → IsLeftAt it it node
-same_at it node = record { me_is = refl; sent = refl; worn = refl }
+same_at it node = record { me_is = refl; sent = refl; exhausted = refl }
 
 then_at : (it between next : CollectivesState) (node : ℕ) → IsLeftAt it between node → IsLeftAt between next node
     → IsLeftAt it next node
 then_at it between next node first second = record {
   me_is = second.me_is ∙ first.me_is;
   sent = second.sent ∙ first.sent;
-  worn = second.worn ∙ first.worn;
+  exhausted = second.exhausted ∙ first.exhausted;
 }
 
 noted_at : (it : CollectivesState) (to node : ℕ) (a : Asked) → node ≢ to
     → IsLeftAt it (noted it to (Some (asked_answer a))) node
 noted_at it to node (asked.Accepted peer slot number) apart =
-    record { me_is = refl; sent = set_apart it.sent to node true apart; worn = refl }
+    record { me_is = refl; sent = set_apart it.sent to node true apart; exhausted = refl }
 noted_at it to node (asked.Forbidden why) apart = same_at it node
 noted_at it to node asked.Ran apart =
-    record { me_is = refl; sent = refl; worn = set_apart it.worn to node false apart }
+    record { me_is = refl; sent = refl; exhausted = set_apart it.exhausted to node false apart }
 noted_at it to node (asked.BadArg fault) apart =
-    record { me_is = refl; sent = refl; worn = set_apart it.worn to node false apart }
+    record { me_is = refl; sent = refl; exhausted = set_apart it.exhausted to node false apart }
 noted_at it to node (asked.LockBusy lock) apart =
-    record { me_is = refl; sent = refl; worn = set_apart it.worn to node false apart }
-noted_at it to node asked.WornOut apart =
-    record { me_is = refl; sent = refl; worn = set_apart it.worn to node true apart }
+    record { me_is = refl; sent = refl; exhausted = set_apart it.exhausted to node false apart }
+noted_at it to node asked.Exhausted apart =
+    record { me_is = refl; sent = refl; exhausted = set_apart it.exhausted to node true apart }
 noted_at it to node asked.NotYet apart =
-    record { me_is = refl; sent = refl; worn = set_apart it.worn to node false apart }
+    record { me_is = refl; sent = refl; exhausted = set_apart it.exhausted to node false apart }
 
 abbrev LeavesBelow : Site → (thread to many : ℕ) → Type 0
 LeavesBelow site thread to many =
@@ -106,9 +106,9 @@ below site thread to (suc many) node it other low =
 
 -- ---- a step without effect
 
--- no node among so many is known to be worn out
-abbrev pub AllUnworn : CollectivesState → (nodes : ℕ) → Type 0
-AllUnworn it nodes = (node : ℕ) → node < nodes → is_worn it.me (progress_of it) node ≡ false
+-- no node among so many is known to be exhausted out
+abbrev pub NoneExhausted : CollectivesState → (nodes : ℕ) → Type 0
+NoneExhausted it nodes = (node : ℕ) → node < nodes → has_exhausted it.me (progress_of it) node ≡ false
 
 -- the first of the nodes that have a test
 abbrev first_by : (ℕ → Bool) → (node many : ℕ) → (found : Bool) → Option ℕ
@@ -134,9 +134,9 @@ none_first test node (suc many) other none low high =
     none_by test node many other (none_first test (suc node) many other) (test node) refl none low high
 
 -- its mark is that of the node
-worn_mark : (it : CollectivesState) (node : ℕ) → is_left it.me node (progress_of it) ≡ true
-    → is_worn it.me (progress_of it) node ≡ false → has it.worn node ≡ false
-worn_mark it node left none = ap (λ (b : Bool). b && has it.worn node) (sym left) ∙ none
+exhausted_mark : (it : CollectivesState) (node : ℕ) → is_left it.me node (progress_of it) ≡ true
+    → has_exhausted it.me (progress_of it) node ≡ false → has it.exhausted node ≡ false
+exhausted_mark it node left none = ap (λ (b : Bool). b && has it.exhausted node) (sym left) ∙ none
 
 left_same : (it next : CollectivesState) (node : ℕ) → IsLeftAt it next node
     → is_left next.me node (progress_of next) ≡ is_left it.me node (progress_of it)
@@ -145,70 +145,70 @@ left_same it next node at =
 
 -- a step that comes to this leaves the collectives
 abbrev Same : CollectivesState → (nodes : ℕ) → Outcome StepAnswer → Type 0
-Same it nodes outcome = is_nothing outcome.answer ≡ true → AllUnworn outcome.next nodes → outcome.next ≡ it
+Same it nodes outcome = is_nothing outcome.answer ≡ true → NoneExhausted outcome.next nodes → outcome.next ≡ it
 
 -- so it is of the rest of a step
 abbrev SameFrom : Site → (thread to many nodes : ℕ) → Type 0
 SameFrom site thread to many nodes =
-    (node : Node EndpointLocal) (it : CollectivesState) → to + many ≡ nodes → nodes ≤ length it.worn
-    → AllUnworn it nodes → Same it nodes (step_from site thread to many node it)
+    (node : Node EndpointLocal) (it : CollectivesState) → to + many ≡ nodes → nodes ≤ length it.exhausted
+    → NoneExhausted it nodes → Same it nodes (step_from site thread to many node it)
 
 -- what was noted is what was there
 on_same : (site : Site) (thread to many nodes : ℕ) (next : Node EndpointLocal) (it there : CollectivesState)
-    → to + many ≡ nodes → nodes ≤ length it.worn → AllUnworn it nodes → SameFrom site thread to many nodes → there ≡ it
+    → to + many ≡ nodes → nodes ≤ length it.exhausted → NoneExhausted it nodes → SameFrom site thread to many nodes → there ≡ it
     → Same it nodes (step_from site thread to many next there)
 on_same site thread to many nodes next it there count long before deeper is =
     subst (λ (one : CollectivesState). Same it nodes (step_from site thread to many next one)) (sym is)
     (deeper next it count long before)
 
 off_same : (it : CollectivesState) (to nodes : ℕ) → is_left it.me to (progress_of it) ≡ true → to < nodes
-    → AllUnworn it nodes → record it { worn = slice_set it.worn to false } ≡ it
+    → NoneExhausted it nodes → record it { exhausted = slice_set it.exhausted to false } ≡ it
 off_same it to nodes left inside before =
-    ap (λ (marks : List Bool). record it { worn = marks }) (set_off it.worn to (worn_mark it to left (before to inside)))
+    ap (λ (marks : List Bool). record it { exhausted = marks }) (set_off it.exhausted to (exhausted_mark it to left (before to inside)))
 
--- a node that is worn out stays so
-worn_stays : (site : Site) (thread to many nodes : ℕ) (next : Node EndpointLocal) (it : CollectivesState)
-    → is_left it.me to (progress_of it) ≡ true → to < nodes → nodes ≤ length it.worn
-    → Same it nodes (step_from site thread (suc to) many next (record it { worn = slice_set it.worn to true }))
-worn_stays site thread to many nodes next it left inside long quiet after =
-    let there : CollectivesState = record it { worn = slice_set it.worn to true } in
+-- a node that is exhausted out stays so
+exhausted_stays : (site : Site) (thread to many nodes : ℕ) (next : Node EndpointLocal) (it : CollectivesState)
+    → is_left it.me to (progress_of it) ≡ true → to < nodes → nodes ≤ length it.exhausted
+    → Same it nodes (step_from site thread (suc to) many next (record it { exhausted = slice_set it.exhausted to true }))
+exhausted_stays site thread to many nodes next it left inside long quiet after =
+    let there : CollectivesState = record it { exhausted = slice_set it.exhausted to true } in
     let end = (step_from site thread (suc to) many next there).next in
     let at = below site thread (suc to) many next there to (omega arith) in
-    let low : to < length it.worn = omega (arith, inside, long) in
-    let mark : has end.worn to ≡ true = at.worn ∙ set_there it.worn to true low in
+    let low : to < length it.exhausted = omega (arith, inside, long) in
+    let mark : has end.exhausted to ≡ true = at.exhausted ∙ set_there it.exhausted to true low in
     let left_there : is_left end.me to (progress_of end) ≡ true = left_same there end to at ∙ left in
-    absurd (true≢false (sym mark ∙ worn_mark end to left_there (after to inside)))
+    absurd (true≢false (sym mark ∙ exhausted_mark end to left_there (after to inside)))
 
 answered_same : (site : Site) (thread to many nodes : ℕ) (node : Node EndpointLocal) (it : CollectivesState)
-    → to + suc many ≡ nodes → nodes ≤ length it.worn → AllUnworn it nodes → SameFrom site thread (suc to) many nodes
+    → to + suc many ≡ nodes → nodes ≤ length it.exhausted → NoneExhausted it nodes → SameFrom site thread (suc to) many nodes
     → is_left it.me to (progress_of it) ≡ true → (a : Asked)
     → Same it nodes (asked_from site thread to many node it (Some (asked_answer a)))
 answered_same site thread to many nodes node it count long before deeper left (asked.Accepted peer slot number) quiet after =
     absurd (true≢false (sym quiet))
 answered_same site thread to many nodes node it count long before deeper left (asked.Forbidden why) quiet after =
     absurd (true≢false (sym quiet))
-answered_same site thread to many nodes node it count long before deeper left asked.WornOut quiet after =
-    worn_stays site thread to many nodes (node_then site node (step_call it thread to)) it left
+answered_same site thread to many nodes node it count long before deeper left asked.Exhausted quiet after =
+    exhausted_stays site thread to many nodes (node_then site node (step_call it thread to)) it left
     (omega (arith, count)) long quiet after
 answered_same site thread to many nodes node it count long before deeper left asked.Ran quiet after =
     on_same site thread (suc to) many nodes (node_then site node (step_call it thread to)) it
-    (record it { worn = slice_set it.worn to false }) (omega (arith, count)) long before deeper
+    (record it { exhausted = slice_set it.exhausted to false }) (omega (arith, count)) long before deeper
     (off_same it to nodes left (omega (arith, count)) before) quiet after
 answered_same site thread to many nodes node it count long before deeper left (asked.BadArg fault) quiet after =
     on_same site thread (suc to) many nodes (node_then site node (step_call it thread to)) it
-    (record it { worn = slice_set it.worn to false }) (omega (arith, count)) long before deeper
+    (record it { exhausted = slice_set it.exhausted to false }) (omega (arith, count)) long before deeper
     (off_same it to nodes left (omega (arith, count)) before) quiet after
 answered_same site thread to many nodes node it count long before deeper left (asked.LockBusy lock) quiet after =
     on_same site thread (suc to) many nodes (node_then site node (step_call it thread to)) it
-    (record it { worn = slice_set it.worn to false }) (omega (arith, count)) long before deeper
+    (record it { exhausted = slice_set it.exhausted to false }) (omega (arith, count)) long before deeper
     (off_same it to nodes left (omega (arith, count)) before) quiet after
 answered_same site thread to many nodes node it count long before deeper left asked.NotYet quiet after =
     on_same site thread (suc to) many nodes (node_then site node (step_call it thread to)) it
-    (record it { worn = slice_set it.worn to false }) (omega (arith, count)) long before deeper
+    (record it { exhausted = slice_set it.exhausted to false }) (omega (arith, count)) long before deeper
     (off_same it to nodes left (omega (arith, count)) before) quiet after
 
 left_is_same : (site : Site) (thread to many nodes : ℕ) (node : Node EndpointLocal) (it : CollectivesState)
-    → to + suc many ≡ nodes → nodes ≤ length it.worn → AllUnworn it nodes → SameFrom site thread (suc to) many nodes
+    → to + suc many ≡ nodes → nodes ≤ length it.exhausted → NoneExhausted it nodes → SameFrom site thread (suc to) many nodes
     → (left : Bool) → is_left it.me to (progress_of it) ≡ left
     → Same it nodes (from_left site thread to many node it left)
 left_is_same site thread to many nodes node it count long before deeper false is =
@@ -225,7 +225,7 @@ steps_same site thread to (suc many) nodes node it count long before quiet after
     (is_left it.me to (progress_of it)) refl quiet after
 
 pub step_same : (site : Site) (thread : ℕ) (node : Node EndpointLocal) (it : CollectivesState)
-    → it.area.nodes ≤ length it.worn → AllUnworn it it.area.nodes
+    → it.area.nodes ≤ length it.exhausted → NoneExhausted it it.area.nodes
     → Same it it.area.nodes (step_outcome site thread node it)
 step_same site thread node it long before = by_open (is_open (progress_of it))
   where

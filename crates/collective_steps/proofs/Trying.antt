@@ -16,7 +16,7 @@ use Rattle.gas_endpoint.specs.EndpointState.{EndpointState, EndpointStands, ForI
 use Rattle.node_caller.specs.Sites.{node_in_the_end}
 use Rattle.node_runs.specs.Scripts.{TryContext}
 use Rattle.node_runs.specs.declared.script_answer.ScriptAnswer.TheVariants as said
-use Rattle.collective_steps.specs.Outcomes.{end_outcome, is_nothing, is_started, is_unworn, sent_by, start_ends}
+use Rattle.collective_steps.specs.Outcomes.{end_outcome, is_nothing, is_started, is_unexhausted, sent_by, start_ends}
 use Rattle.collective_steps.specs.Outcomes.{start_outcome, step_ends, step_outcome}
 use Rattle.collective_steps.specs.Parts.{end_asked, end_part, first_part, later_part, site_of, start_asked, start_part}
 use Rattle.collective_steps.specs.Parts.{step_part}
@@ -130,7 +130,7 @@ pub later_tried : (meaning : Meaning) (old mid new : EndpointState) (at : AtThre
     → step_ends told ≡ None
     → ForItsRecord old (λ node. let here = context_at meaning old at in
     IsPartTried here node (later_part here dest node it) it
-    (went_on (sent_by last) (is_nothing told && is_unworn it) answer) next new)
+    (went_on (sent_by last) (is_nothing told && is_unexhausted it) answer) next new)
 later_tried meaning old mid new at it between next dest told last answer lawful good same_node same comes ends none =
     λ node stands.
     let here = context_at meaning old at in

@@ -10,7 +10,7 @@ use Rattle.endpoint_rules.specs.Sends.{sends}
 use Rattle.endpoint_rules.specs.declared.answer.Answer.{Answer}
 use Rattle.gas_collectives.specs.CollectivesState.{CollectivesState, progress_of}
 use Rattle.gas_collectives.specs.Ends.{EndAsked, end_calls, ended_then, segment_in, tried_answer}
-use Rattle.gas_collectives.specs.Progress.{end_refusal, is_left, is_open, start_refusal, worn_node}
+use Rattle.gas_collectives.specs.Progress.{end_refusal, is_left, is_open, start_refusal, exhausted_node}
 use Rattle.gas_collectives.specs.Starts.{StartAsked, start_call, start_told, started_then}
 use Rattle.gas_collectives.specs.Steps.{noted, step_call, step_told}
 use Rattle.gas_collectives.specs.declared.answers.EndAnswer.{EndAnswer}
@@ -127,10 +127,10 @@ abbrev pub is_nothing : StepAnswer → Bool
 is_nothing steps.Nothing = true
 is_nothing answer = false
 
--- no node that wasn't sent to is known to be worn out
-abbrev pub is_unworn : CollectivesState → Bool
-is_unworn it = is_none (worn_node it.area it.me (progress_of it))
+-- no node that wasn't sent to is known to be exhausted out
+abbrev pub is_unexhausted : CollectivesState → Bool
+is_unexhausted it = is_none (exhausted_node it.area it.me (progress_of it))
 
 -- a step that changed nothing where the phase isn't ended: it sent nothing, and no mark of a node was there to change
 abbrev pub is_quiet : CollectivesState → StepAnswer → Bool
-is_quiet it answer = is_nothing answer && is_unworn it
+is_quiet it answer = is_nothing answer && is_unexhausted it

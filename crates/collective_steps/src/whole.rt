@@ -45,10 +45,10 @@ fn step_ends(answer: StepAnswer) -> Option<StepAnswer>
 }
 
 /// Whether a step changed nothing where the phase isn't ended: it sent nothing, and no mark of a node was there.
-fn is_quiet(answer: StepAnswer, unworn: bool) -> bool
-    ensures { result ≡ (is_nothing answer && unworn) }
+fn is_quiet(answer: StepAnswer, unexhausted: bool) -> bool
+    ensures { result ≡ (is_nothing answer && unexhausted) }
 {
-    matches!(answer, StepAnswer::Nothing) && unworn
+    matches!(answer, StepAnswer::Nothing) && unexhausted
 }
 
 /// The answer of the collective, where a try to end ends it.
@@ -127,7 +127,7 @@ pub fn go_on_whole<H: Handlers>(
         IsPartTried here node (later_part here dest node collectives.old) collectives.old result
         collectives.new endpoint.new) }
 {
-    let unworn = collectives.is_unworn();
+    let unexhausted = collectives.is_unexhausted();
     let (answer, last) = step(endpoint, handlers, collectives, at);
     let sent = sent_by(&last);
     if let Some(end) = step_ends(answer) {
@@ -137,7 +137,7 @@ pub fn go_on_whole<H: Handlers>(
             moved: true,
         };
     }
-    let quiet = is_quiet(answer, unworn);
+    let quiet = is_quiet(answer, unexhausted);
     let ended = end(endpoint, handlers, collectives, at, dest);
     went_on(sent, quiet, ended)
 }

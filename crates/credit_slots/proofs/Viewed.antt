@@ -13,7 +13,7 @@ use Rattle.lists.proofs.Update.{length-update, slice_get-update, slice_get-updat
 use Rattle.lists.proofs.Cut.{get-part, get-cut, length-cut, length-part, count-inside, cut-update, sum-cut}
 use Rattle.slot_table.specs.TableState.{TableState, slot_in, slots_of, place_of, with_change, opened_time}
 use Rattle.credit_slots.specs.SlotsState.{SlotState, Vacant, Opened, Sealed, is_vacant, is_taken, PeerState, SlotsState}
-use Rattle.credit_slots.specs.SlotsState.{slot_at, slot_count, vacant_count, held_count, is_worn_out}
+use Rattle.credit_slots.specs.SlotsState.{slot_at, slot_count, vacant_count, held_count, is_exhausted}
 use Rattle.credit_slots.specs.SlotsState.{with_slot_changed, with_given, with_written, sealed, CanClaim}
 use Rattle.credit_slots.specs.Views.{peers_of, credits_view, Matches, IsCredits}
 use Rattle.credit_slots.specs.declared.order.Due.{Due}
@@ -189,9 +189,9 @@ vacant-is last given table node same inside =
     ap (λ (found : Option PeerState). elim found as (λ _. ℕ) [ Some peer ↦ count_by is_vacant peer.slots | None ↦ 0 ])
     (peer-is last given table node number.0 same number.1)
 
-pub worn-is : (last : ℕ) (given : List ℕ) (table : TableState) (node number : ℕ) → length given ≡ length table.counts
-    → slice_get given node ≡ Some number → is_worn_out (credits_view last given table) node ≡ nat_le last number
-worn-is last given table node number same at =
+pub exhausted-is : (last : ℕ) (given : List ℕ) (table : TableState) (node number : ℕ) → length given ≡ length table.counts
+    → slice_get given node ≡ Some number → is_exhausted (credits_view last given table) node ≡ nat_le last number
+exhausted-is last given table node number same at =
     ap (λ (found : Option PeerState). elim found as (λ _. Bool) [ Some peer ↦ nat_le last peer.given | None ↦ true ])
     (peer-is last given table node number same at)
 

@@ -6,7 +6,7 @@ use Rattle.std.specs.Option.{option_map}
 use Rattle.std.proofs.Math.ListN.{replicate}
 use Rattle.lists.specs.Update.{update}
 use Rattle.credit_slots.specs.declared.NoClaim.{NoClaim}
-use Rattle.credit_slots.specs.declared.NoClaim.TheVariants.{WornOut, NotYet}
+use Rattle.credit_slots.specs.declared.NoClaim.TheVariants.{Exhausted, NotYet}
 pub use Rattle.slot_table.specs.TableState.{counts_of, SlotState, Vacant, Opened, Sealed, is_vacant, is_taken, IsOpened}
 pub use Rattle.slot_table.specs.TableState.{number_of, opened_bytes, message_number, message_of, refill, with_written}
 pub use Rattle.slot_table.specs.TableState.{sealed, sent_again, Claim}
@@ -89,7 +89,7 @@ with_request table to claim message =
 
 -- why a peer's request is refused: its numbers stand at the last one; else no slot is vacant
 abbrev pub Refuses : PeerState → ℕ → NoClaim → Type 0
-Refuses peer last WornOut = last ≤ peer.given
+Refuses peer last Exhausted = last ≤ peer.given
 Refuses peer last NotYet = (peer.given < last) × (position is_vacant peer.slots ≡ None)
 
 -- a number is left, and this is the lowest vacant slot
@@ -121,8 +121,8 @@ abbrev pub vacant_count : SlotsState → ℕ → ℕ
 vacant_count table to = elim (slice_get table.peers to) [ Some peer ↦ count_by is_vacant peer.slots | None ↦ 0 ]
 
 -- the node's numbers are all given
-abbrev pub is_worn_out : SlotsState → ℕ → Bool
-is_worn_out table to = elim (slice_get table.peers to) [ Some peer ↦ nat_le table.last peer.given | None ↦ true ]
+abbrev pub is_exhausted : SlotsState → ℕ → Bool
+is_exhausted table to = elim (slice_get table.peers to) [ Some peer ↦ nat_le table.last peer.given | None ↦ true ]
 
 -- how many slots of the peer are taken
 abbrev pub taken_count : PeerState → ℕ

@@ -32,11 +32,11 @@ use Rattle.node_record.specs.Invariant.{reply_message, request_message}
 use Rattle.node_record.specs.NodeStep.{Asks as NodeAsks, Does as NodeDoes, Comes, Ticks as NodeTicks}
 use Rattle.node_record.specs.NodeStep.{node_after, site_of}
 use Rattle.node_record.specs.Record.{Node, Request, Run}
-use Rattle.node_record.specs.Step.{Site, TickChoice, Resends, Sends, Rests, after_delivery, after_request, after_tick}
-use Rattle.node_record.specs.Step.{claim_answer, first_why, is_worn_out, own_answer, request_answer, request_fault}
+use Rattle.node_record.specs.Step.{Site, TickChoice, Retransmits, Sends, Rests, after_delivery, after_request, after_tick}
+use Rattle.node_record.specs.Step.{claim_answer, first_why, is_exhausted, own_answer, request_answer, request_fault}
 use Rattle.node_record.specs.Step.{said}
 use Rattle.node_record.specs.Step.{unless_bad, unless_refused, unless_waiting, tick_choice, verdict, with_sender}
-use Rattle.node_record.specs.Step.{Verdict, Refused, Repeated, Passed, Runs, Missed, Returns, Waits}
+use Rattle.node_record.specs.Step.{Verdict, Refused, Duplicated, Passed, Runs, Missed, Returns, Waits}
 use Rattle.node_record.specs.Step as step
 use Rattle.lists.specs.Numbered.{numbered}
 use Rattle.lists.specs.Put.{put}
@@ -50,8 +50,8 @@ use Rattle.am_core.specs.HandlerRuns.{run_reply, run_request}
 use Rattle.am_core.specs.Kept.{Local, start_of, with_writes}
 use Rattle.am_core.specs.Library.{is_library, library_outcome, library_refusal}
 use Rattle.put_get.specs.declared.operation.Mode.{Mode}
-use Rattle.put_get.specs.declared.operation.Some3.{Some3}
-use Rattle.put_get.specs.declared.operation.Some3.TheVariants as some
+use Rattle.put_get.specs.declared.operation.ImplicitKinds.{ImplicitKinds}
+use Rattle.put_get.specs.declared.operation.ImplicitKinds.TheVariants as some
 use Rattle.put_get.specs.declared.operation.Transfer.{Transfer}
 use Rattle.put_get.specs.declared.operation.Transfer.TheVariants as transfers
 use Rattle.endpoint_rules.specs.EndpointLocal.{EndpointLocal}
@@ -245,8 +245,8 @@ bad_harmless : (fault : Option Which) (answer : Asked) → IsHarmless answer →
 bad_harmless None answer is = is
 bad_harmless (Some part) answer is = tt
 
-claim_harmless : (worn full : Bool) (to slot number : ℕ)
-    → IsHarmless (cond worn asked.WornOut (cond full asked.NotYet (asked.Accepted to slot number)))
+claim_harmless : (exhausted full : Bool) (to slot number : ℕ)
+    → IsHarmless (cond exhausted asked.Exhausted (cond full asked.NotYet (asked.Accepted to slot number)))
 claim_harmless true full to slot number = tt
 claim_harmless false true to slot number = tt
 claim_harmless false false to slot number = tt
@@ -260,7 +260,7 @@ asked_same : (site : Site EndpointLocal) (node : Node EndpointLocal) (now : ℕ)
     → IsHarmless answer → (after_request site node now ask answer).local ≡ node.local
 asked_same site node now ask (asked.Accepted to slot number) is = refl
 asked_same site node now ask (asked.BadArg part) is = refl
-asked_same site node now ask asked.WornOut is = refl
+asked_same site node now ask asked.Exhausted is = refl
 asked_same site node now ask asked.NotYet is = refl
 asked_same site node now ask asked.Ran is = absurd is
 asked_same site node now ask (asked.Forbidden forbidden) is = absurd is
@@ -297,9 +297,9 @@ both_clean false a b h k = k
 
 abbrev caller : (me thread : ℕ) → Node EndpointLocal → Caller
 caller me thread node =
-    record { settings = drill_settings; me = me; thread = thread; worn = is_worn_out drill_settings node }
+    record { settings = drill_settings; me = me; thread = thread; exhausted = is_exhausted drill_settings node }
 
-sync_clean : (table : List (Option Entry)) (me : ℕ) (node : Node EndpointLocal) (now thread : ℕ) (some : Some3)
+sync_clean : (table : List (Option Entry)) (me : ℕ) (node : Node EndpointLocal) (now thread : ℕ) (some : ImplicitKinds)
     → IsClean node.local.core
     → IsClean (node_after (job table) me node now (NodeDoes thread (OnTransfers (SyncImplicit some)))).local.core
 sync_clean table me node now thread some clean =
@@ -336,7 +336,7 @@ second_none None b h = h
 second_none (Some reason) b h = absurd (cc)
 
 no_return : (same passed : Bool) (lock : Option ℕ)
-    → cond same Repeated (cond passed Passed (unless_waiting lock Runs)) ≡ Returns → ⊥
+    → cond same Duplicated (cond passed Passed (unless_waiting lock Runs)) ≡ Returns → ⊥
 no_return true passed lock h = cc
 no_return false true lock h = cc
 no_return false false None h = cc
@@ -381,7 +381,7 @@ came_by table me node message Runs right clean =
 came_by table me node message Returns right clean =
     take_clean table (with_sender me message) (content_of message) node.local.core (right refl) clean
 came_by table me node message (Refused reason) right clean = clean
-came_by table me node message Repeated right clean = clean
+came_by table me node message Duplicated right clean = clean
 came_by table me node message Passed right clean = clean
 came_by table me node message Missed right clean = clean
 came_by table me node message (Waits lock) right clean = clean
@@ -399,7 +399,7 @@ local_by false a b h k = k
 
 tick_by : (table : List (Option Entry)) (me : ℕ) (node : Node EndpointLocal) (now : ℕ) (choice : TickChoice)
     → IsClean node.local.core → IsClean (after_tick (site_of (job table) me) node now choice).local.core
-tick_by table me node now (Resends due) clean = clean
+tick_by table me node now (Retransmits due) clean = clean
 tick_by table me node now (Sends sending) clean = local_by _ _ _ clean clean
 tick_by table me node now Rests clean = clean
 
@@ -423,7 +423,7 @@ asked_world table w now node ask other all =
     put_clean w node (node_after (job table) node (w node) now (NodeAsks ask)) all
     (asks_clean table node (w node) now ask other (all node))
 
-sync_world : (table : List (Option Entry)) (w : Records) (now node thread : ℕ) (some : Some3) → AreClean w
+sync_world : (table : List (Option Entry)) (w : Records) (now node thread : ℕ) (some : ImplicitKinds) → AreClean w
     → AreClean (world_after (job table) w (timed now (Does node thread (OnTransfers (SyncImplicit some)))))
 sync_world table w now node thread some all =
     put_clean w node (node_after (job table) node (w node) now (NodeDoes thread (OnTransfers (SyncImplicit some)))) all

@@ -36,7 +36,7 @@ use Rattle.world_run.specs.RunText.{world_words}
 use Rattle.drill_run.specs.Counting.{asked_as, delivered_as, ticked_as, counted_by, is_counted}
 use Rattle.drill_run.specs.Summary.{begins_with, counted_word}
 use Rattle.drill_run.specs.declared.counts.Counted.{Counted}
-use Rattle.drill_run.specs.declared.counts.Counted.TheVariants.{Accepted, Chunk, Resend, Ran, Again, Stale, Returned}
+use Rattle.drill_run.specs.declared.counts.Counted.TheVariants.{Accepted, Chunk, Retransmission, Ran, Duplicate, Stale, Returned}
 use Rattle.drill_run.specs.declared.counts.Counted.TheVariants.{Late, NotYet, Unsent}
 
 -- these words begin with a word exactly where it is the one by which they are counted
@@ -44,13 +44,13 @@ abbrev pub AreCountedAs : Line → Option Counted → Type 0
 AreCountedAs words counted = (word : Counted) → begins_with (counted_word word) words ≡ is_counted word counted
 
 -- what holds of each word that is counted holds of any
-each : (P : Counted → Type 0) → P Accepted → P Chunk → P Resend → P Ran → P Again → P Stale → P Returned → P Late
+each : (P : Counted → Type 0) → P Accepted → P Chunk → P Retransmission → P Ran → P Duplicate → P Stale → P Returned → P Late
     → P NotYet → P Unsent → (word : Counted) → P word
 each P a b c d e f g h i j Accepted = a
 each P a b c d e f g h i j Chunk = b
-each P a b c d e f g h i j Resend = c
+each P a b c d e f g h i j Retransmission = c
 each P a b c d e f g h i j Ran = d
-each P a b c d e f g h i j Again = e
+each P a b c d e f g h i j Duplicate = e
 each P a b c d e f g h i j Stale = f
 each P a b c d e f g h i j Returned = g
 each P a b c d e f g h i j Late = h
@@ -63,13 +63,13 @@ asked_counted asked.Ran = each _ refl refl refl refl refl refl refl refl refl re
 asked_counted (asked.BadArg part) = each _ refl refl refl refl refl refl refl refl refl refl
 asked_counted (asked.Forbidden rule) = each _ refl refl refl refl refl refl refl refl refl refl
 asked_counted (asked.LockBusy lock) = each _ refl refl refl refl refl refl refl refl refl refl
-asked_counted asked.WornOut = each _ refl refl refl refl refl refl refl refl refl refl
+asked_counted asked.Exhausted = each _ refl refl refl refl refl refl refl refl refl refl
 asked_counted asked.NotYet = each _ refl refl refl refl refl refl refl refl refl refl
 
 delivered_counted : (answer : Delivered) → AreCountedAs (delivered_words answer) (delivered_as answer)
 delivered_counted (delivered.Ran at) = each _ refl refl refl refl refl refl refl refl refl refl
 delivered_counted (delivered.Noted at note) = each _ refl refl refl refl refl refl refl refl refl refl
-delivered_counted (delivered.Again at) = each _ refl refl refl refl refl refl refl refl refl refl
+delivered_counted (delivered.Duplicate at) = each _ refl refl refl refl refl refl refl refl refl refl
 delivered_counted delivered.Stale = each _ refl refl refl refl refl refl refl refl refl refl
 delivered_counted (delivered.Returned to slot number) = each _ refl refl refl refl refl refl refl refl refl refl
 delivered_counted delivered.Late = each _ refl refl refl refl refl refl refl refl refl refl
@@ -78,7 +78,7 @@ delivered_counted (delivered.Refused reason) = each _ refl refl refl refl refl r
 
 ticked_counted : (numbers : SlotRef → ℕ) (answer : Ticked)
     → AreCountedAs (ticked_words numbers answer) (ticked_as answer)
-ticked_counted numbers (ticked.Resend at) = each _ refl refl refl refl refl refl refl refl refl refl
+ticked_counted numbers (ticked.Retransmission at) = each _ refl refl refl refl refl refl refl refl refl refl
 ticked_counted numbers (ticked.Note at) = each _ refl refl refl refl refl refl refl refl refl refl
 ticked_counted numbers (ticked.Chunk at) = each _ refl refl refl refl refl refl refl refl refl refl
 ticked_counted numbers ticked.Nothing = each _ refl refl refl refl refl refl refl refl refl refl
@@ -114,7 +114,7 @@ synced_counted synced.Ok = each _ refl refl refl refl refl refl refl refl refl r
 synced_counted synced.NotReady = each _ refl refl refl refl refl refl refl refl refl refl
 synced_counted synced.NotYours = each _ refl refl refl refl refl refl refl refl refl refl
 synced_counted synced.BadHandle = each _ refl refl refl refl refl refl refl refl refl refl
-synced_counted (synced.WornOut node) = each _ refl refl refl refl refl refl refl refl refl refl
+synced_counted (synced.Exhausted node) = each _ refl refl refl refl refl refl refl refl refl refl
 
 region_counted : (answer : Region) → AreCountedAs (region_words answer) None
 region_counted region.Begun = each _ refl refl refl refl refl refl refl refl refl refl
@@ -128,7 +128,7 @@ notified_counted : (answer : Notified) → AreCountedAs (notified_words answer) 
 notified_counted notified.Ok = each _ refl refl refl refl refl refl refl refl refl refl
 notified_counted notified.BadFlags = each _ refl refl refl refl refl refl refl refl refl refl
 notified_counted notified.Twice = each _ refl refl refl refl refl refl refl refl refl refl
-notified_counted notified.WornOut = each _ refl refl refl refl refl refl refl refl refl refl
+notified_counted notified.Exhausted = each _ refl refl refl refl refl refl refl refl refl refl
 
 barrier_counted : (answer : BarrierAnswer) → AreCountedAs (barrier_words answer) None
 barrier_counted barrier.Ok = each _ refl refl refl refl refl refl refl refl refl refl
@@ -136,7 +136,7 @@ barrier_counted barrier.Mismatch = each _ refl refl refl refl refl refl refl ref
 barrier_counted barrier.NotReady = each _ refl refl refl refl refl refl refl refl refl refl
 barrier_counted barrier.NoNotify = each _ refl refl refl refl refl refl refl refl refl refl
 barrier_counted barrier.BadFlags = each _ refl refl refl refl refl refl refl refl refl refl
-barrier_counted (barrier.WornOut node) = each _ refl refl refl refl refl refl refl refl refl refl
+barrier_counted (barrier.Exhausted node) = each _ refl refl refl refl refl refl refl refl refl refl
 
 local_counted : (segment : List ℕ) (answer : LocalAnswer) → AreCountedAs (local_words segment answer) None
 local_counted segment local.Done = each _ refl refl refl refl refl refl refl refl refl refl

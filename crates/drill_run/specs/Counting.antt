@@ -21,9 +21,9 @@ use Rattle.drill_run.specs.declared.counts.Counted.TheVariants as counted
 abbrev pub place_of : Counted → ℕ
 place_of counted.Accepted = 0
 place_of counted.Chunk = 1
-place_of counted.Resend = 2
+place_of counted.Retransmission = 2
 place_of counted.Ran = 3
-place_of counted.Again = 4
+place_of counted.Duplicate = 4
 place_of counted.Stale = 5
 place_of counted.Returned = 6
 place_of counted.Late = 7
@@ -54,7 +54,7 @@ asked_as _ = None
 abbrev pub delivered_as : Delivered → Option Counted
 delivered_as (delivered.Ran at) = Some counted.Ran
 delivered_as (delivered.Noted at note) = Some counted.Ran
-delivered_as (delivered.Again at) = Some counted.Again
+delivered_as (delivered.Duplicate at) = Some counted.Duplicate
 delivered_as delivered.Stale = Some counted.Stale
 delivered_as (delivered.Returned to slot number) = Some counted.Returned
 delivered_as delivered.Late = Some counted.Late
@@ -62,7 +62,7 @@ delivered_as _ = None
 
 -- that to a tick
 abbrev pub ticked_as : Ticked → Option Counted
-ticked_as (ticked.Resend at) = Some counted.Resend
+ticked_as (ticked.Retransmission at) = Some counted.Retransmission
 ticked_as (ticked.Chunk at) = Some counted.Chunk
 ticked_as _ = None
 

@@ -8,7 +8,7 @@ use Rattle.handler_rules.specs.declared.rules.Role.TheVariants as role
 use Rattle.gas_world.specs.Settling.{WorldJob}
 use Rattle.job_text.specs.declared.job.Action.TheVariants as action
 use Rattle.job_text.specs.declared.job.HandlerText.{HandlerText}
-use Rattle.put_get.specs.declared.operation.Some3.TheVariants as implicit
+use Rattle.put_get.specs.declared.operation.ImplicitKinds.TheVariants as implicit
 use Rattle.job_text.specs.declared.job.Job.{Job as JobState}
 use Rattle.job_text.specs.declared.job.Operand.TheVariants as operand
 use Rattle.job_text.specs.declared.job.ReplyAction.TheVariants as reply

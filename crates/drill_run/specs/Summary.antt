@@ -28,9 +28,9 @@ drill_answers seed = answers_to (world_job (drill_job seed)) (drill_schedule see
 abbrev pub counted_word : Counted → Word
 counted_word counted.Accepted = codes "accepted"
 counted_word counted.Chunk = codes "chunk"
-counted_word counted.Resend = codes "resend"
+counted_word counted.Retransmission = codes "resend"
 counted_word counted.Ran = codes "ran"
-counted_word counted.Again = codes "again"
+counted_word counted.Duplicate = codes "again"
 counted_word counted.Stale = codes "stale"
 counted_word counted.Returned = codes "returned"
 counted_word counted.Late = codes "late"
@@ -40,7 +40,7 @@ counted_word counted.Unsent = codes "unsent"
 -- in the order in which they are told
 unfoldable pub all_counted : List Counted
 all_counted =
-    counted.Accepted ∷ counted.Chunk ∷ counted.Resend ∷ counted.Ran ∷ counted.Again ∷ counted.Stale ∷ counted.Returned
+    counted.Accepted ∷ counted.Chunk ∷ counted.Retransmission ∷ counted.Ran ∷ counted.Duplicate ∷ counted.Stale ∷ counted.Returned
     ∷ counted.Late ∷ counted.NotYet ∷ counted.Unsent ∷ []
 
 -- the words begin with this one

@@ -20,11 +20,11 @@ pub enum Counted {
     /// A tick sent a chunk of a transfer.
     Chunk,
     /// A tick sent a request again.
-    Resend,
+    Retransmission,
     /// A request ran.
     Ran,
     /// A request had run before.
-    Again,
+    Duplicate,
     /// A request of an earlier number.
     Stale,
     /// A reply brought its request back.
@@ -45,9 +45,9 @@ impl Counted {
     pub const ALL: [Counted; WORDS] = [
         Counted::Accepted,
         Counted::Chunk,
-        Counted::Resend,
+        Counted::Retransmission,
         Counted::Ran,
-        Counted::Again,
+        Counted::Duplicate,
         Counted::Stale,
         Counted::Returned,
         Counted::Late,
@@ -62,9 +62,9 @@ impl Counted {
         match self {
             Counted::Accepted => b"accepted",
             Counted::Chunk => b"chunk",
-            Counted::Resend => b"resend",
+            Counted::Retransmission => b"resend",
             Counted::Ran => b"ran",
-            Counted::Again => b"again",
+            Counted::Duplicate => b"again",
             Counted::Stale => b"stale",
             Counted::Returned => b"returned",
             Counted::Late => b"late",
@@ -105,7 +105,7 @@ fn of_delivered(delivered: &Delivered) -> Option<Counted>
 {
     match delivered {
         Delivered::Ran(_) | Delivered::Noted(_, _) => Some(Counted::Ran),
-        Delivered::Again(_) => Some(Counted::Again),
+        Delivered::Duplicate(_) => Some(Counted::Duplicate),
         Delivered::Stale => Some(Counted::Stale),
         Delivered::Returned { .. } => Some(Counted::Returned),
         Delivered::Late => Some(Counted::Late),
@@ -118,7 +118,7 @@ fn of_ticked(ticked: &Ticked) -> Option<Counted>
     ensures { result ≡ ticked_as ticked.now }
 {
     match ticked {
-        Ticked::Resend(_) => Some(Counted::Resend),
+        Ticked::Retransmission(_) => Some(Counted::Retransmission),
         Ticked::Chunk(_) => Some(Counted::Chunk),
         _ => None,
     }

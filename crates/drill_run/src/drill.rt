@@ -30,7 +30,7 @@ use gas_outside::{BufferedSink, Sink};
 use gas_world::{World, WorldAnswer, WorldEvent};
 use job_text::{JobFault, read_job};
 use node_script::Script;
-use put_get::{Some3, Transfer};
+use put_get::{ImplicitKinds, Transfer};
 use std::alloc::{AllocError, Global};
 use world_run::{RunEnd, Said, any_violation};
 
@@ -145,7 +145,9 @@ fn run_put(
     let tried = WorldEvent::Call {
         node: round.from,
         thread: 0,
-        call: Call::SyncImplicit { which: Some3::All },
+        call: Call::SyncImplicit {
+            which: ImplicitKinds::All,
+        },
     };
     run_event(world, counts, script, now, &tried)?;
     let transfer = Transfer::Put {

@@ -7,7 +7,7 @@
 //!   of the journal, whatever their order was.
 //! - `Held` is what lies under that lock: the station with the book of a ledger, in which each entry is counted.
 //!
-//! The trait of machines and entries are of the crate `machine`; links, clocks and gates of `gas_outside`.
+//! The trait of machines and entries are of the crate `machine`; links, clocks and waiters of `gas_outside`.
 //!
 //! What is proved, by the names of clauses (in `src/`) and definitions (in `specs/`):
 //!
@@ -34,7 +34,7 @@
 //!   clauses of `Station::turn`: what a turn makes of the count of quiet turns is in `goes`; where the count is
 //!   `patience`, and no end is kept, the turn ends as `Over` or `Stuck` [`spent`].
 //!
-//! Not claimed: that a thread runs, that the threads take turns fairly, which of them took how many, that the gate is
+//! Not claimed: that a thread runs, that the threads take turns fairly, which of them took how many, that the waiter is
 //! called. That memory ran out where `NoMemory` is told isn't proved.
 #![tactic(auto)]
 

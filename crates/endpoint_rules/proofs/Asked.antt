@@ -142,7 +142,7 @@ returns_back asked from slot number one here in_slot peer any request at =
       ],
     )
 
--- the reply of a call on the own node has the number 0, which no request has
+-- the reply of a call on the local node has the number 0, which no request has
 pub returns_none : (asked : ℕ → List Request) (from slot : ℕ) → Returns from slot 0 asked asked
 returns_none asked from slot peer any request at = (
   request,

@@ -50,7 +50,7 @@ use Rattle.endpoint_rules.specs.TransferCalls.{begin_says, after_beginning, impl
 use Rattle.endpoint_rules.specs.TransferCalls.{transfer_fault}
 use Rattle.endpoint_rules.specs.TransferCalls.{transfer_kind, is_at_once, begun_as, unless_bad, own_write}
 use Rattle.endpoint_rules.specs.TransferCalls.{written_at_once}
-use Rattle.endpoint_rules.specs.BarrierCalls.{BarrierCall, Notify, TryBarrier, barrier_does, identifier, worn_out_for}
+use Rattle.endpoint_rules.specs.BarrierCalls.{BarrierCall, Notify, TryBarrier, barrier_does, identifier, exhausted_for}
 use Rattle.endpoint_rules.specs.EndpointRules.{OtherCall, OnCore, OnTransfers, OnBarrier, endpoint_rules, does_call}
 use Rattle.endpoint_rules.specs.EndpointRules.{unless_forbidden}
 use Rattle.endpoint_rules.proofs.Frames.{transfer_framed}
@@ -244,7 +244,7 @@ transfer_kept caller (SyncAll registers) local good =
     record {
       core = good.core;
       operations = left_kept caller.settings caller.me local.operations (members_of handles local.operations)
-          (all_answer caller.worn caller.thread handles local.operations) good.operations;
+          (all_answer caller.exhausted caller.thread handles local.operations) good.operations;
       barrier = good.barrier;
     }
 transfer_kept caller (SyncSome registers) local good =
@@ -252,7 +252,7 @@ transfer_kept caller (SyncSome registers) local good =
     record {
       core = good.core;
       operations = left_kept caller.settings caller.me local.operations (whole_of handles local.operations)
-          (some_answer caller.worn caller.thread handles local.operations) good.operations;
+          (some_answer caller.exhausted caller.thread handles local.operations) good.operations;
       barrier = good.barrier;
     }
 transfer_kept caller (SyncImplicit some) local good =
@@ -261,7 +261,7 @@ transfer_kept caller (SyncImplicit some) local good =
       | inr outside ↦ rw outside (record {
         core = good.core;
         operations = left_kept caller.settings caller.me local.operations (implicit_of caller.thread some)
-            (implicit_answer caller.worn caller.thread some local.operations) good.operations;
+            (implicit_answer caller.exhausted caller.thread some local.operations) good.operations;
         barrier = good.barrier;
       })
     ]
@@ -284,7 +284,7 @@ barrier_kept caller (Notify id flags) barrier good =
     (stays_within.1 caller.settings.nodes barrier good).notify (identifier id) flags (identifier_fits id)
 barrier_kept caller (TryBarrier id flags) barrier good =
     (stays_within.1 caller.settings.nodes barrier good).tried caller.me
-    (record { id = identifier id; flags = flags; worn = worn_out_for caller barrier })
+    (record { id = identifier id; flags = flags; exhausted = exhausted_for caller barrier })
 
 -- ---- every call
 
@@ -301,24 +301,24 @@ judged_kept settings table meaning me thread (Err forbidden) local outcome good 
   barrier = good.barrier;
 }
 
-pub calls_kept : (settings : Parameters) (table : List (Option Entry)) (meaning : Meaning) (me : ℕ) (worn : ℕ → Bool)
+pub calls_kept : (settings : Parameters) (table : List (Option Entry)) (meaning : Meaning) (me : ℕ) (exhausted : ℕ → Bool)
     (thread : ℕ) (call : OtherCall) (local : EndpointLocal) → IsEndpointKept settings me local
     → IsEndpointKept settings me
     (does_call (endpoint_rules settings table meaning) (rules settings table meaning)
-    (record { settings = settings; me = me; thread = thread; worn = worn }) call local).1
-calls_kept settings table meaning me worn thread (OnCore call) local good = record {
+    (record { settings = settings; me = me; thread = thread; exhausted = exhausted }) call local).1
+calls_kept settings table meaning me exhausted thread (OnCore call) local good = record {
   core = call_kept settings (rules settings table meaning) me thread call local.core
       (λ forbidden. record { writes = good.core.writes; locks = good.core.locks }) good.core;
   operations = good.operations;
   barrier = good.barrier;
 }
-calls_kept settings table meaning me worn thread (OnTransfers call) local good =
-    let caller : Caller = record { settings = settings; me = me; thread = thread; worn = worn } in
+calls_kept settings table meaning me exhausted thread (OnTransfers call) local good =
+    let caller : Caller = record { settings = settings; me = me; thread = thread; exhausted = exhausted } in
     judged_kept settings table meaning me thread
     ((endpoint_rules settings table meaning).judges thread (transfer_kind call) local) local
     (transfer_does caller call local) good (transfer_kept caller call local good)
-calls_kept settings table meaning me worn thread (OnBarrier call) local good =
-    let caller : Caller = record { settings = settings; me = me; thread = thread; worn = worn } in
+calls_kept settings table meaning me exhausted thread (OnBarrier call) local good =
+    let caller : Caller = record { settings = settings; me = me; thread = thread; exhausted = exhausted } in
     judged_kept settings table meaning me thread
     ((endpoint_rules settings table meaning).judges thread kinds.Barrier local) local _ good
     (record {

@@ -133,5 +133,5 @@ rules_sound settings table meaning range lawful = record {
     runs_as = λ content place. told_run settings.version content place;
     sends_as = told_sent;
   };
-  does = λ me worn thread call local good. calls_kept settings table meaning me worn thread call local good;
+  does = λ me exhausted thread call local good. calls_kept settings table meaning me exhausted thread call local good;
 }

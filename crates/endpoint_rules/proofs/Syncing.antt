@@ -13,7 +13,7 @@ use Rattle.put_get.specs.declared.operation.Synced.{Synced}
 use Rattle.put_get.specs.declared.operation.Synced.TheVariants as synced
 use Rattle.put_get.specs.declared.operation.Transfer.{Transfer}
 use Rattle.put_get.specs.Operation.{Operation, is_complete, is_full}
-use Rattle.put_get.specs.Syncs.{Choice, chosen, left_by, sync_answer, worn_of, worn_or, members, members_of}
+use Rattle.put_get.specs.Syncs.{Choice, chosen, left_by, sync_answer, exhausted_of, exhausted_or, members, members_of}
 use Rattle.put_get.specs.Syncs.{members_answer}
 use Rattle.put_get.specs.Syncs.{handle_answer, after_handle, is_empty, is_other, implicit_of, implicit_answer}
 use Rattle.put_get.specs.Syncs.{unless_fault}
@@ -37,15 +37,15 @@ complete_by choice operations all zero operation at is = absurd (none_some at)
 complete_by choice operations all (suc place) operation at is =
     chosen_complete choice 1 operations place operation all at (ap (λ n. choice n operation) (omega arith) ∙ is)
 
-pub not_worn : (worn : Option ℕ) → worn_or worn ≡ synced.Ok → ⊥
-not_worn None e = cc
-not_worn (Some node) e = cc
+pub not_exhausted : (exhausted : Option ℕ) → exhausted_or exhausted ≡ synced.Ok → ⊥
+not_exhausted None e = cc
+not_exhausted (Some node) e = cc
 
-pub sync_all : (worn : ℕ → Bool) (operations : List Operation) → sync_answer worn operations ≡ synced.Ok
+pub sync_all : (exhausted : ℕ → Bool) (operations : List Operation) → sync_answer exhausted operations ≡ synced.Ok
     → list_all is_complete operations ≡ true
-sync_all worn operations e = elim (cases_Bool (list_all is_complete operations)) [
+sync_all exhausted operations e = elim (cases_Bool (list_all is_complete operations)) [
   | inl all ↦ all
-  | inr some ↦ absurd (not_worn (worn_of worn operations) (rw some at e))
+  | inr some ↦ absurd (not_exhausted (exhausted_of exhausted operations) (rw some at e))
 ]
 
 pub bad_handle : synced.BadHandle ≡ synced.Ok → ⊥
@@ -54,13 +54,13 @@ bad_handle e = cc
 pub not_yours : synced.NotYours ≡ synced.Ok → ⊥
 not_yours e = cc
 
-members_all : (worn : ℕ → Bool) (thread : ℕ) (operations : List Operation)
-    → members_answer worn thread operations ≡ synced.Ok → list_all is_complete operations ≡ true
-members_all worn thread operations e = elim (cases_Bool (is_empty operations)) [
+members_all : (exhausted : ℕ → Bool) (thread : ℕ) (operations : List Operation)
+    → members_answer exhausted thread operations ≡ synced.Ok → list_all is_complete operations ≡ true
+members_all exhausted thread operations e = elim (cases_Bool (is_empty operations)) [
   | inl none ↦ absurd (bad_handle (rw none at e))
   | inr some ↦ elim (cases_Bool (list_any (is_other thread) operations)) [
     | inl foreign ↦ absurd (not_yours (rw (some, foreign) at e))
-    | inr own ↦ sync_all worn operations (rw (some, own) at e)
+    | inr own ↦ sync_all exhausted operations (rw (some, own) at e)
   ]
 ]
 
@@ -108,14 +108,14 @@ left_tracks version asked operations choice synced.Ok all tracks =
     tracks_go version asked operations choice (all refl) tracks
 left_tracks version asked operations choice _ all tracks = tracks
 
-handle_tracks : (version : ℕ) (asked : ℕ → List Request) (operations : List Operation) (worn : ℕ → Bool)
+handle_tracks : (version : ℕ) (asked : ℕ → List Request) (operations : List Operation) (exhausted : ℕ → Bool)
     (thread handle : ℕ) → Tracks version asked operations
-    → Tracks version asked (after_handle (handle_answer worn thread handle operations) handle operations)
-handle_tracks version asked operations worn thread handle tracks = elim (cases_Bool (handle == 0)) [
+    → Tracks version asked (after_handle (handle_answer exhausted thread handle operations) handle operations)
+handle_tracks version asked operations exhausted thread handle tracks = elim (cases_Bool (handle == 0)) [
   | inl invalid ↦ rw invalid tracks
   | inr valid ↦ rw valid (left_tracks version asked operations (members handle operations)
-      (members_answer worn thread (chosen (members handle operations) 1 operations))
-      (λ ok. complete_by (members handle operations) operations (members_all worn thread _ ok)) tracks)
+      (members_answer exhausted thread (chosen (members handle operations) 1 operations))
+      (λ ok. complete_by (members handle operations) operations (members_all exhausted thread _ ok)) tracks)
 ]
 
 begin_tracks : (version : ℕ) (asked : ℕ → List Request) (caller : Caller) (transfer : Transfer) (mode : Mode)
@@ -138,30 +138,30 @@ transfer_tracks version asked caller (BeginImplicit transfer) local tracks =
     begin_tracks version asked caller transfer (implicit_mode local.regions caller.thread)
     (begin_says caller transfer local.operations) local tracks
 transfer_tracks version asked caller (Sync register) local tracks =
-    handle_tracks version asked local.operations caller.worn caller.thread
+    handle_tracks version asked local.operations caller.exhausted caller.thread
     (handle_in local.registers register).serial tracks
 transfer_tracks version asked caller (SyncHandle handle) local tracks =
-    handle_tracks version asked local.operations caller.worn caller.thread handle.serial tracks
+    handle_tracks version asked local.operations caller.exhausted caller.thread handle.serial tracks
 transfer_tracks version asked caller (SyncAll registers) local tracks =
     let operations = local.operations in
     let handles = map (handle_in local.registers) registers in
     left_tracks version asked operations (members_of handles operations)
-    (all_answer caller.worn caller.thread handles operations)
+    (all_answer caller.exhausted caller.thread handles operations)
     (λ ok. complete_by (members_of handles operations) operations
-    (sync_all caller.worn (chosen (members_of handles operations) 1 operations)
+    (sync_all caller.exhausted (chosen (members_of handles operations) 1 operations)
     (faultless caller.thread operations handles _ ok))) tracks
 transfer_tracks version asked caller (SyncSome registers) local tracks =
     let operations = local.operations in
     let handles = map (handle_in local.registers) registers in
     left_tracks version asked operations (whole_of handles operations)
-    (some_answer caller.worn caller.thread handles operations) (λ ok. whole_complete handles operations) tracks
+    (some_answer caller.exhausted caller.thread handles operations) (λ ok. whole_complete handles operations) tracks
 transfer_tracks version asked caller (SyncImplicit some) local tracks =
     elim (cases_Bool (has_begun local.regions caller.thread)) [
       | inl inside ↦ rw inside tracks
       | inr outside ↦ rw outside (left_tracks version asked local.operations (implicit_of caller.thread some)
-          (implicit_answer caller.worn caller.thread some local.operations)
+          (implicit_answer caller.exhausted caller.thread some local.operations)
           (λ ok. complete_by (implicit_of caller.thread some) local.operations
-          (sync_all caller.worn (chosen (implicit_of caller.thread some) 1 local.operations) ok)) tracks)
+          (sync_all caller.exhausted (chosen (implicit_of caller.thread some) 1 local.operations) ok)) tracks)
     ]
 transfer_tracks version asked caller call local tracks =
     subst (Tracks version asked) (sym ((transfer_framed caller call local).operations refl)) tracks

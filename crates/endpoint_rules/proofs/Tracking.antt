@@ -19,8 +19,8 @@ use Rattle.node_record.specs.Record.{Request, Node, opening_node}
 use Rattle.node_record.specs.Requests.{is_open}
 use Rattle.node_record.specs.Behaviour.{Ask, Sending}
 use Rattle.node_record.specs.Step.{after_request, request_answer, Verdict, Runs, Returns, verdict, after_delivery}
-use Rattle.node_record.specs.Step.{TickChoice, Resends, Sends, Rests, tick_choice, after_tick, after_sending, can_ask}
-use Rattle.node_record.specs.Step.{next_due, with_asked, new_request, is_worn_out}
+use Rattle.node_record.specs.Step.{TickChoice, Retransmits, Sends, Rests, tick_choice, after_tick, after_sending, can_ask}
+use Rattle.node_record.specs.Step.{next_due, with_asked, new_request, is_exhausted}
 use Rattle.node_record.specs.NodeStep.{NodeEvent, Asks, Does, Comes, Ticks, site_of, node_after}
 use Rattle.node_record.proofs.Answers.{returns_says, sends_choice}
 use Rattle.put_get.specs.declared.operation.Next.{Next}
@@ -181,7 +181,7 @@ tick_tracks : (settings : Parameters) (table : List (Option Entry)) (meaning : M
     → tick_choice (site_of (job_of settings table meaning) me) node now ≡ choice
     → NodeTracks settings.version node
     → NodeTracks settings.version (after_tick (site_of (job_of settings table meaning) me) node now choice)
-tick_tracks settings table meaning me node now (Resends due) is tracks =
+tick_tracks settings table meaning me node now (Retransmits due) is tracks =
     tracks_stay settings.version node.asked _ node.local.operations (stay_sent node.asked now due.peer due.number)
     tracks
 tick_tracks settings table meaning me node now (Sends sending) is tracks =
@@ -201,7 +201,7 @@ event_tracks settings table meaning me node now (Asks ask) tracks =
     (request_answer (site_of (job_of settings table meaning) me) node ask) tracks
 event_tracks settings table meaning me node now (Does thread call) tracks =
     call_tracks settings table meaning node.asked
-    (record { settings = settings; me = me; thread = thread; worn = is_worn_out settings node }) call node.local tracks
+    (record { settings = settings; me = me; thread = thread; exhausted = is_exhausted settings node }) call node.local tracks
 event_tracks settings table meaning me node now (Comes message) tracks =
     comes_tracks settings table meaning me node message
     (verdict (site_of (job_of settings table meaning) me) node message) refl tracks

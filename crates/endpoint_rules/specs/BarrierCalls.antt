@@ -1,5 +1,5 @@
 -- The calls of threads on the barrier: their answers, and what they leave.
--- Origin: GASNet 1.8.1, extended API, barriers. Which worn-out numbers are told is this project's profile.
+-- Origin: GASNet 1.8.1, extended API, barriers. Which exhausted-out numbers are told is this project's profile.
 use Rattle.std.specs.Prelude.{ℕ, zero, suc, ◌^◌, nat_lt, ℤ, Bool, ◌&&◌, if◌then◌else◌, Option, None, Some}
 use Rattle.std.specs.List.{list_all}
 use Rattle.std.specs.Ordering.{int_eq}
@@ -30,9 +30,9 @@ first_where test node zero = None
 first_where test node (suc many) = if test node then Some node else first_where test (suc node) many
 
 -- the least node to which a note of the present phase must go, and for which no number is left
-abbrev pub worn_out_for : Caller → BarrierRecord → Option ℕ
-worn_out_for caller barrier =
-    first_where (λ to. caller.worn to && owes caller.settings.nodes caller.me barrier to) 0 caller.settings.nodes
+abbrev pub exhausted_for : Caller → BarrierRecord → Option ℕ
+exhausted_for caller barrier =
+    first_where (λ to. caller.exhausted to && owes caller.settings.nodes caller.me barrier to) 0 caller.settings.nodes
 
 -- the answer of a call that the rule table allows, and what it leaves
 abbrev pub barrier_does : Caller → BarrierCall → BarrierRecord → Answer × BarrierRecord
@@ -40,6 +40,6 @@ barrier_does caller (Notify id flags) barrier =
     let says = notify_answer barrier (identifier id) flags in
     (answers.Notified says, notify_after barrier (identifier id) flags says)
 barrier_does caller (TryBarrier id flags) barrier =
-    let try : Try = record { id = identifier id; flags = flags; worn = worn_out_for caller barrier } in
+    let try : Try = record { id = identifier id; flags = flags; exhausted = exhausted_for caller barrier } in
     let says = try_answer caller.settings.nodes caller.me barrier try in
     (answers.Barrier says, try_after barrier says)

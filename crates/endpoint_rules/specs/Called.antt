@@ -52,7 +52,7 @@ meant (call.Fill offset len byte) = Performs (OnCore (OnSegment (Fill offset len
 meant (call.LoadWord offset) = Performs (OnCore (OnSegment (LoadWord offset)))
 meant (call.SetWord offset value) = Performs (OnCore (OnSegment (SetWord offset value)))
 
--- the call is one on the own segment
+-- the call is one on the local segment
 abbrev pub IsOnSegment : Call → Type 0
 IsOnSegment call = (on : SegmentCall) × (meant call ≡ Performs (OnCore (OnSegment on)))
 

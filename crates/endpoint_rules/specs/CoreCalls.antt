@@ -1,5 +1,5 @@
 -- The calls of threads on what a core keeps, but for requests: their answers, and what they leave.
--- Origin: GASNet 1.8.1, core API. Cells, attempts and the calls on the own segment are this project's profile.
+-- Origin: GASNet 1.8.1, core API. Cells, attempts and the calls on the local segment are this project's profile.
 use Rattle.std.specs.Prelude.{ℕ, ℤ, pos, Result, Ok, Err, slice_index_or, slice_set}
 use Rattle.datagram_grammar.specs.Parameters.{Parameters}
 use Rattle.handler_rules.specs.declared.rules.Forbidden.{Forbidden}

@@ -50,7 +50,7 @@ nothing_begun settings = record {
 
 -- ---- what holds of it in every state
 
--- where a transfer's range of the own segment ends
+-- where a transfer's range of the local segment ends
 abbrev pub own_end : Transfer → ℕ
 own_end (transfers.Put to remote local len) = local + len
 own_end (transfers.Get to remote local len) = local + len

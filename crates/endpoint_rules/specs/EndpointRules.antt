@@ -90,7 +90,7 @@ chunk_work next = elim next.transfer [
   | transfers.Memset to remote len byte ↦ Memset (remote + next.start) next.len byte
 ]
 
--- the library's request that says this work, where the own segment has these bytes
+-- the library's request that says this work, where the local segment has these bytes
 abbrev pub sending_of : Parameters → (segment : List ℕ) → (to : ℕ) → Work → Sending
 sending_of settings segment to work =
     record { to = to; content = work_content settings.version segment work }
@@ -194,8 +194,8 @@ does_call behaviour own caller (OnBarrier call) local =
 abbrev pub all_rules : Parameters → List (Option Entry) → Meaning → NodeBehaviour EndpointLocal OtherCall Answer
 all_rules settings table meaning = record {
   messages = endpoint_rules settings table meaning;
-  does = λ me worn thread. does_call (endpoint_rules settings table meaning) (rules settings table meaning)
-      (record { settings = settings; me = me; thread = thread; worn = worn });
+  does = λ me exhausted thread. does_call (endpoint_rules settings table meaning) (rules settings table meaning)
+      (record { settings = settings; me = me; thread = thread; exhausted = exhausted });
 }
 
 -- the job of these settings, this table and these handlers

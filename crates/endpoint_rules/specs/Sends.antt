@@ -13,8 +13,8 @@ abbrev pub sends : Answer → Option SlotRef
 sends (answer.Asked (asked.Accepted to slot number)) = Some (request_slot to slot)
 sends (answer.Delivered (delivered.Ran at)) = Some at
 sends (answer.Delivered (delivered.Noted at note)) = Some at
-sends (answer.Delivered (delivered.Again at)) = Some at
-sends (answer.Ticked (ticked.Resend at)) = Some at
+sends (answer.Delivered (delivered.Duplicate at)) = Some at
+sends (answer.Ticked (ticked.Retransmission at)) = Some at
 sends (answer.Ticked (ticked.Note at)) = Some at
 sends (answer.Ticked (ticked.Chunk at)) = Some at
 sends _ = None

@@ -15,7 +15,7 @@ use Rattle.access_region.specs.Regions.{region_of, has_begun, name_of, empty_reg
 use Rattle.put_get.specs.declared.operation.Handle.{Handle}
 use Rattle.put_get.specs.declared.operation.Mode.{Mode}
 use Rattle.put_get.specs.declared.operation.Mode.TheVariants.{Explicit, Implicit, InRegion}
-use Rattle.put_get.specs.declared.operation.Some3.{Some3}
+use Rattle.put_get.specs.declared.operation.ImplicitKinds.{ImplicitKinds}
 use Rattle.put_get.specs.declared.operation.Synced.{Synced}
 use Rattle.put_get.specs.declared.operation.Synced.TheVariants as synced
 use Rattle.put_get.specs.declared.operation.TooMany.{TooMany}
@@ -40,7 +40,7 @@ pub data TransferCall : Type 0 where
   SyncHandle : Handle → TransferCall
   SyncAll : (registers : List ℕ) → TransferCall
   SyncSome : (registers : List ℕ) → TransferCall
-  SyncImplicit : Some3 → TransferCall
+  SyncImplicit : ImplicitKinds → TransferCall
   RegionBegin : TransferCall
   RegionEnd : (register : ℕ) → TransferCall  -- the register gets the region's handle
 
@@ -62,7 +62,7 @@ pub record Caller : Type 0 where
   pub settings : Parameters
   pub me : ℕ
   pub thread : ℕ
-  pub worn : ℕ → Bool
+  pub exhausted : ℕ → Bool
 
 -- ---- beginnings
 
@@ -74,7 +74,7 @@ transfer_fault settings transfer =
     else (if nat_lt settings.segment (remote_end transfer) || not (has_byte transfer) then Some which.Offset
     else None))
 
--- it is done in its call: it has no bytes, or its target is the own node
+-- it is done in its call: it has no bytes, or its target is the local node
 abbrev pub is_at_once : (me : ℕ) → Transfer → Bool
 is_at_once me transfer = (size transfer == 0) || (target transfer == me)
 
@@ -192,14 +192,14 @@ transfer_does caller (IsIssued register) local =
     (answers.Issued (issued_answer (handle_in local.registers register).serial local.operations), local)
 transfer_does caller (Sync register) local =
     let handle = (handle_in local.registers register).serial in
-    let says = handle_answer caller.worn caller.thread handle local.operations in
+    let says = handle_answer caller.exhausted caller.thread handle local.operations in
     (answers.Synced says, record local { operations = after_handle says handle local.operations })
 transfer_does caller (SyncHandle handle) local =
-    let says = handle_answer caller.worn caller.thread handle.serial local.operations in
+    let says = handle_answer caller.exhausted caller.thread handle.serial local.operations in
     (answers.Synced says, record local { operations = after_handle says handle.serial local.operations })
 transfer_does caller (SyncAll registers) local =
     let handles = map (handle_in local.registers) registers in
-    let says = all_answer caller.worn caller.thread handles local.operations in (
+    let says = all_answer caller.exhausted caller.thread handles local.operations in (
       answers.Synced says,
       record local {
         operations = left_by says (members_of handles local.operations) local.operations;
@@ -208,7 +208,7 @@ transfer_does caller (SyncAll registers) local =
     )
 transfer_does caller (SyncSome registers) local =
     let handles = map (handle_in local.registers) registers in
-    let says = some_answer caller.worn caller.thread handles local.operations in (
+    let says = some_answer caller.exhausted caller.thread handles local.operations in (
       answers.Synced says,
       record local {
         operations = left_by says (whole_of handles local.operations) local.operations;
@@ -217,7 +217,7 @@ transfer_does caller (SyncSome registers) local =
     )
 transfer_does caller (SyncImplicit some) local =
     if has_begun local.regions caller.thread then (answers.Region region.InRegion, local)
-    else (let says = implicit_answer caller.worn caller.thread some local.operations in (
+    else (let says = implicit_answer caller.exhausted caller.thread some local.operations in (
       answers.Synced says,
       record local { operations = left_by says (implicit_of caller.thread some) local.operations },
     ))

@@ -38,9 +38,9 @@ pub enum Local {
 pub enum Begun {
     /// It is under way, under this handle.
     Handle(Handle),
-    /// It has no bytes, or its target is the own node: it was done in the call.
+    /// It has no bytes, or its target is the local node: it was done in the call.
     Done,
-    /// A part of it is bad, the first that is: `Node`, `Source` (its range of the own segment) or
+    /// A part of it is bad, the first that is: `Node`, `Source` (its range of the local segment) or
     /// `Offset` (its range of the target's). Nothing happened.
     BadArg(Which),
     /// 256 operations stand, or the last number was given. Nothing happened.
@@ -126,9 +126,10 @@ impl Answer {
                 slot: *slot,
             }),
             Answer::Delivered(
-                Delivered::Ran(at) | Delivered::Noted(at, _) | Delivered::Again(at),
+                Delivered::Ran(at) | Delivered::Noted(at, _) | Delivered::Duplicate(at),
             ) => Some(*at),
-            Answer::Ticked(Ticked::Resend(at) | Ticked::Note(at) | Ticked::Chunk(at)) => Some(*at),
+            Answer::Ticked(Ticked::Retransmission(at) | Ticked::Note(at) | Ticked::Chunk(at)) =>
+                Some(*at),
             _ => None,
         }
     }

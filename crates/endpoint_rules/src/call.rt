@@ -5,7 +5,7 @@ ghost use Rattle.endpoint_rules.specs.Called.{is_to_other, IsMeantBy};
 
 use am_core::{Asking, Category, Payload};
 use handler_rules::CallKind;
-use put_get::{Handle, Some3, Transfer};
+use put_get::{Handle, ImplicitKinds, Transfer};
 
 /// A call of a client, as a thread of a node makes it.
 #[derive(Clone, Copy)]
@@ -124,7 +124,7 @@ pub enum Call<'a> {
     /// `gasnet_try_syncnbi_all` and its kin).
     SyncImplicit {
         /// Which of them.
-        which: Some3,
+        which: ImplicitKinds,
     },
     /// Begins an access region (GASNet 1.8.1, extended API, `gasnet_begin_nbi_accessregion`).
     RegionBegin,
@@ -163,21 +163,21 @@ pub enum Call<'a> {
         /// The number.
         value: i32,
     },
-    /// Shows a range of the own segment (profile).
+    /// Shows a range of the local segment (profile).
     Show {
         /// Its first byte.
         offset: u64,
         /// How many bytes it has.
         len: u64,
     },
-    /// Writes bytes into the own segment (profile).
+    /// Writes bytes into the local segment (profile).
     Set {
         /// Where the first of them goes.
         offset: u64,
         /// The bytes.
         bytes: &'a [u8],
     },
-    /// Writes one byte to each place of a range of the own segment (profile).
+    /// Writes one byte to each place of a range of the local segment (profile).
     Fill {
         /// The first byte of the range.
         offset: u64,
@@ -186,12 +186,12 @@ pub enum Call<'a> {
         /// What is written.
         byte: u8,
     },
-    /// The number of 8 bytes, little-endian, in the own segment (profile).
+    /// The number of 8 bytes, little-endian, in the local segment (profile).
     LoadWord {
         /// Its first byte, a multiple of 8.
         offset: u64,
     },
-    /// Writes a number of 8 bytes, little-endian, into the own segment (profile).
+    /// Writes a number of 8 bytes, little-endian, into the local segment (profile).
     SetWord {
         /// Its first byte, a multiple of 8.
         offset: u64,

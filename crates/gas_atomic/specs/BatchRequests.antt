@@ -115,7 +115,7 @@ first_of_faults [] = None
 first_of_faults (line ∷ rest) = if line.0 then Some line.1 else first_of_faults rest
 
 -- what may be wrong with the places of a batch, where each segment has so many bytes: a word that passes the end of the
--- target's, a block that passes the end of the own one, and a place that isn't a multiple of 8
+-- target's, a block that passes the end of the local one, and a place that isn't a multiple of 8
 abbrev pub place_faults : (segment local : ℕ) → List WordOp → List (Bool × BatchFault)
 place_faults segment local ops =
     (not (are_inside segment ops), fault.Offset)

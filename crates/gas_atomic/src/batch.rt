@@ -21,7 +21,7 @@ pub enum BatchFault {
     Count,
     /// A word passes the end of the target's segment.
     Offset,
-    /// The block of the reply passes the end of the own segment.
+    /// The block of the reply passes the end of the local segment.
     Local,
     /// A word's offset, or the block's, isn't a multiple of 8.
     Unaligned,
@@ -101,7 +101,7 @@ impl Batch {
         self.to
     }
 
-    /// Where the block of its reply goes in the own segment.
+    /// Where the block of its reply goes in the local segment.
     pub fn local(&self) -> u64
         ensures { result ≡ self.now.request.local }
     {

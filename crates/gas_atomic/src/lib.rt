@@ -3,7 +3,7 @@
 //!
 //!     use gas_atomic::{Batch, Op, WordOp};
 //!
-//!     // Node 1's word at 0 rises by 5. What it was, and then the tag 7, come back to the own segment, at 64.
+//!     // Node 1's word at 0 rises by 5. What it was, and then the tag 7, come back to the local segment, at 64.
 //!     let add = WordOp { op: Op::Add, offset: 0, a: 5, b: 0 };
 //!     let batch = Batch::new(&settings, 1, 64, 7, &[add])?;
 //!     let called = batch.ask(&mut caller, thread);
@@ -16,7 +16,7 @@
 //! - `Batch::new` [`made`] answers the first fault of the stated order (`batch_fault`), or the batch. It takes no
 //!   memory.
 //! - `Batch::ask` [`made`]: the thread makes one call, the request of the batch, which is answered as its node's record
-//!   says. [`said`]: that request asks this batch (`batch_of`), whatever stands in the own segment.
+//!   says. [`said`]: that request asks this batch (`batch_of`), whatever stands in the local segment.
 //! - `serve` [`served`] does, from whatever a handler's run did so far, what the message says: its operations in order,
 //!   each on what the one before left, and the reply; nothing, where the message says no batch. The run stays lawful
 //!   (`proofs/Lawful.antt`).

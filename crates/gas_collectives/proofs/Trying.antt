@@ -117,7 +117,7 @@ nothing_behind it segment asked (end_answers.Mismatch other) ended apart = absur
 nothing_behind it segment asked end_answers.NotReady ended apart = (refl, refl)
 nothing_behind it segment asked end_answers.NotStarted ended apart = (refl, refl)
 nothing_behind it segment asked (end_answers.BadArg argument) ended apart = (refl, refl)
-nothing_behind it segment asked (end_answers.WornOut other) ended apart = (refl, refl)
+nothing_behind it segment asked (end_answers.Exhausted other) ended apart = (refl, refl)
 nothing_behind it segment asked (end_answers.Forbidden forbidden) ended apart = (refl, refl)
 nothing_behind it segment asked end_answers.NoMemory ended apart = (refl, refl)
 

@@ -6,7 +6,7 @@ use Rattle.collective_area.specs.Shapes.{is_reduction}
 use Rattle.collective_area.specs.declared.shape.Shape.{Shape}
 use Rattle.gas_collectives.specs.Progress.{Progress, idle}
 
--- the job's settings, the node, the area in each segment, and how far the node is: `sent` and `worn` by node
+-- the job's settings, the node, the area in each segment, and how far the node is: `sent` and `exhausted` by node
 pub record CollectivesState : Type 0 where
   pub settings : Parameters
   pub me : ℕ
@@ -15,7 +15,7 @@ pub record CollectivesState : Type 0 where
   pub ended : ℕ
   pub shape : Shape
   pub sent : List Bool
-  pub worn : List Bool
+  pub exhausted : List Bool
 
 -- a node is among those that are marked
 abbrev pub has : List Bool → (node : ℕ) → Bool
@@ -28,7 +28,7 @@ progress_of it = record {
   ended = it.ended;
   shape = it.shape;
   sent = has it.sent;
-  worn = has it.worn;
+  exhausted = has it.exhausted;
 }
 
 -- the shape is within the limits of the area
@@ -49,7 +49,7 @@ pub record Stands (it : CollectivesState) : Type 0 where
   pub count : it.started < 2 ^ 64
   pub shape_good : IsWithin it.area it.shape
   pub sent_long : length it.sent ≡ 256
-  pub worn_long : length it.worn ≡ 256
+  pub exhausted_long : length it.exhausted ≡ 256
 
 -- it is of the same node, with the same area
 pub record IsSameNode (old new : CollectivesState) : Type 0 where
@@ -70,4 +70,4 @@ pub record IsFresh (settings : Parameters) (me base room : ℕ) (it : Collective
   pub ended : it.ended ≡ 0
   pub shape : it.shape ≡ idle.shape
   pub sent : it.sent ≡ no_nodes
-  pub worn : it.worn ≡ no_nodes
+  pub exhausted : it.exhausted ≡ no_nodes

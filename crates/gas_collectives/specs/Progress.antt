@@ -28,7 +28,7 @@ pub record Progress : Type 0 where
   pub ended : ℕ
   pub shape : Shape
   pub sent : ℕ → Bool
-  pub worn : ℕ → Bool
+  pub exhausted : ℕ → Bool
 
 -- a node that has started nothing
 abbrev pub idle : Progress
@@ -37,7 +37,7 @@ idle = record {
   ended = 0;
   shape = record { kind = kind.Broadcast; root = 0; len = 0 };
   sent = λ to. false;
-  worn = λ to. false;
+  exhausted = λ to. false;
 }
 
 -- a phase is started and not ended
@@ -55,7 +55,7 @@ start_refusal area segment progress shape from =
     else (if nat_lt area.room shape.len || (is_reduction shape.kind && not (shape.len % 8 == 0))
     then Some (start_answers.BadArg arguments.Length)
     else (if nat_lt segment (from + shape.len) then Some (start_answers.BadArg arguments.Source)
-    else (if nat_le (2 ^ 64 - 1) progress.started then Some start_answers.WornOut
+    else (if nat_le (2 ^ 64 - 1) progress.started then Some start_answers.Exhausted
     else None))))
 
 -- the message of the phase that is started, from the node `me`: its place is the node's own part of the phase
@@ -88,12 +88,12 @@ after_start progress shape = record {
   ended = progress.ended;
   shape = shape;
   sent = λ to. false;
-  worn = λ to. false;
+  exhausted = λ to. false;
 }
 
 -- ---- step
 
--- the call that a step makes to a node: the own part's data goes along where that node's result uses it
+-- the call that a step makes to a node: the local part's data goes along where that node's result uses it
 abbrev pub step_ask : Area → (me thread to : ℕ) → Progress → Ask
 step_ask area me thread to progress =
     part_ask area me thread to progress.ended progress.shape
@@ -106,8 +106,8 @@ is_left me to progress = not (to == me) && not (progress.sent to)
 abbrev pub with_sent : Progress → (to : ℕ) → Progress
 with_sent progress to = record progress { sent = put progress.sent to true }
 
-abbrev pub with_worn : Progress → (to : ℕ) → Bool → Progress
-with_worn progress to worn = record progress { worn = put progress.worn to worn }
+abbrev pub with_exhausted : Progress → (to : ℕ) → Bool → Progress
+with_exhausted progress to exhausted = record progress { exhausted = put progress.exhausted to exhausted }
 
 -- ---- try_end
 
@@ -140,12 +140,12 @@ abbrev pub other_shape : Area → Progress → (segment : List ℕ) → Option �
 other_shape area progress segment = first_node (is_other area progress segment) 0 area.nodes
 
 -- the node wasn't sent to, and no number was left for it
-abbrev pub is_worn : (me : ℕ) → Progress → (node : ℕ) → Bool
-is_worn me progress node = is_left me node progress && progress.worn node
+abbrev pub has_exhausted : (me : ℕ) → Progress → (node : ℕ) → Bool
+has_exhausted me progress node = is_left me node progress && progress.exhausted node
 
 -- the smallest of these
-abbrev pub worn_node : Area → (me : ℕ) → Progress → Option ℕ
-worn_node area me progress = first_node (is_worn me progress) 0 area.nodes
+abbrev pub exhausted_node : Area → (me : ℕ) → Progress → Option ℕ
+exhausted_node area me progress = first_node (has_exhausted me progress) 0 area.nodes
 
 -- the data of all nodes, in their order
 abbrev pub data_of_all : Area → Progress → (segment : List ℕ) → (node many : ℕ) → List (List ℕ)
@@ -160,7 +160,7 @@ share offset len other_offset other_len =
     nat_lt 0 len && (nat_lt 0 other_len
     && (nat_lt other_offset (offset + len) && nat_lt offset (other_offset + other_len)))
 
--- the own result's range at `dest` is outside, or shares a byte with the area, or for a reduction's result isn't at a
+-- the local result's range at `dest` is outside, or shares a byte with the area, or for a reduction's result isn't at a
 -- multiple of 8
 abbrev pub is_bad_dest : Area → (segment me : ℕ) → Shape → (dest : ℕ) → Bool
 is_bad_dest area segment me shape dest =
@@ -175,12 +175,12 @@ end_refusal area segment me progress dest =
     if not (is_open progress) then Some end_answers.NotStarted
     else (if is_bad_dest area segment me progress.shape dest then Some (end_answers.BadArg arguments.Destination) else None)
 
--- the answer of a try that may poll, where the own segment has these bytes
+-- the answer of a try that may poll, where the local segment has these bytes
 abbrev pub end_answer : Area → (me : ℕ) → Progress → (segment : List ℕ) → EndAnswer
 end_answer area me progress segment =
     if is_ready area me progress segment
     then elim (other_shape area progress segment) [ Some node ↦ end_answers.Mismatch node | None ↦ end_answers.Ended ]
-    else elim (worn_node area me progress) [ Some node ↦ end_answers.WornOut node | None ↦ end_answers.NotReady ]
+    else elim (exhausted_node area me progress) [ Some node ↦ end_answers.Exhausted node | None ↦ end_answers.NotReady ]
 
 -- how far it is after a phase ended
 abbrev pub after_end : Progress → Progress

@@ -42,7 +42,7 @@ started_then start_answers.Started it shape = record it {
   started = it.started + 1;
   shape = shape;
   sent = no_nodes;
-  worn = no_nodes;
+  exhausted = no_nodes;
 }
 started_then other it shape = it
 

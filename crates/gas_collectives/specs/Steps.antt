@@ -15,7 +15,7 @@ use Rattle.gas_collectives.specs.Starts.{CallsOne, call_of}
 
 -- ---- the call to one node
 
--- the own part's data, which begins at this offset, where that node's result uses it
+-- the local part's data, which begins at this offset, where that node's result uses it
 abbrev pub payload_for : CollectivesState → (to offset : ℕ) → PayloadFrom
 payload_for it to offset = if uses it.shape it.me to then Own offset it.shape.len else Lent []
 
@@ -37,16 +37,16 @@ sent_then marks to told = marks
 
 -- the nodes for which no number was left then: a call that is answered at all, and not accepted or forbidden, tells
 -- whether one is
-abbrev pub worn_then : List Bool → (to : ℕ) → Option Answer → List Bool
-worn_then marks to None = marks
-worn_then marks to (Some (answers.Forbidden forbidden)) = marks
-worn_then marks to (Some (answers.Asked (asked.Accepted there slot number))) = marks
-worn_then marks to (Some (answers.Asked asked.WornOut)) = slice_set marks to true
-worn_then marks to (Some other) = slice_set marks to false
+abbrev pub exhausted_then : List Bool → (to : ℕ) → Option Answer → List Bool
+exhausted_then marks to None = marks
+exhausted_then marks to (Some (answers.Forbidden forbidden)) = marks
+exhausted_then marks to (Some (answers.Asked (asked.Accepted there slot number))) = marks
+exhausted_then marks to (Some (answers.Asked asked.Exhausted)) = slice_set marks to true
+exhausted_then marks to (Some other) = slice_set marks to false
 
 -- how far the node is then
 abbrev pub noted : CollectivesState → (to : ℕ) → Option Answer → CollectivesState
-noted it to told = record it { sent = sent_then it.sent to told; worn = worn_then it.worn to told }
+noted it to told = record it { sent = sent_then it.sent to told; exhausted = exhausted_then it.exhausted to told }
 
 -- the node was asked, and what came of it was noted
 pub record Sends {K : Type 0} (caller : Ghosts K) (thread to : ℕ) (it : CollectivesState) (old : K)

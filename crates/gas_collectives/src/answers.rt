@@ -25,8 +25,8 @@ pub enum StartAnswer {
     /// An argument is bad, the first that is; nothing happened.
     BadArg(Argument),
     /// All 2^64 - 1 phases of the node were started; nothing happened.
-    WornOut,
-    /// The rule table forbids the request that brings the bytes to the own part; a violation was noted.
+    Exhausted,
+    /// The rule table forbids the request that brings the bytes to the local part; a violation was noted.
     Forbidden(Forbidden),
     /// That request waits for this lock; nothing happened.
     LockBusy(u8),
@@ -61,7 +61,7 @@ pub enum EndAnswer {
     /// An argument is bad; nothing happened.
     BadArg(Argument),
     /// It isn't ready, and the numbers of the pair with this node, the first of them, are used up.
-    WornOut(u16),
+    Exhausted(u16),
     /// The rule table forbids the poll; a violation was noted.
     Forbidden(Forbidden),
     /// Memory ran out; the phase isn't ended. It never comes where the caller stands for a record of a run, whose segment

@@ -29,7 +29,7 @@ pub struct Collectives {
     /// The nodes to which that one was sent.
     pub(crate) sent: [bool; 256],
     /// The nodes for which no number was left when they were asked last in that phase.
-    pub(crate) worn: [bool; 256],
+    pub(crate) exhausted: [bool; 256],
 }
 
 impl Model for Collectives {
@@ -45,7 +45,7 @@ impl Model for Collectives {
       ended = it.ended;
       shape = it.shape;
       sent = it.sent;
-      worn = it.worn;
+      exhausted = it.exhausted;
     } };
 
     ghost invariant = { λ it. Stands (record {
@@ -56,7 +56,7 @@ impl Model for Collectives {
       ended = it.ended;
       shape = it.shape;
       sent = it.sent;
-      worn = it.worn;
+      exhausted = it.exhausted;
     }) };
 }
 
@@ -99,7 +99,7 @@ impl Collectives {
                 len: 0,
             },
             sent: no_nodes(),
-            worn: no_nodes(),
+            exhausted: no_nodes(),
         })
     }
 

@@ -15,17 +15,17 @@ use endpoint_rules::{Answer, Call};
 use node_caller::Caller;
 
 impl Collectives {
-    /// Tries to end the phase that is open, and writes the own result at `dest` where it ends with one shape.
+    /// Tries to end the phase that is open, and writes the local result at `dest` where it ends with one shape.
     ///
     /// It is ready where it has sent to all others and has heard from all. The answer is the first of these that applies.
     /// - `NotStarted`: no phase is open; nothing changed.
     /// - `BadArg(Destination)`: the result's range at `dest` passes the end of the segment, or shares a byte with the
     ///   area, or for a reduction's result isn't at a multiple of 8; nothing changed.
     /// - `Forbidden`: so the poll is answered that it makes.
-    /// - `Mismatch(k)`, where ready: `k` is the first node whose shape isn't the own one. The phase ends, and nothing is
+    /// - `Mismatch(k)`, where ready: `k` is the first node whose shape isn't the local one. The phase ends, and nothing is
     ///   written.
     /// - `Ended`, where ready: the phase ends, and the result is written.
-    /// - `WornOut(k)`: `k` is the first node not sent to whose request was answered so last in this phase.
+    /// - `Exhausted(k)`: `k` is the first node not sent to whose request was answered so last in this phase.
     /// - `NotReady`: else.
     ///
     /// `NoMemory` never comes where the caller stands for records of a run. The caller is at this node of a job with
@@ -60,7 +60,7 @@ impl Collectives {
         }
     }
 
-    /// How many bytes the own result has.
+    /// How many bytes the local result has.
     fn result_len(&self) -> u64
         ensures { result ≡ result_len self.now.shape self.now.area.nodes self.now.me }
     {

@@ -1,4 +1,4 @@
-//! What stands in the parts of the own segment.
+//! What stands in the parts of the local segment.
 
 ghost use Rattle.std.specs.Prelude.{◌≡◌, ◌≢◌, ◌<◌, ◌≤◌, ◌+◌, ◌*◌, ◌%◌, length, true, is_none, IfSome, IfNone, ℕ, List, Some};
 ghost use Rattle.std.specs.Prelude.{slice_get, take};
@@ -8,7 +8,7 @@ ghost use Rattle.collective_area.specs.Area.{stamp_in, word_in, data_in};
 ghost use Rattle.collective_area.specs.Shapes.{is_reduction};
 ghost use Rattle.collective_area.specs.Results.{combined, together, together_at, word_at};
 ghost use Rattle.gas_collectives.specs.Progress.{data_of_all, end_answer, is_exchanged, is_other};
-ghost use Rattle.gas_collectives.specs.Progress.{is_ready, is_worn, other_shape, worn_node};
+ghost use Rattle.gas_collectives.specs.Progress.{is_ready, has_exhausted, other_shape, exhausted_node};
 ghost use Rattle.gas_collectives.specs.CollectivesState.{progress_of};
 ghost use Rattle.gas_collectives.specs.Ends.{giver_by, result_in};
 
@@ -94,7 +94,7 @@ impl Collectives {
             && self.stamp(bytes, node) == self.ended + 1
     }
 
-    /// The first node whose part says another shape than the own one.
+    /// The first node whose part says another shape than the local one.
     fn other_shape(&self, bytes: &[u8]) -> Option<u16>
         requires long { length bytes.now ≡ self.now.settings.segment }
         ensures { result ≡ other_shape self.now.area (progress_of self.now) bytes.now }
@@ -107,7 +107,7 @@ impl Collectives {
         None
     }
 
-    /// Whether the part of a node says another shape than the own one.
+    /// Whether the part of a node says another shape than the local one.
     fn is_other(&self, bytes: &[u8], node: u16) -> bool
         requires long { length bytes.now ≡ self.now.settings.segment }
         requires node { node < self.now.area.nodes }
@@ -117,11 +117,11 @@ impl Collectives {
     }
 
     /// The first node that wasn't sent to and for which no number was left.
-    fn worn_node(&self) -> Option<u16>
-        ensures { result ≡ worn_node self.now.area self.now.me (progress_of self.now) }
+    fn exhausted_node(&self) -> Option<u16>
+        ensures { result ≡ exhausted_node self.now.area self.now.me (progress_of self.now) }
     {
         for node in 0..self.settings.nodes() {
-            if self.is_worn(node) {
+            if self.has_exhausted(node) {
                 return Some(node);
             }
         }
@@ -129,19 +129,19 @@ impl Collectives {
     }
 
     /// Whether no node is left that wasn't sent to and for which no number was left when it was asked last in the phase.
-    pub fn is_unworn(&self) -> bool
+    pub fn is_unexhausted(&self) -> bool
         ensures { result ≡ is_none
-            (worn_node self.now.area self.now.me (progress_of self.now)) }
+            (exhausted_node self.now.area self.now.me (progress_of self.now)) }
     {
-        self.worn_node().is_none()
+        self.exhausted_node().is_none()
     }
 
     /// Whether a node wasn't sent to, and no number was left for it.
-    fn is_worn(&self, node: u16) -> bool
+    fn has_exhausted(&self, node: u16) -> bool
         requires { node < self.now.settings.nodes }
-        ensures { result ≡ is_worn self.now.me (progress_of self.now) node }
+        ensures { result ≡ has_exhausted self.now.me (progress_of self.now) node }
     {
-        self.is_left(node) && self.worn[usize::from(node)]
+        self.is_left(node) && self.exhausted[usize::from(node)]
     }
 
     /// How a try to end is answered whose poll is allowed.
@@ -156,8 +156,8 @@ impl Collectives {
                 None => EndAnswer::Ended,
             }
         } else {
-            match self.worn_node() {
-                Some(node) => EndAnswer::WornOut(node),
+            match self.exhausted_node() {
+                Some(node) => EndAnswer::Exhausted(node),
                 None => EndAnswer::NotReady,
             }
         }

@@ -21,7 +21,7 @@ impl Collectives {
     /// in rising order, until one accepts. The data goes along where that node's result uses it.
     ///
     /// - `Sent` names the node that accepted.
-    /// - `Nothing`: no phase is open, it was sent to all others, or all of the rest were answered `NotYet` or `WornOut`.
+    /// - `Nothing`: no phase is open, it was sent to all others, or all of the rest were answered `NotYet` or `Exhausted`.
     /// - `Forbidden`, `NoMemory`: so it is of a request; those before it have had their effect.
     ///
     /// The caller is at this node of a job with these settings, and the thread is one of its.
@@ -81,12 +81,12 @@ impl Collectives {
                 self.sent[usize::from(to)] = true;
                 Some(StepAnswer::Sent(to))
             }
-            Some(Answer::Asked(Asked::WornOut)) => {
-                self.worn[usize::from(to)] = true;
+            Some(Answer::Asked(Asked::Exhausted)) => {
+                self.exhausted[usize::from(to)] = true;
                 None
             }
             Some(_) => {
-                self.worn[usize::from(to)] = false;
+                self.exhausted[usize::from(to)] = false;
                 None
             }
         }

@@ -44,7 +44,7 @@ fn refusal_of(answer: &Answer) -> Option<StartAnswer>
 }
 
 impl Collectives {
-    /// Starts the next phase with the bytes at `from`: brings them to the own part, by a Long request to the own node.
+    /// Starts the next phase with the bytes at `from`: brings them to the local part, by a Long request to the local node.
     ///
     /// The answer is the first of these that applies. Of those before `Forbidden` no call was made, and nothing changed; of
     /// the others but `Started` nothing is started.
@@ -52,7 +52,7 @@ impl Collectives {
     /// - `BadArg(Root)`: the root isn't a node, or it isn't 0 for a kind without a root.
     /// - `BadArg(Length)`: the length is above the room of a part, or for a reduction isn't a multiple of 8.
     /// - `BadArg(Source)`: the bytes pass the end of the segment.
-    /// - `WornOut`: 2^64 - 1 phases were started.
+    /// - `Exhausted`: 2^64 - 1 phases were started.
     /// - `Forbidden`, `LockBusy`, `NoMemory`: so it is of the request.
     /// - `Started`: else.
     ///
@@ -89,7 +89,7 @@ impl Collectives {
         self.started += 1;
         self.shape = shape;
         self.sent = no_nodes();
-        self.worn = no_nodes();
+        self.exhausted = no_nodes();
         StartAnswer::Started
     }
 
@@ -112,12 +112,12 @@ impl Collectives {
             return Some(StartAnswer::BadArg(Argument::Source));
         }
         if self.started == u64::MAX {
-            return Some(StartAnswer::WornOut);
+            return Some(StartAnswer::Exhausted);
         }
         None
     }
 
-    /// The request of a start, to the own node.
+    /// The request of a start, to the local node.
     fn put_part<K: Caller>(
         &self,
         caller: &mut K,

@@ -9,7 +9,7 @@ use Rattle.named_barrier.specs.Stands.{Stands as BarrierStands}
 use Rattle.named_barrier.specs.declared.answer.Notified.{Notified}
 use Rattle.named_barrier.specs.declared.answer.BarrierAnswer.{BarrierAnswer}
 use Rattle.am_core.specs.CoreState.{CoreState}
-use Rattle.endpoint_rules.specs.BarrierCalls.{Notify, TryBarrier, barrier_does, worn_out_for, identifier, first_where}
+use Rattle.endpoint_rules.specs.BarrierCalls.{Notify, TryBarrier, barrier_does, exhausted_for, identifier, first_where}
 use Rattle.endpoint_rules.specs.EndpointRules.{with_barrier, note_among}
 use Rattle.std.specs.Int.{w32}
 use Rattle.std.proofs.lemmas.Int.{to_z-of_z}
@@ -48,26 +48,26 @@ notify_does core extended barrier thread id flags says answer stands = record {
 }
 
 pub try_does : (core : CoreState) (extended : Extended) (barrier : BarrierState) (thread : ℕ) (id : ℤ)
-    (flags : ℕ) (worn : Option ℕ) (says : BarrierAnswer)
+    (flags : ℕ) (exhausted : Option ℕ) (says : BarrierAnswer)
     → ForItsRecord (endpoint_of core extended) (λ node.
-    worn ≡ worn_out_for (caller_in core node thread) node.local.barrier)
+    exhausted ≡ exhausted_for (caller_in core node thread) node.local.barrier)
     → ((nodes me : ℕ) (kept : BarrierRecord) → BarrierStands nodes me extended.barrier kept
-    → says ≡ try_answer nodes me kept (record { id = identifier id; flags = flags; worn = worn }))
+    → says ≡ try_answer nodes me kept (record { id = identifier id; flags = flags; exhausted = exhausted }))
     → ((nodes me : ℕ) (kept : BarrierRecord) → BarrierStands nodes me extended.barrier kept
     → BarrierStands nodes me barrier
-    (try_after kept (try_answer nodes me kept (record { id = identifier id; flags = flags; worn = worn }))))
+    (try_after kept (try_answer nodes me kept (record { id = identifier id; flags = flags; exhausted = exhausted }))))
     → PartDoes (record { core = core; extended = extended }) thread
     (λ caller kept. with_barrier kept (barrier_does caller (TryBarrier id flags) kept.barrier)) (answers.Barrier says)
     (record { core = core; extended = record extended { barrier = barrier } })
-try_does core extended barrier thread id flags worn says worns answer stands = record {
+try_does core extended barrier thread id flags exhausted says worns answer stands = record {
   same = same_core core;
   frame = record { nodes = refl; me_is = refl; threads = refl; room = refl };
   steps = λ node S.
       let kept = node.local.barrier in
       let nodes = core.settings.nodes in
-      let tried = λ (worn : Option ℕ). try_answer nodes core.me kept
-      (record { id = identifier id; flags = flags; worn = worn }) in
-      let same : tried worn ≡ tried (worn_out_for (caller_in core node thread) kept) = ap tried (worns node S) in (
+      let tried = λ (exhausted : Option ℕ). try_answer nodes core.me kept
+      (record { id = identifier id; flags = flags; exhausted = exhausted }) in
+      let same : tried exhausted ≡ tried (exhausted_for (caller_in core node thread) kept) = ap tried (worns node S) in (
         ap (λ (s : BarrierAnswer). answers.Barrier s) (answer nodes core.me kept S.barrier ∙ same),
         record {
           core = S.core;
@@ -162,6 +162,6 @@ try_again old new thread id flags answer D =
     subst (λ i. PartDoes old thread
     (λ caller kept. with_barrier kept
     (let says = try_answer caller.settings.nodes caller.me kept.barrier
-    (record { id = i; flags = flags; worn = worn_out_for caller kept.barrier }) in
+    (record { id = i; flags = flags; exhausted = exhausted_for caller kept.barrier }) in
     (answers.Barrier says, try_after kept.barrier says))) answer new)
     (to_z-of_z w32 (identifier id) (identifier_fits id)) D

@@ -286,7 +286,7 @@ set_cell_steps core extended thread cell value cells is meaning lawful now =
           (is ∙ ap (λ ys. slice_set ys cell value) S.core.cells_are) S.core.segment_is refl refl) S,
     ))
 
--- a call on the own segment
+-- a call on the local segment
 pub segment_steps : (core : CoreState) (extended : Extended) (thread : ℕ) (of_thread : Call) (on : SegmentCall)
     (answer : LocalAnswer) (lent bytes : List ℕ) → meant of_thread ≡ Performs (OnCore (OnSegment on))
     → lent ≡ core.segment → OnSegmentBytes lent on answer bytes

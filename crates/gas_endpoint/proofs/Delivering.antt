@@ -12,7 +12,7 @@ use Rattle.datagram_grammar.proofs.Laws.{takes}
 use Rattle.datagram_grammar.proofs.Words.{IsBytes}
 use Rattle.handler_rules.specs.Runs.{Meaning, IsLawfulMeaning}
 use Rattle.node_record.specs.Record.{Node}
-use Rattle.node_record.specs.Step.{Verdict, Runs, Refused, Repeated, Passed, Missed, Returns, Waits, verdict, answer_by}
+use Rattle.node_record.specs.Step.{Verdict, Runs, Refused, Duplicated, Passed, Missed, Returns, Waits, verdict, answer_by}
 use Rattle.node_record.specs.Step.{after_delivery}
 use Rattle.node_record.specs.NodeStep.{site_of, Comes, OfDelivery, NodeAnswer}
 use Rattle.node_record.specs.Under.{under}
@@ -82,7 +82,7 @@ told_by meaning endpoint node message Returns ranged =
     record { operations = refl; barrier = refl; regions = refl; registers = refl }
 told_by meaning endpoint node message (Refused reason) ranged =
     record { operations = refl; barrier = refl; regions = refl; registers = refl }
-told_by meaning endpoint node message Repeated ranged =
+told_by meaning endpoint node message Duplicated ranged =
     record { operations = refl; barrier = refl; regions = refl; registers = refl }
 told_by meaning endpoint node message Passed ranged =
     record { operations = refl; barrier = refl; regions = refl; registers = refl }

@@ -9,7 +9,7 @@ use Rattle.lists.proofs.Indexes.{get-set_same, get-set_other}
 use Rattle.lists.proofs.Places.{slice_get-replicate}
 use Rattle.put_get.specs.Syncs.{flag_at}
 use Rattle.node_record.specs.Record.{Node}
-use Rattle.node_record.specs.Step.{is_worn_out}
+use Rattle.node_record.specs.Step.{is_exhausted}
 use Rattle.am_core.specs.CoreState.{CoreState}
 use Rattle.endpoint_rules.specs.EndpointLocal.{EndpointLocal}
 use Rattle.gas_endpoint.specs.declared.extended.Extended.{Extended}
@@ -47,9 +47,9 @@ pub flags_above : (flags : List Bool) (node : ℕ) (flag : Bool)
 flags_above flags node flag after to above =
     flag-other flags node flag to (λ e. omega (arith, e, above)) ∙ after to (omega (arith, above))
 
--- the own node's numbers aren't used up
-pub own_worn : (core : CoreState) (extended : Extended) (node : Node EndpointLocal)
-    → EndpointStands (endpoint_of core extended) node → is_worn_out core.settings node core.me ≡ false
-own_worn core extended node S =
+-- the local node's numbers aren't used up
+pub own_exhausted : (core : CoreState) (extended : Extended) (node : Node EndpointLocal)
+    → EndpointStands (endpoint_of core extended) node → is_exhausted core.settings node core.me ≡ false
+own_exhausted core extended node S =
     ap (λ requests. nat_le core.settings.last (length requests)) S.core.invariant_.own
     ∙ lt-leb core.settings.last 0 (omega (arith, S.core.range.last))

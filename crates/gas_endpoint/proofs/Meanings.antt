@@ -37,13 +37,13 @@ runs_not (Err forbidden) fault claimed none e = absurd (cc)
 runs_not (Ok allowed) (Some part) claimed none e = absurd (cc)
 runs_not (Ok allowed) None claimed none e = none e
 
-claims_not : (worn out : Bool) (to slot number : ℕ)
-    → (if worn then asked.WornOut else (if out then asked.NotYet else asked.Accepted to slot number)) ≡ asked.Ran → ⊥
+claims_not : (exhausted out : Bool) (to slot number : ℕ)
+    → (if exhausted then asked.Exhausted else (if out then asked.NotYet else asked.Accepted to slot number)) ≡ asked.Ran → ⊥
 claims_not true out to slot number e = absurd (cc)
 claims_not false true to slot number e = absurd (cc)
 claims_not false false to slot number e = absurd (cc)
 
--- an event of the record that is a tick or a call, and no request to the own node, is one whatever handlers mean
+-- an event of the record that is a tick or a call, and no request to the local node, is one whatever handlers mean
 meant_alike : (meaning other : Meaning) (old new : EndpointState) (thread now : ℕ) (what : Meant) (answer : Answer)
     → (IsAskedOf what old.core.me → ⊥)
     → NodeSteps meaning old (transition now (node_event thread what) answer) new

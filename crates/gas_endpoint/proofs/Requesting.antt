@@ -39,9 +39,9 @@ use Rattle.gas_endpoint.specs.Parts.{endpoint_of}
 use Rattle.gas_endpoint.proofs.Stepping.{steps_by, barrier_of}
 use Rattle.lists.proofs.Tests.{some_none}
 
--- ---- what a request to the own node leaves of the extended API
+-- ---- what a request to the local node leaves of the extended API
 
--- no operation is of the own node, so none comes back from it
+-- no operation is of the local node, so none comes back from it
 pub none_back : (from slot request : ℕ) (operations : List Operation)
     → ((place : ℕ) (operation : Operation) → slice_get operations place ≡ Some operation
     → target operation.transfer ≢ from) → come_back from slot request operations ≡ operations

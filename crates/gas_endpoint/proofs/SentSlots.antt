@@ -14,7 +14,7 @@ use Rattle.node_record.specs.Requests.{Due, is_open}
 use Rattle.node_record.specs.declared.answer.Why.{Why}
 use Rattle.node_record.specs.Executed.{greatest, run_at}
 use Rattle.node_record.specs.Behaviour.{Ask, is_request}
-use Rattle.node_record.specs.Step.{Verdict, Refused, Repeated, Passed, Runs, Missed, Returns, verdict, answer_by}
+use Rattle.node_record.specs.Step.{Verdict, Refused, Duplicated, Passed, Runs, Missed, Returns, verdict, answer_by}
 use Rattle.node_record.specs.Step.{request_answer, request_slot, reply_slot, next_due, choice_of, tick_answer}
 use Rattle.node_record.specs.Step.{unless_refused, unless_waiting, judged, taken_back, refusal}
 use Rattle.node_record.specs.NodeStep.{Job, site_of}
@@ -77,24 +77,24 @@ repeated_slot me from slot number runs some same = elim (greatest_there slot run
 
 -- only a request with the greatest number of its slot comes again
 repeated_says : (reason : Option Why) (is_asked : Bool) (number top slot : ℕ) (lock : Option ℕ) (open_ : Option Request)
-    → unless_refused reason (if is_asked then judged number top lock else taken_back slot open_ lock) ≡ Repeated
+    → unless_refused reason (if is_asked then judged number top lock else taken_back slot open_ lock) ≡ Duplicated
     → number ≡ top
 repeated_says (Some why) is_asked number top slot lock open_ e = absurd (refused e)
   where
-    refused : Refused why ≡ Repeated → ⊥
+    refused : Refused why ≡ Duplicated → ⊥
     refused h = cc
 repeated_says None true number top slot lock open_ e = elim (cases_Bool (eqb number top)) [
   | inl same ↦ eqb-true number top same
   | inr other ↦ absurd (later (nat_lt number top) lock (rw other at e))
 ]
   where
-    later : (less : Bool) (wait : Option ℕ) → (if less then Passed else unless_waiting wait Runs) ≡ Repeated → ⊥
+    later : (less : Bool) (wait : Option ℕ) → (if less then Passed else unless_waiting wait Runs) ≡ Duplicated → ⊥
     later true wait h = cc
     later false None h = cc
     later false (Some k) h = cc
 repeated_says None false number top slot lock open_ e = absurd (taken (is_open slot open_) lock e)
   where
-    taken : (is : Bool) (wait : Option ℕ) → (if is then unless_waiting wait Returns else Missed) ≡ Repeated → ⊥
+    taken : (is : Bool) (wait : Option ℕ) → (if is then unless_waiting wait Returns else Missed) ≡ Duplicated → ⊥
     taken true None h = cc
     taken true (Some k) h = cc
     taken false wait h = cc
@@ -115,7 +115,7 @@ delivered_slot : (meaning : Meaning) (old : EndpointState) (node : Node Endpoint
     (delivered_sends (site_of (job_here meaning old) old.core.me) node m v)
 delivered_slot meaning old node m Runs some e =
     rw (run_slot old.core.settings.version (content_of m) (reply_slot m.from m.slot)) (_, refl, refl)
-delivered_slot meaning old node m Repeated some e =
+delivered_slot meaning old node m Duplicated some e =
     repeated_slot old.core.me m.from m.slot m.number (node.ran m.from) some
     (repeated_says (refusal (site_of (job_here meaning old) old.core.me) m) (is_request m.kind) m.number
     (greatest m.slot (node.ran m.from)) m.slot

@@ -5,7 +5,7 @@ use Rattle.handler_rules.specs.Runs.{Meaning, IsLawfulMeaning, untouched}
 use Rattle.handler_rules.proofs.Lawful.{lawful-untouched}
 use Rattle.node_record.specs.Record.{Node}
 use Rattle.node_record.specs.NodeStep.{node_answer, node_after}
-use Rattle.node_record.specs.Step.{is_worn_out}
+use Rattle.node_record.specs.Step.{is_exhausted}
 use Rattle.node_record.proofs.LocalKept.{event_kept}
 use Rattle.named_barrier.specs.Record.{BarrierRecord}
 use Rattle.named_barrier.specs.BarrierState.{BarrierState}
@@ -96,13 +96,13 @@ caller_same old new node thread same =
       settings = new.settings;
       me = me;
       thread = thread;
-      worn = is_worn_out new.settings node;
+      exhausted = is_exhausted new.settings node;
     }) same.me_is
     ∙ ap (λ (s : Parameters). record {
       settings = s;
       me = old.me;
       thread = thread;
-      worn = is_worn_out s node;
+      exhausted = is_exhausted s node;
     }) same.settings
 
 -- a barrier that stands for this does among the same nodes

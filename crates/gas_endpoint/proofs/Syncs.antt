@@ -5,18 +5,18 @@ use Rattle.std.specs.List.{slice_get, list_all, list_any, AllByRecursion}
 use Rattle.std.proofs.lemmas.Bool.{cases_Bool}
 use Rattle.std.proofs.Common.{inl, inr}
 use Rattle.put_get.specs.declared.operation.Handle.{Handle}
-use Rattle.put_get.specs.declared.operation.Some3.{Some3}
+use Rattle.put_get.specs.declared.operation.ImplicitKinds.{ImplicitKinds}
 use Rattle.put_get.specs.declared.operation.Synced.{Synced}
 use Rattle.put_get.specs.declared.operation.Synced.TheVariants as synced
 use Rattle.put_get.specs.declared.transfers.Transfers.{Transfers}
 use Rattle.put_get.specs.Operation.{Operation, target, next_chunk, is_complete}
 use Rattle.put_get.specs.Stands.{Stands as TransfersStand, room_of}
-use Rattle.put_get.specs.Syncs.{Choice, chosen, flag_at, worn_of, worn_or, sync_answer, members, handle_answer}
+use Rattle.put_get.specs.Syncs.{Choice, chosen, flag_at, exhausted_of, exhausted_or, sync_answer, members, handle_answer}
 use Rattle.put_get.specs.Syncs.{after_handle}
 use Rattle.put_get.specs.Syncs.{fault_here, fault_of, unless_fault, members_of, all_answer, is_whole, whole_of}
 use Rattle.put_get.specs.Syncs.{some_answer, implicit_of, implicit_answer, left_by}
 use Rattle.node_record.specs.Record.{Node}
-use Rattle.node_record.specs.Step.{is_worn_out}
+use Rattle.node_record.specs.Step.{is_exhausted}
 use Rattle.access_region.specs.Regions.{has_begun}
 use Rattle.std.proofs.Common.{false}
 use Rattle.am_core.specs.CoreState.{CoreState}
@@ -52,71 +52,71 @@ chosen_all P choice number (operation ∷ later) all = elim (cases_Bool (choice 
 ]
 
 -- the two tests say the same of an operation's target
-abbrev pub Agree : (worn other : ℕ → Bool) → Operation → Type 0
-Agree worn other operation = worn (target operation.transfer) ≡ other (target operation.transfer)
+abbrev pub Agree : (exhausted other : ℕ → Bool) → Operation → Type 0
+Agree exhausted other operation = exhausted (target operation.transfer) ≡ other (target operation.transfer)
 
-worn_alike : (worn other : ℕ → Bool) (operations : List Operation) → AllByRecursion (Agree worn other) operations
-    → worn_of worn operations ≡ worn_of other operations
-worn_alike worn other [] all = refl
-worn_alike worn other (operation ∷ later) all = rw (all.0, worn_alike worn other later all.1) refl
+exhausted_alike : (exhausted other : ℕ → Bool) (operations : List Operation) → AllByRecursion (Agree exhausted other) operations
+    → exhausted_of exhausted operations ≡ exhausted_of other operations
+exhausted_alike exhausted other [] all = refl
+exhausted_alike exhausted other (operation ∷ later) all = rw (all.0, exhausted_alike exhausted other later all.1) refl
 
-sync_alike : (worn other : ℕ → Bool) (operations : List Operation) → AllByRecursion (Agree worn other) operations
-    → sync_answer worn operations ≡ sync_answer other operations
-sync_alike worn other operations all =
-    ap (λ w. if list_all is_complete operations then synced.Ok else worn_or w) (worn_alike worn other operations all)
+sync_alike : (exhausted other : ℕ → Bool) (operations : List Operation) → AllByRecursion (Agree exhausted other) operations
+    → sync_answer exhausted operations ≡ sync_answer other operations
+sync_alike exhausted other operations all =
+    ap (λ w. if list_all is_complete operations then synced.Ok else exhausted_or w) (exhausted_alike exhausted other operations all)
 
 -- the flags of the record's nodes
-abbrev pub AreWorn : CoreState → Extended → List Bool → Type 0
-AreWorn core extended flags =
+abbrev pub AreExhausted : CoreState → Extended → List Bool → Type 0
+AreExhausted core extended flags =
     ForItsRecord (endpoint_of core extended) (λ node. (to : ℕ) → to < core.settings.nodes
-    → flag_at flags to ≡ is_worn_out core.settings node to)
+    → flag_at flags to ≡ is_exhausted core.settings node to)
 
-agreed : (core : CoreState) (extended : Extended) (flags : List Bool) → AreWorn core extended flags
+agreed : (core : CoreState) (extended : Extended) (flags : List Bool) → AreExhausted core extended flags
     → (node : Node EndpointLocal) → EndpointStands (endpoint_of core extended) node
-    → AllByRecursion (Agree (flag_at flags) (is_worn_out core.settings node)) node.local.operations
+    → AllByRecursion (Agree (flag_at flags) (is_exhausted core.settings node)) node.local.operations
 agreed core extended flags are node S =
-    all_by (Agree (flag_at flags) (is_worn_out core.settings node)) node.local.operations
+    all_by (Agree (flag_at flags) (is_exhausted core.settings node)) node.local.operations
     (λ place operation e. are node S (target operation.transfer) (S.kept.operations (suc place) operation e).there)
 
-handle_alike : (worn other : ℕ → Bool) (thread handle : ℕ) (operations : List Operation)
-    → AllByRecursion (Agree worn other) operations
-    → handle_answer worn thread handle operations ≡ handle_answer other thread handle operations
-handle_alike worn other thread handle operations all =
+handle_alike : (exhausted other : ℕ → Bool) (thread handle : ℕ) (operations : List Operation)
+    → AllByRecursion (Agree exhausted other) operations
+    → handle_answer exhausted thread handle operations ≡ handle_answer other thread handle operations
+handle_alike exhausted other thread handle operations all =
     let its = chosen (members handle operations) 1 operations in
     ap (λ s. if handle == 0 then synced.Ok else unless_fault (fault_here thread its) s)
-    (sync_alike worn other its (chosen_all (Agree worn other) (members handle operations) 1 operations all))
+    (sync_alike exhausted other its (chosen_all (Agree exhausted other) (members handle operations) 1 operations all))
 
-pub all_alike : (worn other : ℕ → Bool) (thread : ℕ) (handles : List Handle) (operations : List Operation)
-    → AllByRecursion (Agree worn other) operations
-    → all_answer worn thread handles operations ≡ all_answer other thread handles operations
-all_alike worn other thread handles operations all =
+pub all_alike : (exhausted other : ℕ → Bool) (thread : ℕ) (handles : List Handle) (operations : List Operation)
+    → AllByRecursion (Agree exhausted other) operations
+    → all_answer exhausted thread handles operations ≡ all_answer other thread handles operations
+all_alike exhausted other thread handles operations all =
     ap (unless_fault (fault_of thread operations handles))
-    (sync_alike worn other (chosen (members_of handles operations) 1 operations)
-    (chosen_all (Agree worn other) (members_of handles operations) 1 operations all))
+    (sync_alike exhausted other (chosen (members_of handles operations) 1 operations)
+    (chosen_all (Agree exhausted other) (members_of handles operations) 1 operations all))
 
-pub some_alike : (worn other : ℕ → Bool) (thread : ℕ) (handles : List Handle) (operations : List Operation)
-    → AllByRecursion (Agree worn other) operations
-    → some_answer worn thread handles operations ≡ some_answer other thread handles operations
-some_alike worn other thread handles operations all =
+pub some_alike : (exhausted other : ℕ → Bool) (thread : ℕ) (handles : List Handle) (operations : List Operation)
+    → AllByRecursion (Agree exhausted other) operations
+    → some_answer exhausted thread handles operations ≡ some_answer other thread handles operations
+some_alike exhausted other thread handles operations all =
     ap (λ w. unless_fault (fault_of thread operations handles)
     (if list_all (λ (handle : Handle). handle.serial == 0) handles || list_any (is_whole operations) handles
-    then synced.Ok else worn_or w))
-    (worn_alike worn other (chosen (members_of handles operations) 1 operations)
-    (chosen_all (Agree worn other) (members_of handles operations) 1 operations all))
+    then synced.Ok else exhausted_or w))
+    (exhausted_alike exhausted other (chosen (members_of handles operations) 1 operations)
+    (chosen_all (Agree exhausted other) (members_of handles operations) 1 operations all))
 
-implicit_alike : (worn other : ℕ → Bool) (thread : ℕ) (some : Some3) (operations : List Operation)
-    → AllByRecursion (Agree worn other) operations
-    → implicit_answer worn thread some operations ≡ implicit_answer other thread some operations
-implicit_alike worn other thread some operations all =
-    sync_alike worn other (chosen (implicit_of thread some) 1 operations)
-    (chosen_all (Agree worn other) (implicit_of thread some) 1 operations all)
+implicit_alike : (exhausted other : ℕ → Bool) (thread : ℕ) (some : ImplicitKinds) (operations : List Operation)
+    → AllByRecursion (Agree exhausted other) operations
+    → implicit_answer exhausted thread some operations ≡ implicit_answer other thread some operations
+implicit_alike exhausted other thread some operations all =
+    sync_alike exhausted other (chosen (implicit_of thread some) 1 operations)
+    (chosen_all (Agree exhausted other) (implicit_of thread some) 1 operations all)
 
 pub same_core : (core : CoreState) → IsSameNode core core
 same_core core = record { settings = refl; me_is = refl; table = refl; segment_length = refl }
 
 -- a handle
 pub sync_does : (core : CoreState) (extended : Extended) (transfers : Transfers) (flags : List Bool) (thread : ℕ)
-    (handle : Handle) (says : Synced) → AreWorn core extended flags
+    (handle : Handle) (says : Synced) → AreExhausted core extended flags
     → ((operations : List Operation) → TransfersStand extended.transfers operations
     → says ≡ handle_answer (flag_at flags) thread handle.serial operations)
     → ((operations : List Operation) → TransfersStand extended.transfers operations
@@ -131,7 +131,7 @@ sync_does core extended transfers flags thread handle says are answer stands roo
   steps = λ node S.
       let operations = node.local.operations in
       let is = answer operations S.transfers
-      ∙ handle_alike (flag_at flags) (is_worn_out core.settings node) thread handle.serial operations
+      ∙ handle_alike (flag_at flags) (is_exhausted core.settings node) thread handle.serial operations
       (agreed core extended flags are node S) in (
         ap (λ (s : Synced). answers.Synced s) is,
         record {
@@ -147,7 +147,7 @@ sync_does core extended transfers flags thread handle says are answer stands roo
 
 -- implicit operations
 pub implicit_does : (core : CoreState) (extended : Extended) (transfers : Transfers) (flags : List Bool) (thread : ℕ)
-    (some : Some3) (says : Synced) → AreWorn core extended flags
+    (some : ImplicitKinds) (says : Synced) → AreExhausted core extended flags
     → has_begun extended.regions thread ≡ false
     → ((operations : List Operation) → TransfersStand extended.transfers operations
     → says ≡ implicit_answer (flag_at flags) thread some operations)
@@ -165,7 +165,7 @@ implicit_does core extended transfers flags thread some says are out answer stan
       let none : has_begun node.local.regions thread ≡ false =
       ap (λ rs. has_begun rs thread) (sym S.regions_are) ∙ out in
       let is = answer operations S.transfers
-      ∙ implicit_alike (flag_at flags) (is_worn_out core.settings node) thread some operations
+      ∙ implicit_alike (flag_at flags) (is_exhausted core.settings node) thread some operations
       (agreed core extended flags are node S) in (
         rw none (ap (λ (s : Synced). answers.Synced s) is),
         rw none (record {
@@ -188,13 +188,13 @@ emptied_unless _ which registers never = refl
 -- a sync of some registers: its answer, which operations it then synchronises, and which registers it empties
 pub record Group : Type 0 where
   pub regs : List ℕ
-  pub answer : (worn : ℕ → Bool) → (thread : ℕ) → List Handle → List Operation → Synced
+  pub answer : (exhausted : ℕ → Bool) → (thread : ℕ) → List Handle → List Operation → Synced
   pub choice : List Handle → List Operation → Choice
   pub empties : List Operation → List Handle → List ℕ
-  -- of the nodes that are worn out it asks for targets alone
-  pub alike : (worn other : ℕ → Bool) (thread : ℕ) (handles : List Handle) (operations : List Operation)
-      → AllByRecursion (Agree worn other) operations
-      → answer worn thread handles operations ≡ answer other thread handles operations
+  -- of the nodes that are exhausted out it asks for targets alone
+  pub alike : (exhausted other : ℕ → Bool) (thread : ℕ) (handles : List Handle) (operations : List Operation)
+      → AllByRecursion (Agree exhausted other) operations
+      → answer exhausted thread handles operations ≡ answer other thread handles operations
 
 -- all of them
 abbrev pub all_of : List ℕ → Group
@@ -220,7 +220,7 @@ some_of regs = record {
 abbrev pub group_outcome : Group → Outcome
 group_outcome group caller local =
     let handles = map (handle_in local.registers) group.regs in
-    let says = group.answer caller.worn caller.thread handles local.operations in (
+    let says = group.answer caller.exhausted caller.thread handles local.operations in (
       answers.Synced says,
       record local {
         operations = left_by says (group.choice handles local.operations) local.operations;
@@ -230,7 +230,7 @@ group_outcome group caller local =
 
 pub group_does : (group : Group) (core : CoreState) (extended : Extended) (transfers : Transfers) (flags : List Bool)
     (thread : ℕ) (handles : List Handle) (whole : List ℕ) (says : Synced) (registers : List Handle)
-    → AreWorn core extended flags → handles ≡ map (handle_in extended.registers) group.regs
+    → AreExhausted core extended flags → handles ≡ map (handle_in extended.registers) group.regs
     → ((operations : List Operation) → TransfersStand extended.transfers operations
     → whole ≡ group.empties operations extended.registers)
     → registers ≡ emptied_by says whole extended.registers
@@ -247,12 +247,12 @@ group_does group core extended transfers flags thread handles whole says registe
       frame = record { nodes = refl; me_is = refl; threads = refl; room = room };
       steps = λ node S.
           let operations = node.local.operations in
-          let worn = is_worn_out core.settings node in
+          let exhausted = is_exhausted core.settings node in
           let its : handles ≡ map (handle_in node.local.registers) group.regs =
           those ∙ ap (λ rs. map (handle_in rs) group.regs) S.registers_are in
           let is = answer operations S.transfers
-          ∙ group.alike (flag_at flags) worn thread handles operations (agreed core extended flags are node S)
-          ∙ ap (λ hs. group.answer worn thread hs operations) its in (
+          ∙ group.alike (flag_at flags) exhausted thread handles operations (agreed core extended flags are node S)
+          ∙ ap (λ hs. group.answer exhausted thread hs operations) its in (
             ap (λ (s : Synced). answers.Synced s) is,
             record {
               core = S.core;

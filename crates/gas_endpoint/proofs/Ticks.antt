@@ -36,7 +36,7 @@ use Rattle.am_core.specs.Library.{Work, WorkFits, Note, work_content}
 use Rattle.am_core.specs.ClientRules.{rules}
 use Rattle.am_core.specs.CoreState.{CoreState}
 use Rattle.am_core.specs.Stands.{Stands}
-use Rattle.am_core.specs.CoreContracts.{CoreSteps, CoreTold, IsSameNode, AsksOwn, resends, core_job}
+use Rattle.am_core.specs.CoreContracts.{CoreSteps, CoreTold, IsSameNode, AsksOwn, retransmits, core_job}
 use Rattle.endpoint_rules.specs.EndpointLocal.{EndpointLocal, core_of}
 use Rattle.endpoint_rules.specs.EndpointRules.{transition, job_of, next_sending, note_first, next_note, chunk_work}
 use Rattle.endpoint_rules.specs.EndpointRules.{sending_of}
@@ -58,7 +58,7 @@ use Rattle.gas_endpoint.proofs.Calling.{stands_with, same_extended}
 abbrev pub CoreTicks : CoreState → (now : ℕ) → Option SlotRef → CoreState → Type 0
 CoreTicks core now at new =
     (meaning : Meaning) → CoreSteps meaning core
-    (record { now = now; event = Ticks; answer = OfTick (resends at) }) new
+    (record { now = now; event = Ticks; answer = OfTick (retransmits at) }) new
 
 -- how the core's tick was answered
 abbrev core_ticked : NodeAnswer CoreTold → Ticked
@@ -71,16 +71,16 @@ core_ticked _ = ticked.Nothing
 due_again : (meaning : Meaning) (core new : CoreState) (extended : Extended) (now : ℕ) (at : SlotRef)
     (node : Node EndpointLocal) (due : Option Due) (sending : Option Sending) → IsSameNode core new
     → EndpointStands (endpoint_of core extended) node
-    → ticked.Resend at ≡ tick_answer (rules core.settings core.table meaning) (under core_of node) (choice_of due None)
+    → ticked.Retransmission at ≡ tick_answer (rules core.settings core.table meaning) (under core_of node) (choice_of due None)
     → Stands new
     (after_tick (site_of (core_job meaning core) core.me) (under core_of node) now (choice_of due None))
     → let job = job_here meaning (endpoint_of core extended) in
-    (answers.Ticked (ticked.Resend at) ≡ answers.Ticked
+    (answers.Ticked (ticked.Retransmission at) ≡ answers.Ticked
     (tick_answer job.behaviour.messages node (choice_of due sending)))
     × Keeps (endpoint_of new extended) (after_tick (site_of job core.me) node now (choice_of due sending))
 due_again meaning core new extended now at node None sending same S e there = absurd (no e)
   where
-    no : ticked.Resend at ≡ ticked.Nothing → ⊥
+    no : ticked.Retransmission at ≡ ticked.Nothing → ⊥
     no h = cc
 due_again meaning core new extended now at node (Some due) sending same S e there = (
   ap (λ (t : Ticked). answers.Ticked t) e,
@@ -95,7 +95,7 @@ due_again meaning core new extended now at node (Some due) sending same S e ther
 
 pub resend_steps : (core new : CoreState) (extended : Extended) (now : ℕ) (at : SlotRef)
     → CoreTicks core now (Some at) new → (meaning : Meaning) → IsLawfulMeaning meaning
-    → NodeSteps meaning (endpoint_of core extended) (transition now Ticks (answers.Ticked (ticked.Resend at)))
+    → NodeSteps meaning (endpoint_of core extended) (transition now Ticks (answers.Ticked (ticked.Retransmission at)))
     (endpoint_of new extended)
 resend_steps core new extended now at C meaning lawful =
     steps_by meaning (endpoint_of core extended) (endpoint_of new extended) now Ticks _ lawful (C meaning).same
@@ -112,7 +112,7 @@ none_due : (meaning : Meaning) (core new : CoreState) (now : ℕ) (node : Node L
 none_due meaning core new now node None e there = (refl, there)
 none_due meaning core new now node (Some due) e there = absurd (no e)
   where
-    no : ticked.Nothing ≡ ticked.Resend (request_slot due.peer due.slot) → ⊥
+    no : ticked.Nothing ≡ ticked.Retransmission (request_slot due.peer due.slot) → ⊥
     no h = cc
 
 pub rests_due : (core new : CoreState) (extended : Extended) (now : ℕ) → CoreTicks core now None new

@@ -125,7 +125,7 @@ EndpointSteps meaning old step new = elim step.event [
   | event.Tick ↦ NodeSteps meaning old (transition step.now Ticks step.answer) new
 ]
 
--- the event runs no handler, whatever the node has kept: it is a tick, or a call that is no request to the own node
+-- the event runs no handler, whatever the node has kept: it is a tick, or a call that is no request to the local node
 abbrev pub RunsNone : EndpointState → Event → Type 0
 RunsNone endpoint (event.Call thread call) = HasTarget call endpoint.core.me → ⊥
 RunsNone endpoint (event.Deliver bytes) = ⊥

@@ -7,7 +7,7 @@ use Rattle.handler_rules.specs.declared.rules.CallKind.{CallKind}
 use Rattle.handler_rules.specs.declared.rules.CallKind.TheVariants as kinds
 use Rattle.node_record.specs.Record.{Node}
 use Rattle.node_record.specs.Behaviour.{Sending}
-use Rattle.node_record.specs.Step.{with_local, is_worn_out, can_ask, after_sending, tick_answer, Sends}
+use Rattle.node_record.specs.Step.{with_local, is_exhausted, can_ask, after_sending, tick_answer, Sends}
 use Rattle.node_record.specs.NodeStep.{site_of}
 use Rattle.node_record.specs.Under.{under}
 use Rattle.node_record.specs.declared.answer.Delivered.{Delivered}
@@ -101,7 +101,7 @@ caller_in core node thread = record {
   settings = core.settings;
   me = core.me;
   thread = thread;
-  worn = is_worn_out core.settings node;
+  exhausted = is_exhausted core.settings node;
 }
 
 -- what a call answers and leaves

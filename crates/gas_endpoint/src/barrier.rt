@@ -5,7 +5,7 @@ ghost use Rattle.handler_rules.specs.Runs.{Meaning};
 ghost use Rattle.node_record.specs.Step.{can_ask};
 ghost use Rattle.node_record.specs.NodeStep.{site_of};
 ghost use Rattle.named_barrier.specs.BarrierState.{note_at};
-ghost use Rattle.endpoint_rules.specs.BarrierCalls.{Notify, TryBarrier, barrier_does, worn_out_for};
+ghost use Rattle.endpoint_rules.specs.BarrierCalls.{Notify, TryBarrier, barrier_does, exhausted_for};
 ghost use Rattle.endpoint_rules.specs.EndpointRules.{with_barrier, next_note};
 ghost use Rattle.gas_endpoint.specs.EndpointState.{ForItsRecord, job_here};
 ghost use Rattle.gas_endpoint.specs.Parts.{IsWhole, PartDoes, endpoint_of, caller_in, found_note};
@@ -35,18 +35,18 @@ impl Extended {
             (barrier_does caller (TryBarrier id flags) local.barrier))
             result (record { core = core.now; extended = self.new }) }
     {
-        let worn = self.first_worn(core);
-        Answer::Barrier(self.barrier.try_wait(id, flags, worn))
+        let exhausted = self.first_exhausted(core);
+        Answer::Barrier(self.barrier.try_wait(id, flags, exhausted))
     }
 
     /// The least node to which a note of the present phase must go, and for which no number is left.
-    fn first_worn(&self, core: &Core) -> Option<u16>
+    fn first_exhausted(&self, core: &Core) -> Option<u16>
         requires { IsWhole core.now self.now }
         ensures { (thread : ℕ) → ForItsRecord (endpoint_of core.now self.now) (λ node.
-            result ≡ worn_out_for (caller_in core.now node thread) node.local.barrier) }
+            result ≡ exhausted_for (caller_in core.now node thread) node.local.barrier) }
     {
         for node in 0..self.nodes {
-            if self.is_worn(core, node) && self.barrier.owes(node) {
+            if self.has_exhausted(core, node) && self.barrier.owes(node) {
                 return Some(node);
             }
         }

@@ -17,7 +17,7 @@ use handler_rules::Which;
 use put_get::{Handle, Mode, Transfer};
 use raw_segment::Segment;
 
-/// Whether a transfer's range of the own segment lies inside it.
+/// Whether a transfer's range of the local segment lies inside it.
 fn own_fits(segment: &Segment, transfer: &Transfer) -> bool
     ensures { result ≡ not (nat_lt (length segment.now) (own_end transfer.now)) }
 {

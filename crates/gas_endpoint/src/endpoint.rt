@@ -371,7 +371,7 @@ impl Endpoint {
             (transition now Ticks (Answer.Ticked result)) self.new }
     {
         if let Some(at) = self.core.tick(now) {
-            return Ticked::Resend(at);
+            return Ticked::Retransmission(at);
         }
         if let Some((to, note)) = self.extended.next_note(&self.core) {
             return self.extended.send_note(&mut self.core, now, to, &note);

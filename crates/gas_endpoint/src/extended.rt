@@ -6,7 +6,7 @@ ghost use Rattle.named_barrier.specs.Record.{opened};
 ghost use Rattle.named_barrier.specs.Stands.{Stands as BarrierStands};
 ghost use Rattle.put_get.specs.Stands.{room_of};
 ghost use Rattle.put_get.specs.Stands.{Stands as TransfersStand, HasOperations};
-ghost use Rattle.node_record.specs.Step.{is_worn_out};
+ghost use Rattle.node_record.specs.Step.{is_exhausted};
 ghost use Rattle.put_get.specs.Syncs.{flag_at};
 ghost use Rattle.endpoint_rules.specs.BarrierCalls.{has_ranges};
 ghost use Rattle.endpoint_rules.specs.EndpointLocal.{invalid};
@@ -93,31 +93,31 @@ impl Extended {
         })
     }
 
-    /// Whether no number is left for requests to a node; there are always some for the own one, which takes none.
-    pub(crate) fn is_worn(&self, core: &Core, node: u16) -> bool
+    /// Whether no number is left for requests to a node; there are always some for the local one, which takes none.
+    pub(crate) fn has_exhausted(&self, core: &Core, node: u16) -> bool
         requires whole { IsWhole core.now self.now }
         requires there { node < core.now.settings.nodes }
         ensures { ForItsRecord (endpoint_of core.now self.now) (λ record_.
-            result ≡ is_worn_out core.now.settings record_ node) }
+            result ≡ is_exhausted core.now.settings record_ node) }
     {
         if node == self.me {
             return false;
         }
-        core.worn_out(node)
+        core.exhausted(node)
     }
 
     /// For each node whether no number is left for requests to it.
-    pub(crate) fn worn(&self, core: &Core) -> [bool; 256]
+    pub(crate) fn exhausted(&self, core: &Core) -> [bool; 256]
         requires { IsWhole core.now self.now }
         ensures { ForItsRecord (endpoint_of core.now self.now) (λ node. (to : ℕ)
             → to < core.now.settings.nodes
-            → flag_at result to ≡ is_worn_out core.now.settings node to) }
+            → flag_at result to ≡ is_exhausted core.now.settings node to) }
     {
-        let mut worn = [false; 256];
+        let mut exhausted = [false; 256];
         for node in 0..self.nodes {
-            worn[node as usize] = self.is_worn(core, node);
+            exhausted[node as usize] = self.has_exhausted(core, node);
         }
-        worn
+        exhausted
     }
 
     /// Tells the transfers and the barrier what a delivery was answered.

@@ -9,7 +9,7 @@
 //!   grammar. What the rule table forbids is answered `Forbidden`, whatever the call, and noted once. The message that
 //!   the step sends is that of the slot which `Answer::sends` names [`sends`: `StepSends`]; `Endpoint::message` gives
 //!   it, `Endpoint::number` its number. A step that runs no handler (`RunsNone`: a tick, or a call that is no request to
-//!   the own node) is the same whatever the handlers mean [`quiet`].
+//!   the local node) is the same whatever the handlers mean [`quiet`].
 //! - A tick sends a request again that is due; else the note of the barrier that is due to the least node that can be
 //!   asked; else the next chunk of the oldest operation whose target can be asked. `Endpoint::next_target` tells before
 //!   it which node would get a request of the node's own accord [`target`: `IsTickTarget`]; `would_accept` whether an

@@ -14,7 +14,7 @@ use crate::extended::Extended;
 use am_core::Core;
 use arrayvec::ArrayVec;
 use endpoint_rules::{Answer, Region};
-use put_get::{Handle, Some3, Synced};
+use put_get::{Handle, ImplicitKinds, Synced};
 
 /// The handles in these registers, in the first places.
 fn handles_in(registers: &[Handle; 256], regs: &[u8]) -> [Handle; 256]
@@ -67,8 +67,8 @@ impl Extended {
             (λ caller local. transfer_does caller (SyncHandle handle) local) result
             (record { core = core.now; extended = self.new }) }
     {
-        let worn = self.worn(core);
-        Answer::Synced(self.transfers.try_sync(&worn, thread, handle))
+        let exhausted = self.exhausted(core);
+        Answer::Synced(self.transfers.try_sync(&exhausted, thread, handle))
     }
 
     /// Tries to synchronise the operations of all of these registers.
@@ -79,11 +79,11 @@ impl Extended {
             (λ caller local. transfer_does caller (SyncAll regs.now) local) result
             (record { core = core.now; extended = self.new }) }
     {
-        let worn = self.worn(core);
+        let exhausted = self.exhausted(core);
         let handles = handles_in(&self.registers, regs);
         let says = self
             .transfers
-            .try_sync_all(&worn, thread, &handles[..regs.len()]);
+            .try_sync_all(&exhausted, thread, &handles[..regs.len()]);
         if let Synced::Ok = says {
             empty(&mut self.registers, regs);
         }
@@ -98,12 +98,12 @@ impl Extended {
             (λ caller local. transfer_does caller (SyncSome regs.now) local) result
             (record { core = core.now; extended = self.new }) }
     {
-        let worn = self.worn(core);
+        let exhausted = self.exhausted(core);
         let handles = handles_in(&self.registers, regs);
         let whole = self.whole_registers(regs);
         let says = self
             .transfers
-            .try_sync_some(&worn, thread, &handles[..regs.len()]);
+            .try_sync_some(&exhausted, thread, &handles[..regs.len()]);
         if let Synced::Ok = says {
             empty(&mut self.registers, whole.as_slice());
         }
@@ -111,7 +111,7 @@ impl Extended {
     }
 
     /// Tries to synchronise a thread's implicit operations.
-    pub(crate) fn sync_implicit(&mut self, core: &Core, thread: u16, which: Some3) -> Answer
+    pub(crate) fn sync_implicit(&mut self, core: &Core, thread: u16, which: ImplicitKinds) -> Answer
         requires whole { IsWhole core.now self.old }
         requires thread { thread < core.now.settings.threads }
         ensures { PartDoes (record { core = core.now; extended = self.old }) thread
@@ -121,8 +121,8 @@ impl Extended {
         if self.regions.is_begun(thread) {
             return Answer::Region(Region::InRegion);
         }
-        let worn = self.worn(core);
-        Answer::Synced(self.transfers.try_sync_implicit(&worn, thread, which))
+        let exhausted = self.exhausted(core);
+        Answer::Synced(self.transfers.try_sync_implicit(&exhausted, thread, which))
     }
 
     /// A thread begins a region.

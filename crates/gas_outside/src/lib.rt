@@ -1,4 +1,4 @@
-//! The outside of the program as traits: sources and sinks of bytes, links of datagrams, clocks, gates of turns, and
+//! The outside of the program as traits: sources and sinks of bytes, links of datagrams, clocks, waiters of turns, and
 //! spawners of children.
 //!
 //! A source may tell the bytes that are left, and a sink the bytes that it took; what a function read or wrote is then
@@ -18,7 +18,7 @@
 //!   where it can (`Told`): a link may tell the datagrams sent, received and waiting, and a fault comes only where the
 //!   count of faults rose.
 //! - `Clock` [`asked`, `said`, `fixed`, `one`]: it counts how often it is asked, and `FixedClock` always says one
-//!   value. A `Gate`, as `OpenGate`, promises nothing.
+//!   value. A `Waiter`, as `ReadyWaiter`, promises nothing.
 //! - `Spawner` [`told`, `output`, `pending`, `later`, `cause`]: a start is told, and so is the first finish of a child
 //!   that was started, with what the child gave and the answer; what was told before stays. A child ends once, after
 //!   its start.
@@ -33,7 +33,6 @@
 
 mod buffered;
 mod clock;
-mod gate;
 mod link;
 mod memory;
 mod memory_link;
@@ -45,11 +44,11 @@ mod sink;
 mod source;
 mod spawn_call;
 mod spawner;
+mod waiter;
 mod writing;
 
 pub use buffered::BufferedSink;
 pub use clock::{Clock, FixedClock};
-pub use gate::{Gate, OpenGate};
 pub use link::{Link, LinkAnswer, Received};
 pub use memory::{MemorySink, MemorySource};
 pub use memory_link::MemoryLink;
@@ -60,4 +59,5 @@ pub use sink::{Put, Sink};
 pub use source::{Got, Source};
 pub use spawn_call::SpawnCall;
 pub use spawner::{Finished, MAX_OUTPUT, Spawner, Started};
+pub use waiter::{ReadyWaiter, Waiter};
 pub use writing::{Wrote, write_all};

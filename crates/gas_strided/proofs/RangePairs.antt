@@ -69,7 +69,7 @@ walks_far old all far far_len remotes near near_len locals new first len later r
       ∙ walks.rest;
 }
 
--- on the own side
+-- on the local side
 pub walks_near : (old : List Piece) (all : List Pair) (far far_len : ℕ) (remotes : List (ℕ × ℕ)) (near near_len : ℕ)
     (locals : List (ℕ × ℕ)) (new : List Piece) (first len : ℕ) (later : List (ℕ × ℕ)) (range : ℕ × ℕ)
     → Walks old all far far_len remotes near near_len locals new → near_len ≡ 0 → locals ≡ range ∷ later
@@ -156,7 +156,7 @@ walked_far old all far far_len remotes near near_len locals new walks none no_ra
     ∙ sym (ap₂ (λ bs rs. walks.done ++ paired (bs ++ bytes_of rs) (bytes_from near near_len ++ bytes_of locals)) empty
     (nil_from_length remotes no_range)) ∙ walks.rest)
 
--- nor on the own side
+-- nor on the local side
 pub walked_near : (old : List Piece) (all : List Pair) (far far_len : ℕ) (remotes : List (ℕ × ℕ)) (near near_len : ℕ)
     (locals : List (ℕ × ℕ)) (new : List Piece) → Walks old all far far_len remotes near near_len locals new
     → near_len ≡ 0 → length locals ≡ 0 → Adds old all new

@@ -13,7 +13,7 @@ use Rattle.gas_strided.specs.declared.shapes.PlanFault.TheVariants as fault
 use Rattle.gas_strided.specs.Pairs.{Pair, strided_pairs, vectors, total, indexed_pairs}
 use Rattle.gas_strided.specs.Pieces.{pieces_of}
 
--- the byte of a pair that is written: of a put the target's, of a get the own one
+-- the byte of a pair that is written: of a put the target's, of a get the local one
 abbrev pub written : Way → Pair → ℕ
 written Put pair = pair.remote
 written Get pair = pair.local
@@ -23,7 +23,7 @@ abbrev pub has_twice : List ℕ → Bool
 has_twice [] = false
 has_twice (byte ∷ bytes) = list_any (λ other. other == byte) bytes || has_twice bytes
 
--- of pairs: a byte outside the own segment, a byte outside the target's, or a byte that is written twice
+-- of pairs: a byte outside the local segment, a byte outside the target's, or a byte that is written twice
 abbrev pub pairs_fault : Parameters → Way → List Pair → Option PlanFault
 pairs_fault settings way pairs =
     if list_any (λ (pair : Pair). nat_le settings.segment pair.local) pairs then Some fault.Source

@@ -1,11 +1,11 @@
--- Which byte of the target's segment goes with which byte of the own one.
+-- Which byte of the target's segment goes with which byte of the local one.
 -- Origin: this project's profile.
 use Rattle.std.specs.Prelude.{ℕ, zero, suc, ◌+◌, ◌*◌, List, [], ◌∷◌, ◌++◌}
 use Rattle.gas_strided.specs.declared.shapes.Level.{Level}
 use Rattle.gas_strided.specs.declared.shapes.Strided.{Strided}
 use Rattle.gas_strided.specs.declared.shapes.Indexed.{Indexed}
 
--- the places of two bytes: one of the target's segment, and the one of the own segment that goes with it
+-- the places of two bytes: one of the target's segment, and the one of the local segment that goes with it
 pub record Pair : Type 0 where
   pub remote : ℕ
   pub local : ℕ

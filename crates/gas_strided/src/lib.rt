@@ -1,7 +1,7 @@
 //! Strided and indexed transfers: many pieces that go as one, under one handle.
 //!
 //! A column of an array, a section of one, or a gather of ranges is a list of pairs: a byte of the target's segment
-//! with a byte of the own one. A `Plan` has the pieces of such a list, and `Plan::begin` begins them in one access
+//! with a byte of the local one. A `Plan` has the pieces of such a list, and `Plan::begin` begins them in one access
 //! region.
 //!
 //! - `Plan::strided`, `Plan::indexed` [`answer`: `IsPlanned`]: the fault is the first reason to refuse the transfer

@@ -20,7 +20,7 @@ const MOST_PIECES: usize = 1024;
 pub struct Run {
     /// The first byte of the target's side.
     pub remote: u128,
-    /// The first byte of the own side.
+    /// The first byte of the local side.
     pub local: u128,
     /// How many bytes it has.
     pub len: u128,
@@ -111,7 +111,7 @@ impl Runs {
     }
 }
 
-/// Whether some run ends behind the own segment.
+/// Whether some run ends behind the local segment.
 fn some_source(settings: &Settings, runs: &[Run]) -> bool
     requires { All EndsSoon runs.now }
     ensures { result ≡ list_any (λ run. ends_behind settings.now.segment run.local run.len) runs.now }

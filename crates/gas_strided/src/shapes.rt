@@ -5,9 +5,9 @@ use handler_rules::Forbidden;
 /// Which segment is read, and which is written.
 #[derive(Clone, Copy, Debug)]
 pub enum Way {
-    /// Bytes of the own segment are written into the target's.
+    /// Bytes of the local segment are written into the target's.
     Put,
-    /// Bytes of the target's segment are written into the own one.
+    /// Bytes of the target's segment are written into the local one.
     Get,
 }
 
@@ -18,7 +18,7 @@ pub struct Level {
     pub count: u64,
     /// The stride in the target's segment, in bytes.
     pub remote: u64,
-    /// The stride in the own segment, in bytes.
+    /// The stride in the local segment, in bytes.
     pub local: u64,
 }
 
@@ -32,7 +32,7 @@ pub struct Strided<'a> {
     pub to: u16,
     /// The first byte in the target's segment.
     pub remote: u64,
-    /// The first byte in the own segment.
+    /// The first byte in the local segment.
     pub local: u64,
     /// How many bytes go for each vector of indexes.
     pub len: u64,
@@ -50,7 +50,7 @@ pub struct Indexed<'a> {
     pub to: u16,
     /// The ranges of the target's segment, at most 256.
     pub remote: &'a [(u64, u64)],
-    /// The ranges of the own segment, at most 256. They have as many bytes as the remote ones.
+    /// The ranges of the local segment, at most 256. They have as many bytes as the remote ones.
     pub local: &'a [(u64, u64)],
 }
 
@@ -59,7 +59,7 @@ pub struct Indexed<'a> {
 pub struct Piece {
     /// The first byte in the target's segment.
     pub remote: u64,
-    /// The first byte in the own segment.
+    /// The first byte in the local segment.
     pub local: u64,
     /// How many bytes it has.
     pub len: u64,
@@ -76,7 +76,7 @@ pub enum PlanFault {
     Length,
     /// There are more than 65,536 vectors of indexes, or more than 1,024 pieces.
     Pieces,
-    /// A byte lies outside the own segment.
+    /// A byte lies outside the local segment.
     Source,
     /// A byte lies outside the target's segment.
     Offset,

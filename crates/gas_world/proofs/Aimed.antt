@@ -9,13 +9,13 @@ use Rattle.handler_rules.specs.Runs.{Meaning, IsLawfulMeaning}
 use Rattle.plain_world.specs.World.{IsAmong, world_after}
 use Rattle.endpoint_rules.specs.EndpointRules.{transition, timed}
 use Rattle.gas_world.specs.WorldState.{WorldState}
-use Rattle.gas_world.specs.Scenes.{Scene, SceneSteps, CallFalls, IsCallable, IsPlanned, node_of, ChangesOne, IsHeld}
+use Rattle.gas_world.specs.EventScopes.{EventScope, EventScopeSteps, CallFalls, IsCallable, IsPlanned, node_of, ChangesOne, IsHeld}
 use Rattle.endpoint_rules.specs.Called.{Meant, Requests, Performs, meant, event_at, is_to_other}
 use Rattle.gas_world.specs.Events.{Steps, event_of, job_in}
 use Rattle.gas_world.specs.Stands.{IsFounded, IsWhole}
 use Rattle.gas_endpoint.specs.EndpointState.{EndpointState, MayBeCalled}
 use Rattle.gas_world.specs.ExchangesState.{ExchangesState}
-use Rattle.gas_world.proofs.Scenes.{falls_at, pair_place}
+use Rattle.gas_world.proofs.EventScopes.{falls_at, pair_place}
 use Rattle.gas_world.proofs.Lodgings.{event_held}
 use Rattle.plain_world.specs.MostHeld.{most_then}
 use Rattle.gas_world.specs.Aims.{FallsAt, FallsNowhere, MayFall}
@@ -29,7 +29,7 @@ use Rattle.gas_world.specs.declared.event.WorldAnswer.TheVariants as world_answe
 use Rattle.gas_world.proofs.Standing.{Falls}
 use Rattle.gas_world.proofs.Asks.{call_falls}
 use Rattle.gas_world.proofs.Sendings.{tick_steps, target_is}
-use Rattle.gas_world.proofs.Events.{scene_node}
+use Rattle.gas_world.proofs.Events.{scope_node}
 use Rattle.gas_world.proofs.Deliveries.{request_steps, reply_steps, own_request_steps, own_reply_steps}
 
 -- the node of a call is there
@@ -37,11 +37,11 @@ caller_in : (s : Parameters) (node thread : ℕ) (m : Meant) → IsAmong s (even
 caller_in s node thread (Requests to asking) l = l
 caller_in s node thread (Performs call) l = l
 
--- an event that falls somewhere does to the world what it does to its scene
+-- an event that falls somewhere does to the world what it does to its scope
 pub aimed_steps : (meaning : Meaning) (v z : WorldState) (now : ℕ) (e : WorldEvent) (aim : Aim) (a : WorldAnswer)
-    (old new : Scene) → IsLawfulMeaning meaning → IsFounded v → IsAmong v.settings (event_of e) → FallsAt v now e aim
+    (old new : EventScope) → IsLawfulMeaning meaning → IsFounded v → IsAmong v.settings (event_of e) → FallsAt v now e aim
     → Falls v z aim.node (aim.from * v.settings.nodes + aim.to) old new
-    → SceneSteps meaning v.endpoints old (transition now e a) new → Steps meaning v (transition now (event_of e) a) z
+    → EventScopeSteps meaning v.endpoints old (transition now e a) new → Steps meaning v (transition now (event_of e) a) z
 aimed_steps meaning v z now (world_event.Call node thread k) aim a old new lawful founded among at F C =
     call_falls meaning v z now node aim.to thread k a old new lawful (caller_in v.settings node thread (meant k) among)
     (at.target.to_in (caller_in v.settings node thread (meant k) among)) at.target.to_is
@@ -59,7 +59,7 @@ aimed_steps meaning v z now (world_event.Tick i) aim a old new lawful founded am
     let place = i * v.settings.nodes + unwrap_or aim.target i in
     let here : Falls v z i place old new = subst (λ n. Falls v z n place old new) at.node_is
     (subst₂ (λ p q. Falls v z aim.node (p * v.settings.nodes + q) old new) at.from_is at.to_is F) in
-    let was = scene_node v z founded.records founded.most i place old new founded.stands here among in
+    let was = scope_node v z founded.records founded.most i place old new founded.stands here among in
     let sends = at.sends old.endpoint here.endpoint_was in
     let same : C.target ≡ aim.target =
     target_is meaning v i now old.endpoint (founded.records i) C.target was.0 was.1 C.sends
@@ -159,15 +159,15 @@ pub record Spot (world : WorldState) (aim : Aim) (node place : ℕ) (exchanges :
   pub most_was : most ≡ get_or world.most node most
 
 -- what happened where it falls
-pub record Happened (meaning : Meaning) (inside : WorldState) (old : Scene) (step : Transition WorldEvent WorldAnswer)
-    (new : Scene) (aim : Aim) (node place : ℕ) : Type 0 where
+pub record Happened (meaning : Meaning) (inside : WorldState) (old : EventScope) (step : Transition WorldEvent WorldAnswer)
+    (new : EventScope) (aim : Aim) (node place : ℕ) : Type 0 where
   pub aims : FallsAt inside step.now step.event aim
   pub spot : Spot inside aim node place old.exchanges old.most
-  pub steps : SceneSteps meaning inside.endpoints old step new
+  pub steps : EventScopeSteps meaning inside.endpoints old step new
 
--- what the event does to its scene it does to the world
+-- what the event does to its scope it does to the world
 pub recorded : (meaning : Meaning) (inside v z : WorldState) (now : ℕ) (e : WorldEvent) (aim : Aim) (a : WorldAnswer)
-    (ends : List EndpointState) (node place : ℕ) (old new : Scene) → IsLawfulMeaning meaning → inside ≡ v
+    (ends : List EndpointState) (node place : ℕ) (old new : EventScope) → IsLawfulMeaning meaning → inside ≡ v
     → IsWhole inside → IsAmong v.settings (event_of e)
     → Happened meaning inside old (transition now e a) new aim node place
     → ChangesOne inside.endpoints ends node old.endpoint new.endpoint
@@ -187,7 +187,7 @@ recorded meaning inside v z now e aim a ends node place old new lawful view whol
     it.spot.exchanges_were it.spot.most_was after in
     aimed_steps meaning v z now e aim a old new lawful
     (subst (λ (w : WorldState). IsFounded w) view whole.founded) among at falls
-    (subst (λ (w : WorldState). SceneSteps meaning w.endpoints old (transition now e a) new) view it.steps)
+    (subst (λ (w : WorldState). EventScopeSteps meaning w.endpoints old (transition now e a) new) view it.steps)
 
 -- the message that it delivers was held
 pub spot_held : (meaning : Meaning) (inside v : WorldState) (e : WorldEvent) (now : ℕ) (aim : Aim) (node place : ℕ)

@@ -1,4 +1,4 @@
--- Each call of a thread, by what it did to its scene.
+-- Each call of a thread, by what it did to its scope.
 use Rattle.std.proofs.Common.{◌≡◌, inl, inr, ℕ, ◌+◌, ◌*◌, ◌<◌, max, Bool, true, false, true≢false, List, []}
 use Rattle.std.proofs.Common.{◌∷◌, ◌++◌, refl, sym, ap, ◌∙◌, subst, subst₂}
 use Rattle.std.specs.Prelude.{not, ◌==◌, Option, Some, ◌≢◌, ◌⊎◌}
@@ -27,7 +27,7 @@ use Rattle.endpoint_rules.specs.Called.{IsAskedOf, HasTarget, is_of_another, is_
 use Rattle.gas_endpoint.specs.EndpointState.{EndpointState, EndpointStands, NodeSteps, WouldAcceptCall}
 use Rattle.gas_endpoint.specs.EndpointState.{IsNodeOf}
 use Rattle.gas_world.specs.WorldState.{WorldState}
-use Rattle.gas_world.specs.Scenes.{Scene, IsSame, MostIs, asked_list, AskFalls, AloneFallsIn, CallFalls}
+use Rattle.gas_world.specs.EventScopes.{EventScope, IsSame, MostIs, asked_list, AskFalls, AloneFallsIn, CallFalls}
 use Rattle.gas_world.specs.Stands.{StandsForPair, Stands}
 use Rattle.gas_world.specs.Events.{Accepts, Steps, job_in}
 use Rattle.gas_world.specs.declared.exchanges.Exchange.{Exchange}
@@ -39,7 +39,7 @@ use Rattle.gas_world.specs.declared.event.WorldAnswer.{WorldAnswer}
 use Rattle.gas_world.specs.declared.event.WorldAnswer.TheVariants as world_answers
 use Rattle.gas_world.proofs.PairStands.{pair_accepted}
 use Rattle.gas_world.proofs.Standing.{Falls, Sends, IsQuiet, only_asked, same_stands}
-use Rattle.gas_world.proofs.Events.{Stepped, Stepping, scene_node, scene_pair, scene_steps, event_steps, quiet_sends}
+use Rattle.gas_world.proofs.Events.{Stepped, Stepping, scope_node, scope_pair, scope_steps, event_steps, quiet_sends}
 use Rattle.gas_world.proofs.Events.{same_quiet, most_raised, at_home}
 
 -- ---- events that send nothing
@@ -73,7 +73,7 @@ caller_among v i thread (Requests to asking) low = low
 caller_among v i thread (Performs call) low = low
 
 -- a call of a thread is an event of its node
-call_steps : (meaning : Meaning) (v z : WorldState) (now i b thread : ℕ) (m : Meant) (answer : Answer) (old new : Scene)
+call_steps : (meaning : Meaning) (v z : WorldState) (now i b thread : ℕ) (m : Meant) (answer : Answer) (old new : EventScope)
     (w : Records) (most : ℕ → ℕ) → IsLawfulMeaning meaning → Stands v w most → i < v.settings.nodes
     → b < v.settings.nodes → Falls v z i (i * v.settings.nodes + b) old new
     → Stepping meaning v w now i (node_event thread m) answer new.endpoint
@@ -86,12 +86,12 @@ call_steps meaning v z now i b thread m answer old new w most lawful S low b_in 
 
 -- a call that is no request to another node
 alone_steps : (meaning : Meaning) (v z : WorldState) (now i b thread : ℕ) (k : Call) (a : WorldAnswer)
-    (old new : Scene) → IsLawfulMeaning meaning → i < v.settings.nodes → b < v.settings.nodes
+    (old new : EventScope) → IsLawfulMeaning meaning → i < v.settings.nodes → b < v.settings.nodes
     → ((to : ℕ) → HasTarget k to → to ≡ i) → Falls v z i (i * v.settings.nodes + b) old new
     → AloneFallsIn meaning old (transition now (event.Call thread k) a) new
     → Steps meaning v (transition now (called_at i thread k) a) z
 alone_steps meaning v z now i b thread k (world_answers.Node answer) old new lawful low b_in own F C = λ w most S.
-    let N = scene_steps meaning v z w most now i (i * v.settings.nodes + b) (called thread k) answer old new S F low
+    let N = scope_steps meaning v z w most now i (i * v.settings.nodes + b) (called thread k) answer old new S F low
     C.steps in
     call_steps meaning v z now i b thread (meant k) answer old new w most lawful S low b_in F N
     (most_raised v.settings v.table i _ old new N.node N.stands C.most_is)
@@ -103,7 +103,7 @@ alone_steps meaning v z now i b thread k world_answers.Unsent old new lawful low
 -- ---- a request to another node
 
 -- one that is accepted
-accepted_sends : (meaning : Meaning) (v z : WorldState) (now i p q n : ℕ) (ask : Ask) (old new : Scene) (w : Records)
+accepted_sends : (meaning : Meaning) (v z : WorldState) (now i p q n : ℕ) (ask : Ask) (old new : EventScope) (w : Records)
     (most : ℕ → ℕ) → Stands v w most → i < v.settings.nodes
     → Falls v z i (i * v.settings.nodes + ask.to) old new
     → request_answer (site_of (job_in meaning v) i) (w i) ask ≡ asked.Accepted p q n
@@ -120,7 +120,7 @@ accepted_sends meaning v z now i p q n ask old new w most S i_in F e list =
     let x = with_request r now j q content in
     let pair =
     pair_accepted (limits_of s i j) (content_refusal v.settings v.table) old.exchanges.list xs ((w j).ran i) y
-    (S.invariant_.pair i j) (scene_pair v z w most i i j old new S F i_in it.to_in) refl in
+    (S.invariant_.pair i j) (scope_pair v z w most i i j old new S F i_in it.to_in) refl in
     let asked_now : (put w i x i).asked j ≡ xs ++ y ∷ [] = ap (λ (t : Node EndpointLocal). t.asked j) (put_same w i x)
     ∙ put_same r.asked j (xs ++ y ∷ []) in
     let ran_now : (put w i x j).ran i ≡ (w j).ran i =
@@ -132,7 +132,7 @@ accepted_sends meaning v z now i p q n ask old new w most S i_in F e list =
     }
 
 -- by its answer: the pair is that of the node and of the target, where that is there
-request_sends : (meaning : Meaning) (v z : WorldState) (now i b : ℕ) (ask : Ask) (answer : Answer) (old new : Scene)
+request_sends : (meaning : Meaning) (v z : WorldState) (now i b : ℕ) (ask : Ask) (answer : Answer) (old new : EventScope)
     (w : Records) (most : ℕ → ℕ) → Stands v w most → i < v.settings.nodes → b < v.settings.nodes
     → (ask.to < v.settings.nodes → b ≡ ask.to) → Falls v z i (i * v.settings.nodes + b) old new
     → Stepping meaning v w now i (Asks ask) answer new.endpoint
@@ -151,7 +151,7 @@ request_sends meaning v z now i b ask answer old new w most S i_in b_in target F
     (list ∙ ap (asked_list old.exchanges.list) (N.answer_is ∙ ap asked_answer e)) (same_quiet (w i) _ refl refl)
 
 -- one that isn't accepted
-declined_sends : (meaning : Meaning) (v z : WorldState) (now i b : ℕ) (ask : Ask) (old new : Scene) (w : Records)
+declined_sends : (meaning : Meaning) (v z : WorldState) (now i b : ℕ) (ask : Ask) (old new : EventScope) (w : Records)
     (most : ℕ → ℕ) → Stands v w most → i < v.settings.nodes → b < v.settings.nodes
     → Falls v z i (i * v.settings.nodes + b) old new → new.exchanges.list ≡ old.exchanges.list
     → (a : AskedAnswer) → request_answer (site_of (job_in meaning v) i) (w i) ask ≡ a → false ≡ is_accepted a
@@ -180,7 +180,7 @@ accepts_if (asked.Accepted p q n) e = tt
 accepts_if _ e = absurd (true≢false e)
 
 -- what becomes of a call that is a request of another node
-abbrev pub AskTold : Meaning → Scene → (now thread : ℕ) → Meant → WorldAnswer → Scene → Type 0
+abbrev pub AskTold : Meaning → EventScope → (now thread : ℕ) → Meant → WorldAnswer → EventScope → Type 0
 AskTold meaning old now thread m a new = elim a [
   | world_answers.Node answer ↦
       NodeSteps meaning old.endpoint (transition now (node_event thread m) answer) new.endpoint
@@ -191,8 +191,8 @@ AskTold meaning old now thread m a new = elim a [
   | world_answers.Unsent ↦ ⊥
 ]
 
--- which its scene tells
-ask_told : (meaning : Meaning) (old : Scene) (now thread : ℕ) (k : Call) (a : WorldAnswer) (new : Scene)
+-- which its scope tells
+ask_told : (meaning : Meaning) (old : EventScope) (now thread : ℕ) (k : Call) (a : WorldAnswer) (new : EventScope)
     → AskFalls meaning old (transition now (event.Call thread k) a) new
     → AskTold meaning old now thread (meant k) a new
 ask_told meaning old now thread k (world_answers.Node answer) new (inl C) = (C.steps, C.most_is, inl C.list)
@@ -202,7 +202,7 @@ ask_told meaning old now thread k world_answers.NoMemory new C = (C.same, C.acce
 ask_told meaning old now thread k world_answers.Unsent new C = absurd C
 
 -- what it sends, where it was made or declined
-ask_sends : (meaning : Meaning) (v z : WorldState) (now i b : ℕ) (ask : Ask) (answer : Answer) (old new : Scene)
+ask_sends : (meaning : Meaning) (v z : WorldState) (now i b : ℕ) (ask : Ask) (answer : Answer) (old new : EventScope)
     (w : Records) (most : ℕ → ℕ) → Stands v w most → i < v.settings.nodes → b < v.settings.nodes
     → (ask.to < v.settings.nodes → b ≡ ask.to) → Falls v z i (i * v.settings.nodes + b) old new
     → Stepping meaning v w now i (Asks ask) answer new.endpoint
@@ -212,7 +212,7 @@ ask_sends : (meaning : Meaning) (v z : WorldState) (now i b : ℕ) (ask : Ask) (
 ask_sends meaning v z now i b ask answer old new w most S i_in b_in target F N (inl list) =
     request_sends meaning v z now i b ask answer old new w most S i_in b_in target F N list _ refl
 ask_sends meaning v z now i b ask answer old new w most S i_in b_in target F N (inr D) =
-    let was = scene_node v z w most i (i * v.settings.nodes + b) old new S F i_in in
+    let was = scope_node v z w most i (i * v.settings.nodes + b) old new S F i_in in
     declined_sends meaning v z now i b ask old new w most S i_in b_in F D.0 _ refl
     (would_accept meaning v i old.endpoint (w i) ask false was.0 was.1 D.1)
 
@@ -235,7 +235,7 @@ no_other i (Requests to asking) e target is = sym is ∙ is_not_other to i e
 no_other i (Performs call) e target is = absurd is
 
 -- a request to another node
-ask_steps : (meaning : Meaning) (v z : WorldState) (now i b thread : ℕ) (m : Meant) (a : WorldAnswer) (old new : Scene)
+ask_steps : (meaning : Meaning) (v z : WorldState) (now i b thread : ℕ) (m : Meant) (a : WorldAnswer) (old new : EventScope)
     → IsLawfulMeaning meaning → i < v.settings.nodes → b < v.settings.nodes
     → ((to : ℕ) → IsAskedOf m to → to < v.settings.nodes → b ≡ to) → Falls v z i (i * v.settings.nodes + b) old new
     → is_of_another i m ≡ true → AskTold meaning old now thread m a new
@@ -245,7 +245,7 @@ ask_steps meaning v z now i b thread (Performs call) a old new lawful i_in b_in 
 ask_steps meaning v z now i b thread (Requests to asking) (world_answers.Node answer) old new lawful i_in b_in target F
     e C = λ w most S.
     let m = Requests to asking in
-    let N = scene_steps meaning v z w most now i (i * v.settings.nodes + b) (node_event thread m) answer old new S F
+    let N = scope_steps meaning v z w most now i (i * v.settings.nodes + b) (node_event thread m) answer old new S F
     i_in C.0 in
     call_steps meaning v z now i b thread m answer old new w most lawful S i_in b_in F N
     (most_raised v.settings v.table i _ old new N.node N.stands C.1)
@@ -257,7 +257,7 @@ ask_steps meaning v z now i b thread (Requests to asking) world_answers.NoMemory
         request = is_other to i e;
         accepts = λ w most S.
             let ask : Ask = record { thread = thread; to = to; what = asking } in
-            let was = scene_node v z w most i (i * v.settings.nodes + b) old new S F i_in in
+            let was = scope_node v z w most i (i * v.settings.nodes + b) old new S F i_in in
             accepts_if _ (would_accept meaning v i old.endpoint (w i) ask true was.0 was.1 C.1);
       },
       λ w most S. same_stands v z w most i (i * v.settings.nodes + b) old new S F C.0,
@@ -267,7 +267,7 @@ ask_steps meaning v z now i b thread (Requests to asking) world_answers.Unsent o
 
 -- a call of a thread
 pub call_falls : (meaning : Meaning) (v z : WorldState) (now i b thread : ℕ) (k : Call) (a : WorldAnswer)
-    (old new : Scene) → IsLawfulMeaning meaning → i < v.settings.nodes → b < v.settings.nodes
+    (old new : EventScope) → IsLawfulMeaning meaning → i < v.settings.nodes → b < v.settings.nodes
     → ((to : ℕ) → HasTarget k to → to < v.settings.nodes → b ≡ to) → Falls v z i (i * v.settings.nodes + b) old new
     → (is_ask : Bool) → is_to_other i k ≡ is_ask
     → CallFalls meaning old is_ask (transition now (event.Call thread k) a) new

@@ -1,4 +1,4 @@
--- Each delivery of a message that was sent, by what it did to its scene.
+-- Each delivery of a message that was sent, by what it did to its scope.
 use Rattle.std.proofs.Common.{◌≡◌, ◌≢◌, inl, inr, ℕ, ◌+◌, ◌*◌, ◌<◌, ◌≤◌, Bool, true, false, true≢false}
 use Rattle.std.proofs.Common.{List, [], ◌∷◌, ◌++◌, Option, None, Some, refl, sym, ap, ◌∙◌, subst, subst₂, arith}
 use Rattle.std.specs.Prelude.{is_some, if◌then◌else◌, ◌==◌, nat_lt, ◌&&◌, not}
@@ -35,9 +35,9 @@ use Rattle.endpoint_rules.specs.EndpointRules.{transition, Records}
 use Rattle.gas_world.specs.Exchanges.{with_ran, with_returned}
 use Rattle.gas_endpoint.specs.EndpointState.{EndpointState}
 use Rattle.gas_world.specs.WorldState.{WorldState}
-use Rattle.gas_world.specs.Scenes.{Scene, ran_list, returned_list, request_letter, reply_letter}
-use Rattle.gas_world.specs.Scenes.{RequestFalls, RequestRuns, RequestRepeats, repeated}
-use Rattle.gas_world.specs.Scenes.{ReplyFalls, ReplyReturns, ReplyIsLate}
+use Rattle.gas_world.specs.EventScopes.{EventScope, ran_list, returned_list, request_letter, reply_letter}
+use Rattle.gas_world.specs.EventScopes.{RequestFalls, RequestRuns, RequestRepeats, repeated}
+use Rattle.gas_world.specs.EventScopes.{ReplyFalls, ReplyReturns, ReplyIsLate}
 use Rattle.gas_world.specs.Stands.{StandsForPair, Stands}
 use Rattle.gas_world.specs.Events.{Steps, job_in}
 use Rattle.gas_world.specs.declared.exchanges.Exchange.{Exchange}
@@ -47,7 +47,7 @@ use Rattle.gas_world.specs.declared.event.WorldAnswer.{WorldAnswer}
 use Rattle.gas_world.specs.declared.event.WorldAnswer.TheVariants as world_answers
 use Rattle.gas_world.proofs.PairStands.{pair_ran, pair_returned, sent_is, none_sent}
 use Rattle.gas_world.proofs.Standing.{Falls, Sends, only_asked, only_ran, same_stands}
-use Rattle.gas_world.proofs.Events.{Stepped, Stepping, scene_node, scene_pair, scene_steps, event_steps, quiet_sends}
+use Rattle.gas_world.proofs.Events.{Stepped, Stepping, scope_node, scope_pair, scope_steps, event_steps, quiet_sends}
 use Rattle.gas_world.proofs.Events.{same_quiet, still_steps, nowhere_steps, most_raised, other_node, at_home}
 use Rattle.gas_world.proofs.Messages.{request_stands, run_says, run_stands, node_invariant, carried}
 use Rattle.lists.proofs.Numbered.{numbered_none}
@@ -81,7 +81,7 @@ not_back s refuses w i j k x holds at none = elim (cases_Bool x.back) [
 -- ---- a request is delivered
 
 -- one that runs
-ran_sends : (meaning : Meaning) (v z : WorldState) (now i j k : ℕ) (x : Request) (old new : Scene) (w : Records)
+ran_sends : (meaning : Meaning) (v z : WorldState) (now i j k : ℕ) (x : Request) (old new : EventScope) (w : Records)
     (most : ℕ → ℕ) → Stands v w most → i < v.settings.nodes → j < v.settings.nodes → i ≢ j
     → Falls v z j (i * v.settings.nodes + j) old new
     → numbered ((w i).asked j) k ≡ Some x → run_of k ((w j).ran i) ≡ None
@@ -97,7 +97,7 @@ ran_sends meaning v z now i j k x old new w most S i_in j_in apart F sent none l
     let t : Run = record { number = k; slot = x.slot; content = content_of m; reply = out.1 } in
     let y = with_run r (with_sender j m) (content_of m) out in
     let pair = pair_ran old.exchanges.list ((w i).asked j) rs t (numbered_in ((w i).asked j) k x sent).0 none
-    (scene_pair v z w most j i j old new S F i_in j_in) in
+    (scope_pair v z w most j i j old new S F i_in j_in) in
     let asked_now : (put w j y i).asked j ≡ (w i).asked j = ap (λ (q : Node EndpointLocal). q.asked j)
     (put_other w j y i apart) in
     let ran_now : (put w j y j).ran i ≡ rs ++ t ∷ [] = ap (λ (q : Node EndpointLocal). q.ran i) (put_same w j y)
@@ -122,7 +122,7 @@ ran_listed version list k content at = elim (cases_Bool (content.handler == note
 
 -- by what becomes of it
 delivered_sends : (meaning : Meaning) (v z : WorldState) (now i j k : ℕ) (x : Request) (answer : Answer)
-    (old new : Scene) (w : Records) (most : ℕ → ℕ) → Stands v w most → i < v.settings.nodes → j < v.settings.nodes
+    (old new : EventScope) (w : Records) (most : ℕ → ℕ) → Stands v w most → i < v.settings.nodes → j < v.settings.nodes
     → i ≢ j → Falls v z j (i * v.settings.nodes + j) old new
     → numbered ((w i).asked j) k ≡ Some x → run_of k ((w j).ran i) ≡ None → is_request x.content.kind ≡ true
     → Stepping meaning v w now j (Comes (request_message v.settings i j k x)) answer new.endpoint
@@ -146,7 +146,7 @@ delivered_sends meaning v z now i j k x answer old new w most S i_in j_in apart 
 
 -- one that didn't run: its message stands at its node
 first_steps : (meaning : Meaning) (v z : WorldState) (now i j k : ℕ) (x : Request) (sender : EndpointState)
-    (answer : Answer) (old new : Scene) (w : Records) (most : ℕ → ℕ) → IsLawfulMeaning meaning → Stands v w most
+    (answer : Answer) (old new : EventScope) (w : Records) (most : ℕ → ℕ) → IsLawfulMeaning meaning → Stands v w most
     → i < v.settings.nodes → j < v.settings.nodes → i ≢ j → Falls v z j (i * v.settings.nodes + j) old new
     → slice_get v.endpoints i ≡ Some sender → numbered ((w i).asked j) k ≡ Some x
     → run_of k ((w j).ran i) ≡ None
@@ -157,11 +157,11 @@ first_steps meaning v z now i j k x sender answer old new w most lawful S i_in j
     let s = v.settings in
     let m = request_message s i j k x in
     let at = other_node v w most i sender S lent i_in in
-    let here = scene_node v z w most j (i * s.nodes + j) old new S F j_in in
+    let here = scope_node v z w most j (i * s.nodes + j) old new S F j_in in
     let found = request_stands s (content_refusal s v.table) w i j k x S.invariant_ apart sent
     (not_back s (content_refusal s v.table) w i j k x S.invariant_ sent none) in
     let fits = (node_invariant s v.table i sender (w i) at.0 at.1).asked j k x sent in
-    let N = scene_steps meaning v z w most now j (i * s.nodes + j) (Comes m) answer old new S F j_in
+    let N = scope_steps meaning v z w most now j (i * s.nodes + j) (Comes m) answer old new S F j_in
     (carried s v.table i sender (w i) (request_slot j x.slot) m meaning old.endpoint now answer new.endpoint at.0 at.1
     found fits (ap (λ (t : Parameters). t.version) (sym here.0.settings_are)) R.carries) in
     let request = (and_parts _ _ ((S.invariant_.pair i j).well k x sent)).0 in
@@ -192,7 +192,7 @@ in_range from me slot nodes credits is_last low other below =
 
 -- one that ran
 again_steps : (meaning : Meaning) (v z : WorldState) (now i j k : ℕ) (x : Request) (t : Run) (answer : Answer)
-    (old new : Scene) (w : Records) (most : ℕ → ℕ) → IsLawfulMeaning meaning → Stands v w most
+    (old new : EventScope) (w : Records) (most : ℕ → ℕ) → IsLawfulMeaning meaning → Stands v w most
     → i < v.settings.nodes → j < v.settings.nodes → i ≢ j → Falls v z j (i * v.settings.nodes + j) old new
     → numbered ((w i).asked j) k ≡ Some x → run_of k ((w j).ran i) ≡ Some t
     → RequestRepeats x.slot old (transition now (request_letter i j k) answer) new
@@ -207,7 +207,7 @@ again_steps meaning v z now i j k x t answer old new w most lawful S i_in j_in a
     let low = past (limits_of s i j) (content_refusal v.settings v.table) ((w i).asked j) rs k x t P sent ran in
     let judged_is = request_judged job (IsEndpointKept s) w i j k x S.invariant_ sent in
     let by = repeats_by (site_of job j) (w j) m top (job.behaviour.messages.waits x.content (w j).local) low in
-    let here = scene_node v z w most j (i * s.nodes + j) old new S F j_in in
+    let here = scope_node v z w most j (i * s.nodes + j) old new S F j_in in
     let Q : Parameters → List (Option Entry) → ℕ → Type 0 =
     λ p table n. R.is_last ≡ ((nat_lt i p.nodes && not (i == n)) && (nat_lt x.slot (credits_of p i n) && (k == top))) in
     let last_is = at_home s v.table j old.endpoint Q here.0 (R.told (under core_of (w j)) here.1.core)
@@ -220,7 +220,7 @@ again_steps meaning v z now i j k x t answer old new w most lawful S i_in j_in a
 
 -- a request that was sent
 pub request_steps : (meaning : Meaning) (v z : WorldState) (now i j k : ℕ) (sender : EndpointState) (a : WorldAnswer)
-    (old new : Scene) → IsLawfulMeaning meaning → i < v.settings.nodes → j < v.settings.nodes → i ≢ j
+    (old new : EventScope) → IsLawfulMeaning meaning → i < v.settings.nodes → j < v.settings.nodes → i ≢ j
     → Falls v z j (i * v.settings.nodes + j) old new → slice_get v.endpoints i ≡ Some sender
     → RequestFalls meaning sender old (transition now (request_letter i j k) a) new
     → Steps meaning v (transition now (RequestComes i j k) a) z
@@ -228,7 +228,7 @@ request_steps meaning v z now i j k sender (world_answers.Node answer) old new l
     λ w most S.
     let step = transition now (request_letter i j k) answer in
     let it = sent_is old.exchanges.list ((w i).asked j) ((w j).ran i) k R.exchange
-    (scene_pair v z w most j i j old new S F i_in j_in) R.sent in
+    (scope_pair v z w most j i j old new S F i_in j_in) R.sent in
     elim (cases_Bool R.exchange.ran) [
       | inl ran ↦ (let t = did_run (run_of k ((w j).ran i)) (sym ran ∙ it.stands.ran) in
           again_steps meaning v z now i j k it.x t.0 answer old new w most lawful S i_in j_in apart F it.at t.1
@@ -244,12 +244,12 @@ request_steps meaning v z now i j k sender world_answers.Unsent old new lawful i
     (same_stands v z w most j (i * v.settings.nodes + j) old new S F R.same)
     (ap (request_event v.settings i j k)
     (none_sent old.exchanges.list ((w i).asked j) ((w j).ran i) k
-    (scene_pair v z w most j i j old new S F i_in j_in) R.unsent))
+    (scope_pair v z w most j i j old new S F i_in j_in) R.unsent))
 
 -- ---- a reply is delivered
 
 -- one that comes back
-returned_sends : (meaning : Meaning) (v z : WorldState) (i j k : ℕ) (r : Run) (l : EndpointLocal) (old new : Scene)
+returned_sends : (meaning : Meaning) (v z : WorldState) (i j k : ℕ) (r : Run) (l : EndpointLocal) (old new : EventScope)
     (w : Records) (most : ℕ → ℕ) → Stands v w most → i < v.settings.nodes → j < v.settings.nodes → i ≢ j
     → Falls v z i (i * v.settings.nodes + j) old new
     → r.number ≡ k → 1 ≤ k → new.exchanges.list ≡ with_returned old.exchanges.list k
@@ -258,7 +258,7 @@ returned_sends meaning v z i j k r l old new w most S i_in j_in apart F number s
     let xs = change as_back ((w i).asked j) r.number in
     let y = with_back (w i) j r.number l in
     let pair = pair_returned old.exchanges.list ((w i).asked j) ((w j).ran i) r.number
-    (subst (λ n. 1 ≤ n) (sym number) some) (scene_pair v z w most i i j old new S F i_in j_in) in
+    (subst (λ n. 1 ≤ n) (sym number) some) (scope_pair v z w most i i j old new S F i_in j_in) in
     let asked_now : (put w i y i).asked j ≡ xs = ap (λ (q : Node EndpointLocal). q.asked j) (put_same w i y)
     ∙ put_same (w i).asked j xs in
     let ran_now : (put w i y j).ran i ≡ (w j).ran i = ap (λ (q : Node EndpointLocal). q.ran i)
@@ -271,7 +271,7 @@ returned_sends meaning v z i j k r l old new w most S i_in j_in apart F number s
     }
 
 -- by what becomes of it
-replied_sends : (meaning : Meaning) (v z : WorldState) (now i j k : ℕ) (r : Run) (answer : Answer) (old new : Scene)
+replied_sends : (meaning : Meaning) (v z : WorldState) (now i j k : ℕ) (r : Run) (answer : Answer) (old new : EventScope)
     (w : Records) (most : ℕ → ℕ) → Stands v w most → i < v.settings.nodes → j < v.settings.nodes → i ≢ j
     → Falls v z i (i * v.settings.nodes + j) old new
     → r.number ≡ k → 1 ≤ k → is_request r.reply.kind ≡ false
@@ -301,7 +301,7 @@ no_request false c e = refl
 
 -- one to a request that isn't back: it stands at the node that ran the request
 take_steps : (meaning : Meaning) (v z : WorldState) (now i j k : ℕ) (x : Request) (r : Run) (sender : EndpointState)
-    (answer : Answer) (old new : Scene) (w : Records) (most : ℕ → ℕ) → IsLawfulMeaning meaning → Stands v w most
+    (answer : Answer) (old new : EventScope) (w : Records) (most : ℕ → ℕ) → IsLawfulMeaning meaning → Stands v w most
     → i < v.settings.nodes → j < v.settings.nodes → i ≢ j → Falls v z i (i * v.settings.nodes + j) old new
     → slice_get v.endpoints j ≡ Some sender → numbered ((w i).asked j) k ≡ Some x → x.back ≡ false
     → run_of k ((w j).ran i) ≡ Some r
@@ -313,10 +313,10 @@ take_steps meaning v z now i j k x r sender answer old new w most lawful S i_in 
     let m = reply_message s i j r in
     let there = run_of_there k ((w j).ran i) r ran in
     let at = other_node v w most j sender S lent j_in in
-    let here = scene_node v z w most i (i * s.nodes + j) old new S F i_in in
+    let here = scope_node v z w most i (i * s.nodes + j) old new S F i_in in
     let found = run_stands meaning v w i j k x r S.range lawful S.invariant_ sent out ran in
     let fits = (node_invariant s v.table j sender (w j) at.0 at.1).replied i there.1.0 r there.1.1 in
-    let N = scene_steps meaning v z w most now i (i * s.nodes + j) (Comes m) answer old new S F i_in
+    let N = scope_steps meaning v z w most now i (i * s.nodes + j) (Comes m) answer old new S F i_in
     (carried s v.table j sender (w j) (reply_slot i x.slot) m meaning old.endpoint now answer new.endpoint at.0 at.1
     found fits (ap (λ (t : Parameters). t.version) (sym here.0.settings_are)) R.carries) in
     let kind = no_request (is_request r.reply.kind) true
@@ -329,7 +329,7 @@ take_steps meaning v z now i j k x r sender answer old new w most lawful S i_in 
 
 -- one to a request that is back
 late_steps : (meaning : Meaning) (v z : WorldState) (now i j k : ℕ) (x : Request) (r : Run) (answer : Answer)
-    (old new : Scene) (w : Records) (most : ℕ → ℕ) → IsLawfulMeaning meaning → Stands v w most
+    (old new : EventScope) (w : Records) (most : ℕ → ℕ) → IsLawfulMeaning meaning → Stands v w most
     → i < v.settings.nodes → j < v.settings.nodes → Falls v z i (i * v.settings.nodes + j) old new
     → numbered ((w i).asked j) k ≡ Some x → x.back ≡ true → run_of k ((w j).ran i) ≡ Some r
     → ReplyIsLate old answer new → Stepped meaning v now (ReplyComes i j k) (world_answers.Node answer) z w most
@@ -350,7 +350,7 @@ late_steps meaning v z now i j k x r answer old new w most lawful S i_in j_in F 
 
 -- a reply that was sent
 pub reply_steps : (meaning : Meaning) (v z : WorldState) (now i j k : ℕ) (sender : EndpointState) (a : WorldAnswer)
-    (old new : Scene) → IsLawfulMeaning meaning → i < v.settings.nodes → j < v.settings.nodes → i ≢ j
+    (old new : EventScope) → IsLawfulMeaning meaning → i < v.settings.nodes → j < v.settings.nodes → i ≢ j
     → Falls v z i (i * v.settings.nodes + j) old new → slice_get v.endpoints j ≡ Some sender
     → ReplyFalls meaning sender old (transition now (reply_letter i j k) a) new
     → Steps meaning v (transition now (ReplyComes i j k) a) z
@@ -358,7 +358,7 @@ reply_steps meaning v z now i j k sender (world_answers.Node answer) old new law
     λ w most S.
     let step = transition now (reply_letter i j k) answer in
     let it = sent_is old.exchanges.list ((w i).asked j) ((w j).ran i) k R.exchange
-    (scene_pair v z w most i i j old new S F i_in j_in) R.sent in
+    (scope_pair v z w most i i j old new S F i_in j_in) R.sent in
     let r = did_run (run_of k ((w j).ran i)) (sym R.ran ∙ it.stands.ran) in
     elim (cases_Bool R.exchange.back) [
       | inl back ↦ late_steps meaning v z now i j k it.x r.0 answer old new w most lawful S i_in j_in F it.at
@@ -381,7 +381,7 @@ reply_steps meaning v z now i j k sender world_answers.Unsent old new lawful i_i
         let there = run_of_there k ((w j).ran i) r ran in
         let x = (S.invariant_.pair i j).named there.1.0 r there.1.1 in
         let sent : numbered ((w i).asked j) k ≡ Some x.0 = ap (numbered ((w i).asked j)) (sym there.0) ∙ x.1 in
-        let it = (scene_pair v z w most i i j old new S F i_in j_in).each k x.0 sent in
+        let it = (scope_pair v z w most i i j old new S F i_in j_in).each k x.0 sent in
         absurd (true≢false (sym (it.2.ran ∙ ap is_some ran) ∙ R.unsent it.0 it.1))
 
 -- ---- a node sends nothing to itself

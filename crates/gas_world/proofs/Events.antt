@@ -1,4 +1,4 @@
--- What an event does to its scene is the records' step.
+-- What an event does to its scope is the records' step.
 use Rattle.std.proofs.Common.{◌≡◌, inl, inr, ℕ, ◌+◌, ◌*◌, ◌<◌, max, List, Option, None, Some, refl, sym, ap, ap₂}
 use Rattle.std.proofs.Common.{◌∙◌, subst, subst₂}
 use Rattle.std.specs.List.{slice_get}
@@ -8,7 +8,7 @@ use Rattle.datagram_grammar.specs.Parameters.{Parameters}
 use Rattle.handler_rules.specs.declared.table.Entry.{Entry}
 use Rattle.node_record.specs.Record.{Request, Node, change}
 use Rattle.node_record.specs.Requests.{Due, sent_at}
-use Rattle.node_record.specs.Step.{put, after_resend, after_tick, TickChoice, Resends, Sends, Rests}
+use Rattle.node_record.specs.Step.{put, after_resend, after_tick, TickChoice, Retransmits, Sends, Rests}
 use Rattle.node_record.specs.NodeStep.{site_of, node_answer, node_after}
 use Rattle.node_record.specs.Held.{held}
 use Rattle.endpoint_rules.specs.EndpointLocal.{EndpointLocal, IsEndpointKept}
@@ -23,7 +23,7 @@ use Rattle.gas_world.specs.WorldTold.{world_told}
 use Rattle.gas_world.specs.ExchangesState.{ExchangesState}
 use Rattle.gas_endpoint.specs.EndpointState.{EndpointState, EndpointStands, NodeSteps, sent_to, IsNodeOf}
 use Rattle.gas_world.specs.WorldState.{WorldState}
-use Rattle.gas_world.specs.Scenes.{Scene, MostIs, IsSame}
+use Rattle.gas_world.specs.EventScopes.{EventScope, MostIs, IsSame}
 use Rattle.gas_world.specs.Stands.{StandsForPair, Stands}
 use Rattle.gas_world.specs.Events.{job_in}
 use Rattle.endpoint_rules.specs.declared.answer.Answer.{Answer}
@@ -35,7 +35,7 @@ use Rattle.endpoint_rules.proofs.Sound.{rules_sound}
 use Rattle.gas_world.proofs.PairStands.{pair_sent}
 use Rattle.gas_world.proofs.Standing.{Falls, Sends as SendsAt, IsQuiet, quiet_pairs, Moves, moves_stand, still_stands}
 use Rattle.gas_world.proofs.Standing.{max_same}
-use Rattle.gas_world.proofs.Scenes.{node_kept}
+use Rattle.gas_world.proofs.EventScopes.{node_kept}
 use Rattle.lists.proofs.Cases.{none_some}
 
 -- the answer is the records', and the world stands for the records' next ones
@@ -48,28 +48,28 @@ Stepped meaning v now e a z w most = (a ≡ world_told (world_answer (job_in mea
 -- ---- what was there
 
 -- the endpoint stood for its node's record
-pub scene_node : (v z : WorldState) (w : Records) (most : ℕ → ℕ) (i place : ℕ) (old new : Scene) → Stands v w most
+pub scope_node : (v z : WorldState) (w : Records) (most : ℕ → ℕ) (i place : ℕ) (old new : EventScope) → Stands v w most
     → Falls v z i place old new → i < v.settings.nodes
     → IsNodeOf v.settings v.table i old.endpoint × EndpointStands old.endpoint (w i)
-scene_node v z w most i place old new S F low =
+scope_node v z w most i place old new S F low =
     let it = S.endpoints i low in
     subst (λ (e : EndpointState). IsNodeOf v.settings v.table i e × EndpointStands e (w i))
     (same_Some _ _ (sym it.1 ∙ F.endpoint_was)) (it.2, it.3)
 
 -- the exchanges stood for the pair
-pub scene_pair : (v z : WorldState) (w : Records) (most : ℕ → ℕ) (node i j : ℕ) (old new : Scene) → Stands v w most
+pub scope_pair : (v z : WorldState) (w : Records) (most : ℕ → ℕ) (node i j : ℕ) (old new : EventScope) → Stands v w most
     → Falls v z node (i * v.settings.nodes + j) old new → i < v.settings.nodes → j < v.settings.nodes
     → StandsForPair old.exchanges.list ((w i).asked j) ((w j).ran i)
-scene_pair v z w most node i j old new S F i_in j_in =
+scope_pair v z w most node i j old new S F i_in j_in =
     let it = S.exchanges i j i_in j_in in
     let same : record { list = it.0; room = it.1 } ≡ old.exchanges = same_Some _ _ (sym it.2 ∙ F.exchanges_were) in
     subst (λ (l : List Exchange). StandsForPair l ((w i).asked j) ((w j).ran i))
     (ap (λ (x : ExchangesState). x.list) same) it.3
 
 -- the greatest number held
-pub scene_most : (v z : WorldState) (w : Records) (most : ℕ → ℕ) (i place : ℕ) (old new : Scene) → Stands v w most
+pub scope_most : (v z : WorldState) (w : Records) (most : ℕ → ℕ) (i place : ℕ) (old new : EventScope) → Stands v w most
     → Falls v z i place old new → i < v.settings.nodes → old.most ≡ most i
-scene_most v z w most i place old new S F low = same_Some _ _ (sym F.most_was ∙ S.most_is i low)
+scope_most v z w most i place old new S F low = same_Some _ _ (sym F.most_was ∙ S.most_is i low)
 
 -- the endpoint of another node stood for that node's record
 pub other_node : (v : WorldState) (w : Records) (most : ℕ → ℕ) (i : ℕ) (e : EndpointState) → Stands v w most
@@ -97,14 +97,14 @@ pub record Stepping (meaning : Meaning) (v : WorldState) (w : Records) (now i : 
   pub stands : EndpointStands new (node_after (job_in meaning v) i (w i) now ne)
   pub node : IsNodeOf v.settings v.table i new
 
--- the endpoint of a scene does
-pub scene_steps : (meaning : Meaning) (v z : WorldState) (w : Records) (most : ℕ → ℕ) (now i place : ℕ)
-    (ne : RecordEvent) (answer : Answer) (old new : Scene) → Stands v w most → Falls v z i place old new
+-- the endpoint of a scope does
+pub scope_steps : (meaning : Meaning) (v z : WorldState) (w : Records) (most : ℕ → ℕ) (now i place : ℕ)
+    (ne : RecordEvent) (answer : Answer) (old new : EventScope) → Stands v w most → Falls v z i place old new
     → i < v.settings.nodes
     → NodeSteps meaning old.endpoint (transition now ne answer) new.endpoint
     → Stepping meaning v w now i ne answer new.endpoint
-scene_steps meaning v z w most now i place ne answer old new S F low N =
-    let it = scene_node v z w most i place old new S F low in
+scope_steps meaning v z w most now i place ne answer old new S F low N =
+    let it = scope_node v z w most i place old new S F low in
     let P : Parameters → List (Option Entry) → ℕ
     → Type 0 =
     λ s t m. (answer ≡ told (node_answer (job_of s t meaning) m (w i) now ne)) × EndpointStands new.endpoint
@@ -121,7 +121,7 @@ scene_steps meaning v z w most now i place ne answer old new S F low N =
 
 -- an event that falls on a node, where what it sends stands
 pub event_steps : (meaning : Meaning) (v z : WorldState) (now : ℕ) (e : RecordsEvent) (i a b : ℕ) (ne : RecordEvent)
-    (answer : Answer) (old new : Scene) (w : Records) (most : ℕ → ℕ)
+    (answer : Answer) (old new : EventScope) (w : Records) (most : ℕ → ℕ)
     → IsLawfulMeaning meaning → Stands v w most → IsAmong v.settings e → i < v.settings.nodes → b < v.settings.nodes
     → Falls v z i (a * v.settings.nodes + b) old new
     → falls v.settings w e ≡ Some (record { node = i; event = ne }) → Stepping meaning v w now i ne answer new.endpoint
@@ -142,7 +142,7 @@ event_steps meaning v z now e i a b ne answer old new w most lawful S among i_in
       node = N.node;
       stands = N.stands;
       most_is =
-          H ∙ ap (λ p. max p (held s i x)) (scene_most v z w most i (a * s.nodes + b) old new S F i_in);
+          H ∙ ap (λ p. max p (held s i x)) (scope_most v z w most i (a * s.nodes + b) old new S F i_in);
     } in (
       ap (λ n. world_answers.Node n) N.answer_is
           ∙ sym (ap (λ o. world_told (answer_at job w now o)) at),
@@ -152,7 +152,7 @@ event_steps meaning v z now e i a b ne answer old new w most lawful S among i_in
     )
 
 -- the greatest number held, where it was raised to what the endpoint holds
-pub most_raised : (s : Parameters) (table : List (Option Entry)) (i : ℕ) (x : Node EndpointLocal) (old new : Scene)
+pub most_raised : (s : Parameters) (table : List (Option Entry)) (i : ℕ) (x : Node EndpointLocal) (old new : EventScope)
     → IsNodeOf s table i new.endpoint → EndpointStands new.endpoint x → MostIs old.most new.endpoint new.most
     → new.most ≡ max old.most (held s i x)
 most_raised s table i x old new N S H =
@@ -160,14 +160,14 @@ most_raised s table i x old new N S H =
     at_home s table i new.endpoint P N (H x S)
 
 -- nothing is sent that is new
-pub quiet_sends : (v z : WorldState) (w : Records) (most : ℕ → ℕ) (i a b : ℕ) (x : Node EndpointLocal) (old new : Scene)
+pub quiet_sends : (v z : WorldState) (w : Records) (most : ℕ → ℕ) (i a b : ℕ) (x : Node EndpointLocal) (old new : EventScope)
     → Stands v w most → a < v.settings.nodes → b < v.settings.nodes → Falls v z i (a * v.settings.nodes + b) old new
     → new.exchanges.list ≡ old.exchanges.list → IsQuiet (w i) x
     → SendsAt w (put w i x) a b new
 quiet_sends v z w most i a b x old new S a_in b_in F list Q = record {
   pair =
       subst (λ (l : List Exchange). StandsForPair l ((put w i x a).asked b) ((put w i x b).ran a)) (sym list)
-      (quiet_pairs w i x Q a b old.exchanges.list (scene_pair v z w most i a b old new S F a_in b_in));
+      (quiet_pairs w i x Q a b old.exchanges.list (scope_pair v z w most i a b old new S F a_in b_in));
   others = λ c d other. quiet_pairs w i x Q c d;
 }
 
@@ -201,7 +201,7 @@ tick_quiet now r (Some d) =
 -- a tick that sends no request for the first time
 pub choice_quiet : (meaning : Meaning) (v : WorldState) (i now : ℕ) (r : Node EndpointLocal) (choice : TickChoice)
     → None ≡ sent_to choice → IsQuiet r (after_tick (site_of (job_in meaning v) i) r now choice)
-choice_quiet meaning v i now r (Resends due) none = tick_quiet now r (Some due)
+choice_quiet meaning v i now r (Retransmits due) none = tick_quiet now r (Some due)
 choice_quiet meaning v i now r (Sends sending) none = absurd (none_some none)
 choice_quiet meaning v i now r Rests none = same_quiet r r refl refl
 
@@ -209,7 +209,7 @@ choice_quiet meaning v i now r Rests none = same_quiet r r refl refl
 
 -- one that falls on a node, of which its endpoint knows the answer
 pub still_steps : (meaning : Meaning) (v z : WorldState) (now : ℕ) (e : RecordsEvent) (i a b : ℕ) (ne : RecordEvent)
-    (answer : Answer) (old new : Scene) (w : Records) (most : ℕ → ℕ)
+    (answer : Answer) (old new : EventScope) (w : Records) (most : ℕ → ℕ)
     → IsLawfulMeaning meaning → Stands v w most → IsAmong v.settings e → i < v.settings.nodes → a < v.settings.nodes
     → b < v.settings.nodes → Falls v z i (a * v.settings.nodes + b) old new
     → falls v.settings w e ≡ Some (record { node = i; event = ne })
@@ -220,8 +220,8 @@ still_steps meaning v z now e i a b ne answer old new w most lawful S among i_in
     let s = v.settings in
     let x = node_after (job_in meaning v) i (w i) now ne in
     let place = a * s.nodes + b in
-    let node = scene_node v z w most i place old new S F i_in in
-    let most_was = scene_most v z w most i place old new S F i_in in
+    let node = scope_node v z w most i place old new S F i_in in
+    let most_was = scope_most v z w most i place old new S F i_in in
     let N : Stepping meaning v w now i ne answer new.endpoint = record {
       answer_is = answers;
       stands =

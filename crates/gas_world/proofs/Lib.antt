@@ -2,7 +2,7 @@ pub mod Halves
 pub mod Headline
 pub mod PairStands
 pub mod Standing
-pub mod Scenes
+pub mod EventScopes
 pub mod Events
 pub mod Messages
 pub mod Asks

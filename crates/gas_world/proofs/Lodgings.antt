@@ -10,8 +10,8 @@ use Rattle.endpoint_rules.specs.EndpointRules.{Records}
 use Rattle.gas_world.specs.ExchangesState.{ExchangesState}
 use Rattle.gas_endpoint.specs.EndpointState.{EndpointState}
 use Rattle.gas_world.specs.WorldState.{WorldState}
-use Rattle.gas_world.specs.Scenes.{HoldsMessage, HoldsRequest, HoldsReply, IsHeld, IsBetween}
-use Rattle.gas_world.specs.Scenes.{request_letter, reply_letter}
+use Rattle.gas_world.specs.EventScopes.{HoldsMessage, HoldsRequest, HoldsReply, IsHeld, IsBetween}
+use Rattle.gas_world.specs.EventScopes.{request_letter, reply_letter}
 use Rattle.gas_world.specs.Stands.{Stands, StandsForPair}
 use Rattle.gas_world.specs.declared.exchanges.Exchange.{Exchange}
 use Rattle.gas_world.specs.Aims.{FallsAt}

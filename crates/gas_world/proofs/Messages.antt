@@ -36,7 +36,7 @@ use Rattle.gas_endpoint.specs.EndpointState.{EndpointState, EndpointStands, Node
 use Rattle.gas_world.specs.Events.{job_in}
 use Rattle.gas_endpoint.specs.EndpointState.{IsNodeOf}
 use Rattle.gas_world.specs.WorldState.{WorldState}
-use Rattle.gas_world.specs.Scenes.{Carries, HoldsMessage}
+use Rattle.gas_world.specs.EventScopes.{Carries, HoldsMessage}
 use Rattle.endpoint_rules.specs.declared.answer.Answer.{Answer}
 use Rattle.gas_world.proofs.Events.{at_home}
 use Rattle.endpoint_rules.proofs.Sound.{rules_sound}

@@ -17,7 +17,7 @@ use Rattle.gas_world.specs.Sizes.{IsWorldSized, AreOpening, AreEmpty}
 use Rattle.gas_world.specs.Stands.{Stands, StandsForPair, IsWhole}
 use Rattle.gas_world.specs.declared.exchanges.Exchange.{Exchange}
 use Rattle.plain_world.proofs.Worlds.{opening_keeps}
-use Rattle.gas_world.proofs.Scenes.{pair_place}
+use Rattle.gas_world.proofs.EventScopes.{pair_place}
 use Rattle.endpoint_rules.proofs.Kept.{opening_kept}
 use Rattle.lists.proofs.Places.{slice_get_there, slice_get-replicate}
 

@@ -16,7 +16,7 @@ use Rattle.gas_world.specs.Stands.{StandsForPair, Stands, IsWhole}
 use Rattle.gas_world.specs.Aims.{IsAimOfTick}
 use Rattle.plain_world.specs.Plain.{is_back}
 use Rattle.gas_world.specs.declared.exchanges.Exchange.{Exchange}
-use Rattle.gas_world.proofs.Scenes.{pair_place}
+use Rattle.gas_world.proofs.EventScopes.{pair_place}
 use Rattle.gas_world.proofs.PairStands.{sent_is, none_sent}
 
 -- the parts of a world

@@ -1,4 +1,4 @@
--- Each tick, by what it did to its scene.
+-- Each tick, by what it did to its scope.
 use Rattle.std.proofs.Common.{◌≡◌, ◌≢◌, inl, inr, ℕ, ◌+◌, ◌*◌, ◌<◌, true, false, true≢false, List, []}
 use Rattle.std.proofs.Common.{◌∷◌, ◌++◌, refl, sym, ap, ◌∙◌, subst, subst₂}
 use Rattle.std.specs.Prelude.{Option, Some, None, is_some, unwrap_or, slice_get, slice_set, ◌==◌}
@@ -14,7 +14,7 @@ use Rattle.node_record.specs.Behaviour.{Sending}
 use Rattle.node_record.specs.Credits.{limits_of}
 use Rattle.node_record.specs.Requests.{next_claim}
 use Rattle.node_record.specs.Step.{put, new_request, request_slot, tick_choice, tick_answer, after_tick, after_sending}
-use Rattle.node_record.specs.Step.{TickChoice, Resends, Sends, Rests}
+use Rattle.node_record.specs.Step.{TickChoice, Retransmits, Sends, Rests}
 use Rattle.node_record.specs.NodeStep.{OfTick, Ticks as NodeTicks, site_of, node_after}
 use Rattle.node_record.proofs.Puts.{put_same, put_other}
 use Rattle.am_core.specs.ClientRules.{content_refusal}
@@ -27,8 +27,8 @@ use Rattle.endpoint_rules.specs.declared.answer.Answer.{Answer}
 use Rattle.endpoint_rules.specs.declared.answer.Answer.TheVariants as answers
 use Rattle.gas_endpoint.specs.EndpointState.{EndpointState, EndpointStands, IsNodeOf, IsTickTarget, sent_to}
 use Rattle.gas_world.specs.WorldState.{WorldState}
-use Rattle.gas_world.specs.Scenes.{Scene, Stage, scene_with, Happens, IsPlanned, asked_list, CallFalls, AloneFallsIn}
-use Rattle.gas_world.specs.Scenes.{AskFalls}
+use Rattle.gas_world.specs.EventScopes.{EventScope, Stage, scope_with, Happens, IsPlanned, asked_list, CallFalls, AloneFallsIn}
+use Rattle.gas_world.specs.EventScopes.{AskFalls}
 use Rattle.gas_world.specs.Exchanges.{requested}
 use Rattle.gas_world.specs.Stands.{StandsForPair, Stands}
 use Rattle.gas_world.specs.Events.{Accepts, Steps, job_in}
@@ -40,7 +40,7 @@ use Rattle.gas_world.specs.declared.event.WorldAnswer.{WorldAnswer}
 use Rattle.gas_world.specs.declared.event.WorldAnswer.TheVariants as world_answers
 use Rattle.gas_world.proofs.PairStands.{pair_accepted}
 use Rattle.gas_world.proofs.Standing.{Falls, Sends as SendsAt, only_asked, same_stands}
-use Rattle.gas_world.proofs.Events.{Stepping, scene_node, scene_pair, scene_steps, event_steps, quiet_sends}
+use Rattle.gas_world.proofs.Events.{Stepping, scope_node, scope_pair, scope_steps, event_steps, quiet_sends}
 use Rattle.gas_world.proofs.Events.{choice_quiet, most_raised, at_home}
 use Rattle.lists.proofs.Cases.{none_some}
 
@@ -66,7 +66,7 @@ pub record IsSending (choice : TickChoice) (to : ℕ) : Type 0 where
   pub to_is : sending.to ≡ to
 
 sending_is : (choice : TickChoice) (to : ℕ) → Some to ≡ sent_to choice → IsSending choice to
-sending_is (Resends due) to e = absurd (none_some (sym e))
+sending_is (Retransmits due) to e = absurd (none_some (sym e))
 sending_is (Sends sending) to e = record { sending = sending; is = refl; to_is = sym (same_Some _ _ e) }
 sending_is Rests to e = absurd (none_some (sym e))
 
@@ -95,12 +95,12 @@ accepts_at meaning v i now r to e =
     Accepts (OfNode (OfTick (tick_answer (job_in meaning v).behaviour.messages r choice)))) (sym it.is)
     (sent_accepts it.sending.content (request_slot it.sending.to (next_claim (r.asked it.sending.to)).slot))
 
--- what a tick does to the scene of its node, it does to the stage
+-- what a tick does to the scope of its node, it does to the stage
 pub tick_happens : (meaning : Meaning) (old : Stage) (now node : ℕ) (planned : WorldEvent) (target : Option ℕ)
-    (answer : WorldAnswer) (was : EndpointState) (new : Scene)
+    (answer : WorldAnswer) (was : EndpointState) (new : EventScope)
     → planned ≡ world_event.Tick node → slice_get old.endpoints node ≡ Some was
     → IsSameNode was.core new.endpoint.core → IsPlanned old.endpoints (transition now planned target)
-    → CallFalls meaning (scene_with old was) (is_some target) (transition now event.Tick answer) new
+    → CallFalls meaning (scope_with old was) (is_some target) (transition now event.Tick answer) new
     → Happens meaning old (transition now planned answer) (record {
       endpoints = slice_set old.endpoints node new.endpoint;
       exchanges = new.exchanges;
@@ -122,7 +122,7 @@ tick_happens meaning old now node planned target answer was new e there same sen
 -- ---- a tick that sends
 
 -- the request is accepted: its pair is that of the node and its target
-sending_sends : (meaning : Meaning) (v z : WorldState) (now i : ℕ) (sending : Sending) (old new : Scene) (w : Records)
+sending_sends : (meaning : Meaning) (v z : WorldState) (now i : ℕ) (sending : Sending) (old new : EventScope) (w : Records)
     (most : ℕ → ℕ) → Stands v w most → i < v.settings.nodes → sending.to < v.settings.nodes → sending.to ≢ i
     → Falls v z i (i * v.settings.nodes + sending.to) old new
     → new.exchanges.list ≡ old.exchanges.list ++ requested (next_claim ((w i).asked sending.to)).slot ∷ []
@@ -136,7 +136,7 @@ sending_sends meaning v z now i sending old new w most S i_in to_in other F list
     let x = after_sending (site_of (job_in meaning v) i) r now sending in
     let pair =
     pair_accepted (limits_of s i j) (content_refusal v.settings v.table) old.exchanges.list xs ((w j).ran i) y
-    (S.invariant_.pair i j) (scene_pair v z w most i i j old new S F i_in to_in) refl in
+    (S.invariant_.pair i j) (scope_pair v z w most i i j old new S F i_in to_in) refl in
     let asked_now : (put w i x i).asked j ≡ xs ++ y ∷ [] = ap (λ (t : Node EndpointLocal). t.asked j) (put_same w i x)
     ∙ put_same r.asked j (xs ++ y ∷ []) in
     let ran_now : (put w i x j).ran i ≡ (w j).ran i =
@@ -148,14 +148,14 @@ sending_sends meaning v z now i sending old new w most S i_in to_in other F list
     }
 
 -- by what the tick does: it sends to this node
-tick_sends : (meaning : Meaning) (v z : WorldState) (now i to : ℕ) (answer : Answer) (old new : Scene) (w : Records)
+tick_sends : (meaning : Meaning) (v z : WorldState) (now i to : ℕ) (answer : Answer) (old new : EventScope) (w : Records)
     (most : ℕ → ℕ) → Stands v w most → i < v.settings.nodes → to < v.settings.nodes → to ≢ i
     → Falls v z i (i * v.settings.nodes + to) old new
     → Stepping meaning v w now i NodeTicks answer new.endpoint
     → new.exchanges.list ≡ asked_list old.exchanges.list answer
     → (choice : TickChoice) → choice_at meaning v now i (w i) ≡ choice → Some to ≡ sent_to choice
     → SendsAt w (put w i (after_tick (site_of (job_in meaning v) i) (w i) now choice)) i to new
-tick_sends meaning v z now i to answer old new w most S i_in to_in other F N list (Resends due) is e =
+tick_sends meaning v z now i to answer old new w most S i_in to_in other F N list (Retransmits due) is e =
     absurd (none_some (sym e))
 tick_sends meaning v z now i to answer old new w most S i_in to_in other F N list (Sends sending) is e =
     let same : to ≡ sending.to = same_Some _ _ e in
@@ -173,7 +173,7 @@ tick_sends meaning v z now i to answer old new w most S i_in to_in other F N lis
     absurd (none_some (sym e))
 
 -- one that sends to no node
-still_sends : (meaning : Meaning) (v z : WorldState) (now i b : ℕ) (old new : Scene) (w : Records) (most : ℕ → ℕ)
+still_sends : (meaning : Meaning) (v z : WorldState) (now i b : ℕ) (old new : EventScope) (w : Records) (most : ℕ → ℕ)
     → Stands v w most → i < v.settings.nodes → b < v.settings.nodes
     → Falls v z i (i * v.settings.nodes + b) old new → new.exchanges.list ≡ old.exchanges.list
     → None ≡ sent_to (choice_at meaning v now i (w i))
@@ -185,14 +185,14 @@ still_sends meaning v z now i b old new w most S i_in b_in F list none =
 -- ---- a tick
 
 -- one that sends nothing for the first time
-rest_steps : (meaning : Meaning) (v z : WorldState) (now i b : ℕ) (a : WorldAnswer) (old new : Scene)
+rest_steps : (meaning : Meaning) (v z : WorldState) (now i b : ℕ) (a : WorldAnswer) (old new : EventScope)
     → IsLawfulMeaning meaning → i < v.settings.nodes → b < v.settings.nodes
     → Falls v z i (i * v.settings.nodes + b) old new → IsTickTarget old.endpoint now None
     → AloneFallsIn meaning old (transition now event.Tick a) new → Steps meaning v (transition now (Ticks i) a) z
 rest_steps meaning v z now i b (world_answers.Node answer) old new lawful low b_in F T C = λ w most S.
     let place = i * v.settings.nodes + b in
-    let was = scene_node v z w most i place old new S F low in
-    let N = scene_steps meaning v z w most now i place NodeTicks answer old new S F low C.steps in
+    let was = scope_node v z w most i place old new S F low in
+    let N = scope_steps meaning v z w most now i place NodeTicks answer old new S F low C.steps in
     event_steps meaning v z now (Ticks i) i i b NodeTicks answer old new w most lawful S low low b_in F refl N
     (most_raised v.settings v.table i _ old new N.node N.stands C.most_is)
     (still_sends meaning v z now i b old new w most S low b_in F C.list
@@ -201,14 +201,14 @@ rest_steps meaning v z now i b world_answers.NoMemory old new lawful low b_in F 
 rest_steps meaning v z now i b world_answers.Unsent old new lawful low b_in F T C = absurd C
 
 -- one that sends a request for the first time
-send_steps : (meaning : Meaning) (v z : WorldState) (now i to : ℕ) (a : WorldAnswer) (old new : Scene)
+send_steps : (meaning : Meaning) (v z : WorldState) (now i to : ℕ) (a : WorldAnswer) (old new : EventScope)
     → IsLawfulMeaning meaning → i < v.settings.nodes → to < v.settings.nodes → to ≢ i
     → Falls v z i (i * v.settings.nodes + to) old new → IsTickTarget old.endpoint now (Some to)
     → AskFalls meaning old (transition now event.Tick a) new → Steps meaning v (transition now (Ticks i) a) z
 send_steps meaning v z now i to (world_answers.Node answer) old new lawful low to_in other F T (inl C) = λ w most S.
     let place = i * v.settings.nodes + to in
-    let was = scene_node v z w most i place old new S F low in
-    let N = scene_steps meaning v z w most now i place NodeTicks answer old new S F low C.steps in
+    let was = scope_node v z w most i place old new S F low in
+    let N = scope_steps meaning v z w most now i place NodeTicks answer old new S F low C.steps in
     event_steps meaning v z now (Ticks i) i i to NodeTicks answer old new w most lawful S low low to_in F refl N
     (most_raised v.settings v.table i _ old new N.node N.stands C.most_is)
     (tick_sends meaning v z now i to answer old new w most S low to_in other F N C.list _ refl
@@ -219,7 +219,7 @@ send_steps meaning v z now i to world_answers.NoMemory old new lawful low to_in 
   record {
     request = tt;
     accepts = λ w most S.
-        let was = scene_node v z w most i (i * v.settings.nodes + to) old new S F low in
+        let was = scope_node v z w most i (i * v.settings.nodes + to) old new S F low in
         accepts_at meaning v i now (w i) to (target_is meaning v i now old.endpoint (w i) (Some to) was.0 was.1 T);
   },
   λ w most S. same_stands v z w most i (i * v.settings.nodes + to) old new S F C.same,
@@ -228,7 +228,7 @@ send_steps meaning v z now i to world_answers.Unsent old new lawful low to_in ot
 
 -- by the node to which it sends
 pub tick_steps : (meaning : Meaning) (v z : WorldState) (now i : ℕ) (a : WorldAnswer) (target : Option ℕ)
-    (old new : Scene) → IsLawfulMeaning meaning → i < v.settings.nodes
+    (old new : EventScope) → IsLawfulMeaning meaning → i < v.settings.nodes
     → ((to : ℕ) → target ≡ Some to → (to < v.settings.nodes) × (to ≢ i))
     → Falls v z i (i * v.settings.nodes + unwrap_or target i) old new → IsTickTarget old.endpoint now target
     → CallFalls meaning old (is_some target) (transition now event.Tick a) new

@@ -1,4 +1,4 @@
--- A world whose one scene changed stands for the records' next state.
+-- A world whose one scope changed stands for the records' next state.
 use Rattle.std.proofs.Common.{◌≡◌, ◌≢◌, inl, inr, ℕ, zero, suc, ◌+◌, ◌*◌, ◌/◌, ◌%◌, ◌<◌, ◌≤◌, max, List, [], ◌∷◌}
 use Rattle.std.proofs.Common.{length, set, Option, Some, refl, sym, ap, ap₂, ◌∙◌, subst, subst₂, arith}
 use Rattle.std.specs.List.{slice_get}
@@ -21,7 +21,7 @@ use Rattle.gas_world.specs.ExchangesState.{ExchangesState}
 use Rattle.gas_endpoint.specs.EndpointState.{EndpointStands}
 use Rattle.gas_endpoint.specs.EndpointState.{IsNodeOf}
 use Rattle.gas_world.specs.WorldState.{WorldState}
-use Rattle.gas_world.specs.Scenes.{Scene, IsSame}
+use Rattle.gas_world.specs.EventScopes.{EventScope, IsSame}
 use Rattle.gas_world.specs.Stands.{StandsForPair, Stands}
 use Rattle.gas_world.specs.declared.exchanges.Exchange.{Exchange}
 use Rattle.plain_world.proofs.Laws.{holding_few as few_records}
@@ -50,10 +50,10 @@ same_place n i j k l a b e = (
       ∙ (ap (λ q. q % n) e ∙ mod-mul-add k n l b),
 )
 
--- ---- the scene of an event
+-- ---- the scope of an event
 
--- the world z is v but for the scene of an event at that node, and at that place among the pairs
-pub record Falls (v z : WorldState) (node place : ℕ) (old new : Scene) : Type 0 where
+-- the world z is v but for the scope of an event at that node, and at that place among the pairs
+pub record Falls (v z : WorldState) (node place : ℕ) (old new : EventScope) : Type 0 where
   pub settings : z.settings ≡ v.settings
   pub table : z.table ≡ v.table
   pub endpoint_was : slice_get v.endpoints node ≡ Some old.endpoint
@@ -75,7 +75,7 @@ set_there xs ys i j y is other = ap (λ zs. slice_get zs j) is ∙ get_set_other
 -- ---- what is sent
 
 -- what an event sends stands at the place of the pair (a, b), and every other pair's messages stand still
-pub record Sends (w z : Records) (a b : ℕ) (new : Scene) : Type 0 where
+pub record Sends (w z : Records) (a b : ℕ) (new : EventScope) : Type 0 where
   pub pair : StandsForPair new.exchanges.list ((z a).asked b) ((z b).ran a)
   pub others : (c d : ℕ) → ((c ≡ a) × (d ≡ b) → ⊥) → (list : List Exchange)
       → StandsForPair list ((w c).asked d) ((w d).ran c)
@@ -168,7 +168,7 @@ quiet_pairs w i x Q c d list P =
 -- ---- what stands
 
 -- what changed at a node
-pub record Moves (v : WorldState) (w : Records) (most : ℕ → ℕ) (i : ℕ) (x : Node EndpointLocal) (new : Scene) : Type 0
+pub record Moves (v : WorldState) (w : Records) (most : ℕ → ℕ) (i : ℕ) (x : Node EndpointLocal) (new : EventScope) : Type 0
   where
     pub invariant_ : WorldInvariant v.settings (content_refusal v.settings v.table) (IsEndpointKept v.settings)
         (put w i x)
@@ -192,7 +192,7 @@ max_few : (a b c : ℕ) → a ≤ c → b ≤ c → max a b ≤ c
 max_few a b c low few = omega arith
 
 -- the world stands where one node changed, and what it sent stands
-pub moves_stand : (v z : WorldState) (w : Records) (most : ℕ → ℕ) (i a b : ℕ) (x : Node EndpointLocal) (old new : Scene)
+pub moves_stand : (v z : WorldState) (w : Records) (most : ℕ → ℕ) (i a b : ℕ) (x : Node EndpointLocal) (old new : EventScope)
     → Stands v w most → b < v.settings.nodes → Falls v z i (a * v.settings.nodes + b) old new → Moves v w most i x new
     → Sends w (put w i x) a b new
     → Stands z (put w i x) (most_then v.settings (put w i x) most)
@@ -257,7 +257,7 @@ moves_stand v z w most i a b x old new S b_in F M A =
 -- ---- nothing changed
 
 -- the same, where only the room changed
-pub same_stands : (v z : WorldState) (w : Records) (most : ℕ → ℕ) (node place : ℕ) (old new : Scene) → Stands v w most
+pub same_stands : (v z : WorldState) (w : Records) (most : ℕ → ℕ) (node place : ℕ) (old new : EventScope) → Stands v w most
     → Falls v z node place old new → IsSame old new → Stands z w most
 same_stands v z w most node place old new S F I =
     let s = v.settings in

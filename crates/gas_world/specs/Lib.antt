@@ -5,6 +5,6 @@ pub mod WorldState
 pub mod Sizes
 pub mod Stands
 pub mod Events
-pub mod Scenes
+pub mod EventScopes
 pub mod Aims
 pub mod Settling

@@ -19,7 +19,7 @@ ghost use Rattle.gas_world.specs.Events.{Steps, StepsPlainly};
 
 use crate::event::{WorldAnswer, WorldEvent};
 use crate::exchanges::Exchanges;
-use crate::step::{Happening, happen};
+use crate::step::{EventContext, happen};
 use datagram_grammar::Settings;
 use endpoint_rules::Call;
 use gas_endpoint::Endpoint;
@@ -307,14 +307,14 @@ impl World {
         };
         let place = place_of(&self.settings, aim.from, aim.to);
         let node = usize::from(aim.node);
-        let happening = Happening {
+        let context = EventContext {
             handlers,
             now,
             event,
             target: aim.target,
         };
         happen(
-            happening,
+            context,
             &mut self.endpoints,
             &mut self.exchanges[place],
             &mut self.most[node],

@@ -44,5 +44,5 @@ pub use handler_rules::{
 pub use hsl_locks::{LockAnswer, LockFault, UnlockAnswer};
 pub use named_barrier::{BarrierAnswer, Notified};
 pub use node_caller::{AtEndpoint, Called, Caller, make_call};
-pub use put_get::{Handle, Some3, Synced, Transfer};
+pub use put_get::{Handle, ImplicitKinds, Synced, Transfer};
 pub use raw_segment::{Bytes, Offset, Outside, PartFault, Plain, Segment, TypedFault};

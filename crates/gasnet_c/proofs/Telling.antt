@@ -84,7 +84,7 @@ pub asks_another_in : (held : Option EndpointState) (ask : Ask) → IsToAnother 
 asks_another_in None ask apart = tt
 asks_another_in (Some endpoint) ask apart = λ has. apart (targeted ask endpoint.core.me _ _ refl refl has)
 
--- ---- a request to the own node
+-- ---- a request to the local node
 
 pub own_of : (old new : EndpointState) (now : ℕ) (made call : Call) (run : Run) (reply_left : Bor (List ℕ)) (mark : ℤ)
     (told : Told) (buffer : List ℕ) → made ≡ call → IsMark old mark → buffer ≡ []

@@ -4,8 +4,8 @@ use Rattle.am_core.specs.declared.asking.Payload.{Payload}
 use Rattle.am_core.specs.declared.asking.Payload.TheVariants as payloads
 use Rattle.put_get.specs.declared.operation.Transfer.{Transfer}
 use Rattle.put_get.specs.declared.operation.Transfer.TheVariants as transfers
-use Rattle.put_get.specs.declared.operation.Some3.{Some3}
-use Rattle.put_get.specs.declared.operation.Some3.TheVariants as some
+use Rattle.put_get.specs.declared.operation.ImplicitKinds.{ImplicitKinds}
+use Rattle.put_get.specs.declared.operation.ImplicitKinds.TheVariants as some
 use Rattle.endpoint_rules.specs.declared.call.Call.{Call}
 use Rattle.endpoint_rules.specs.declared.call.Call.TheVariants as calls
 use Rattle.gas_endpoint.specs.EndpointState.{EndpointState}
@@ -14,7 +14,7 @@ use Rattle.gasnet_c.specs.declared.transfers.Move.{Move}
 
 -- ---- requests
 
--- a range of the own segment, or bytes of C's
+-- a range of the local segment, or bytes of C's
 abbrev pub payload_of : Ask → Payload
 payload_of ask = if ask.own then payloads.Own ask.source ask.source_len else payloads.Lent ask.payload
 
@@ -42,7 +42,7 @@ moved_call what =
     if what.implicit then calls.BeginImplicit (transfer_of what) else calls.Begin None (transfer_of what)
 
 -- the implicit operations that C names: 0 for puts, 1 for gets, else all
-abbrev pub which_of : ℕ → Some3
+abbrev pub which_of : ℕ → ImplicitKinds
 which_of which = if which == 0 then some.Puts else (if which == 1 then some.Gets else some.All)
 
 -- an access region begins, or ends

@@ -32,7 +32,7 @@ abbrev pub asked_code : Asked → ℕ
 asked_code (asked.Accepted to slot number) = 1
 asked_code asked.Ran = 2
 asked_code asked.NotYet = 3
-asked_code asked.WornOut = 4
+asked_code asked.Exhausted = 4
 asked_code _ = 5
 
 abbrev pub begun_code : Begun → ℕ
@@ -44,7 +44,7 @@ begun_code (begun.BadArg part) = 5
 abbrev pub synced_code : Synced → ℕ
 synced_code synced.Ok = 9
 synced_code synced.NotReady = 10
-synced_code (synced.WornOut to) = 4
+synced_code (synced.Exhausted to) = 4
 synced_code _ = 5
 
 abbrev pub region_code : Region → ℕ
@@ -61,13 +61,13 @@ abbrev pub barrier_code : BarrierAnswer → ℕ
 barrier_code barrier.Ok = 9
 barrier_code barrier.NotReady = 10
 barrier_code barrier.Mismatch = 11
-barrier_code (barrier.WornOut to) = 4
+barrier_code (barrier.Exhausted to) = 4
 barrier_code _ = 5
 
 abbrev pub delivered_code : Delivered → ℕ
 delivered_code (delivered.Ran at) = 12
 delivered_code (delivered.Noted at note) = 13
-delivered_code (delivered.Again at) = 14
+delivered_code (delivered.Duplicate at) = 14
 delivered_code delivered.Stale = 15
 delivered_code (delivered.Returned to slot number) = 16
 delivered_code delivered.Late = 17
@@ -76,7 +76,7 @@ delivered_code (delivered.Refused why) = 19
 
 abbrev pub ticked_code : Ticked → ℕ
 ticked_code ticked.Nothing = 20
-ticked_code (ticked.Resend at) = 21
+ticked_code (ticked.Retransmission at) = 21
 ticked_code (ticked.Note at) = 24
 ticked_code (ticked.Chunk at) = 25
 
@@ -116,7 +116,7 @@ abbrev pub start_code : StartAnswer → ℕ
 start_code starts.Started = 9
 start_code starts.Busy = 5
 start_code (starts.BadArg part) = 5
-start_code starts.WornOut = 4
+start_code starts.Exhausted = 4
 start_code (starts.Forbidden why) = 22
 start_code (starts.LockBusy lock) = 18
 start_code starts.NoMemory = 23
@@ -133,12 +133,12 @@ end_code (ends.Mismatch node) = 11
 end_code ends.NotReady = 10
 end_code ends.NotStarted = 5
 end_code (ends.BadArg part) = 5
-end_code (ends.WornOut node) = 4
+end_code (ends.Exhausted node) = 4
 end_code (ends.Forbidden why) = 22
 end_code ends.NoMemory = 23
 
 -- the node that an answer names; else 0
 abbrev pub end_node : EndAnswer → ℕ
 end_node (ends.Mismatch node) = node
-end_node (ends.WornOut node) = node
+end_node (ends.Exhausted node) = node
 end_node _ = 0

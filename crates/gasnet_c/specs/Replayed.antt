@@ -50,7 +50,7 @@ replayed run frame start = answering run.reply frame (leaving run.left.now frame
 abbrev pub replayed_by : Run → Meaning
 replayed_by run = λ handler frame start. replayed run frame start
 
--- ---- a request to the own node
+-- ---- a request to the local node
 
 -- the mark
 abbrev pub mark_of : List ℤ → ℤ

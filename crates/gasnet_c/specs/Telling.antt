@@ -73,7 +73,7 @@ Tells meaning (Some old) now event told buffer (Some new) = TellsOf meaning old 
 Tells meaning (Some old) now event told buffer None = ⊥
 Tells meaning None now event told buffer new = IsDead told × (new ≡ None)
 
--- a request to the own node, whose handlers did this
+-- a request to the local node, whose handlers did this
 pub record OwnAsked : Type 0 where
   pub call : Call
   pub run : Run

@@ -27,13 +27,13 @@ pub struct Operation {
     pub a: u64,
     /// Its second operand; only a compare-and-swap reads it.
     pub b: u64,
-    /// Where the 16 bytes of its reply go in the own segment, a multiple of 8: what the word was, and then the tag.
+    /// Where the 16 bytes of its reply go in the local segment, a multiple of 8: what the word was, and then the tag.
     pub local: u64,
     /// A number that comes back behind the word.
     pub tag: u64,
     /// What it does, by number: 0 to 9, in the order of `gas_atomic`'s operations.
     pub op: u32,
-    /// The node whose word it is; the own one too.
+    /// The node whose word it is; the local one too.
     pub to: u16,
 }
 
@@ -65,7 +65,7 @@ pub fn request<'a>(to: u16, args: &'a [i32], payload: &'a [u8]) -> Call<'a>
 }
 
 /// Asks an operation on a word of a node, which acts at one moment of that node. It is `GASNET_C_ACCEPTED`, and the
-/// datagram that is to be sent is told; `GASNET_C_RAN_HERE` where the node is the own one, and the operation is done;
+/// datagram that is to be sent is told; `GASNET_C_RAN_HERE` where the node is the local one, and the operation is done;
 /// `GASNET_C_NOT_YET` where all credits of the pair are out, and `GASNET_C_WORN_OUT` where its numbers are used up; or
 /// `GASNET_C_BAD` where no operation has its number, the target is no node, or a place isn't inside a segment or isn't a
 /// multiple of 8. Only where it is accepted, or ran, something happened.

@@ -28,7 +28,7 @@ pub struct Coming {
     pub payload_at: u64,
     /// How many bytes the payload has.
     pub payload_len: u64,
-    /// A Long's place in the own segment.
+    /// A Long's place in the local segment.
     pub place: u64,
 }
 

@@ -4,7 +4,7 @@
 //! Each export but `gasnet_c_new`, `gasnet_c_free`, `gasnet_c_segment`, `gasnet_c_peek` and those of collectives makes one
 //! event of the node's endpoint. Its clause `tells` says which: the endpoint made that step, with some answer, and C is told the number of
 //! this answer and the datagram that is to be sent (`Tells`). A tick, a request to another node and a call that is no
-//! request is that step whatever the handlers mean. Of a delivery, and of a request to the own node, C ran the handlers
+//! request is that step whatever the handlers mean. Of a delivery, and of a request to the local node, C ran the handlers
 //! before, and they mean what C says that they did (`replayed_by`). Operations on words are batches of one, which the
 //! library serves itself (`serving`): `gasnet_c_atomic` asks one [`TellsBatch`], and `gasnet_c_serve` delivers what is for
 //! the handlers of batches and of collectives.

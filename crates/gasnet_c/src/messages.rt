@@ -11,7 +11,7 @@ ghost use Rattle.gasnet_c.specs.Whole.{IsForOne, IsWhole};
 
 use crate::coming::{Coming, nothing};
 use crate::handle::{Handle, put, taken};
-use crate::node::Happening;
+use crate::node::EventAt;
 use crate::replay::{Left, NO_RUN, OwnRuns, Run};
 use crate::stepping::stepped;
 use crate::told::{Told, dead};
@@ -25,11 +25,11 @@ use std::alloc::Global;
 pub struct Ask<'a> {
     /// Its arguments, at most 16.
     pub args: &'a [i32],
-    /// Its payload, at most 8,192 bytes; not read of a Short, nor where it is a range of the own segment.
+    /// Its payload, at most 8,192 bytes; not read of a Short, nor where it is a range of the local segment.
     pub payload: &'a [u8],
     /// Where a Long's payload goes in the target's segment.
     pub offset: u64,
-    /// Where the range of the own segment begins.
+    /// Where the range of the local segment begins.
     pub source: u64,
     /// How many bytes that range has.
     pub source_len: u64,
@@ -39,7 +39,7 @@ pub struct Ask<'a> {
     pub to: u16,
     /// The index of its handler, 128 to 255.
     pub handler: u8,
-    /// Whether its payload is that range of the own segment.
+    /// Whether its payload is that range of the local segment.
     pub own: bool,
 }
 
@@ -88,7 +88,7 @@ fn asked_call<'a>(ask: &Ask<'a>) -> Call<'a>
 /// `GASNET_C_NOT_YET` where all credits of the pair are out, `GASNET_C_WORN_OUT` where its numbers are used up, and
 /// `GASNET_C_BAD` where a part of it is bad. Only where it is accepted something happened.
 ///
-/// C asks nothing of the own node by this call: such a request would run a handler that does nothing.
+/// C asks nothing of the local node by this call: such a request would run a handler that does nothing.
 #[unsafe(no_mangle)]
 pub extern "C" fn gasnet_c_request(
     alloc: Global,
@@ -112,12 +112,12 @@ pub extern "C" fn gasnet_c_request(
         alloc,
         handle,
         &NO_RUN,
-        &Happening { time: now, event },
+        &EventAt { time: now, event },
         buffer,
     )
 }
 
-/// A request to the own node, which sends nothing: C ran its handler before this call, and then that of its reply where
+/// A request to the local node, which sends nothing: C ran its handler before this call, and then that of its reply where
 /// it asked for one, and made no other call of the handle in between. It is `GASNET_C_RAN_HERE`, and the runs are part
 /// of the node's record; or `GASNET_C_BAD` where a part of the request is bad, and nothing happened.
 ///
@@ -154,7 +154,7 @@ pub extern "C" fn gasnet_c_request_own(
         reply: Left { bytes: reply_left },
         mark: node.mark(),
     };
-    let told = node.happen(&runs, &Happening { time: now, event }, &mut []);
+    let told = node.happen(&runs, &EventAt { time: now, event }, &mut []);
     put(handle, node);
     told
 }
@@ -206,5 +206,5 @@ pub extern "C" fn gasnet_c_deliver(
         return dead();
     }
     let event = Event::Deliver { bytes };
-    stepped(alloc, handle, run, &Happening { time: now, event }, buffer)
+    stepped(alloc, handle, run, &EventAt { time: now, event }, buffer)
 }

@@ -27,7 +27,7 @@ use std::marker::Model;
 
 /// An event, and its time in the unit of the calls' `now`.
 #[derive(Clone, Copy)]
-pub struct Happening<'a> {
+pub struct EventAt<'a> {
     pub time: u64,
     pub event: Event<'a>,
 }
@@ -78,18 +78,16 @@ impl Node {
     pub fn happen<H: Handlers>(
         &mut self,
         handlers: &H,
-        happening: &Happening<'_>,
+        event_at: &EventAt<'_>,
         buffer: &mut [u8],
     ) -> Told
-        requires { IsForOne happening.now.event }
-        ensures tells { TellsOf (H.meaning handlers.now) self.old happening.now.time
-            happening.now.event result buffer.new self.new }
-        ensures quiet { RunsNone self.old happening.now.event → (meaning : Meaning) → TellsOf meaning
-            self.old happening.now.time happening.now.event result buffer.new self.new }
+        requires { IsForOne event_at.now.event }
+        ensures tells { TellsOf (H.meaning handlers.now) self.old event_at.now.time
+            event_at.now.event result buffer.new self.new }
+        ensures quiet { RunsNone self.old event_at.now.event → (meaning : Meaning) → TellsOf meaning
+            self.old event_at.now.time event_at.now.event result buffer.new self.new }
     {
-        let answer = self
-            .endpoint
-            .step(handlers, happening.time, &happening.event);
+        let answer = self.endpoint.step(handlers, event_at.time, &event_at.event);
         tell(&self.endpoint, &answer, buffer)
     }
 
@@ -105,10 +103,10 @@ impl Node {
         let payload = batch.payload();
         let call = request(batch.to(), &args, &payload);
         let event = Event::Call { thread: 0, call };
-        self.happen(&OwnHandlers, &Happening { time: now, event }, buffer)
+        self.happen(&OwnHandlers, &EventAt { time: now, event }, buffer)
     }
 
-    /// The mark of the runs of requests to the own node.
+    /// The mark of the runs of requests to the local node.
     pub fn mark(&self) -> i32
         ensures { IsMark self.now result }
     {

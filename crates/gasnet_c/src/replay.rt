@@ -44,14 +44,14 @@ pub const NO_RUN: Run<'static> = Run {
     left: &[],
 };
 
-/// What the handler of a reply did that came from the own node: the bytes that it left at a Long's place.
+/// What the handler of a reply did that came from the local node: the bytes that it left at a Long's place.
 #[derive(Clone, Copy)]
 pub struct Left<'a> {
     /// The bytes; none where the payload stands there as it came.
     pub bytes: &'a [u8],
 }
 
-/// What the two handlers of a request to the own node did.
+/// What the two handlers of a request to the local node did.
 ///
 /// Both run in one event. The request's handler is the one that finds the mark, which it changes.
 #[derive(Clone, Copy)]

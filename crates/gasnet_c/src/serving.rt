@@ -7,7 +7,7 @@ ghost use Rattle.gasnet_c.specs.Telling.{Tells};
 ghost use Rattle.gasnet_c.specs.Whole.{IsWhole};
 
 use crate::handle::Handle;
-use crate::node::Happening;
+use crate::node::EventAt;
 use crate::stepping::stepped;
 use crate::told::{Told, dead};
 use collective_area::serve as serve_collective;
@@ -61,9 +61,9 @@ pub extern "C" fn gasnet_c_serve(
     if !handle.live {
         return dead();
     }
-    let happening = Happening {
+    let event_at = EventAt {
         time: now,
         event: Event::Deliver { bytes },
     };
-    stepped(alloc, handle, &OwnHandlers, &happening, buffer)
+    stepped(alloc, handle, &OwnHandlers, &event_at, buffer)
 }

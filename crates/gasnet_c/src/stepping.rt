@@ -7,7 +7,7 @@ ghost use Rattle.gasnet_c.specs.Whole.{AsksNone, IsForOne, IsWhole, RunsNoneIn};
 ghost use Rattle.gasnet_c.specs.Telling.{Tells};
 
 use crate::handle::{Handle, put, taken};
-use crate::node::Happening;
+use crate::node::EventAt;
 use crate::replay::NO_RUN;
 use crate::told::{Told, dead};
 use endpoint_rules::{Call, Event};
@@ -19,20 +19,20 @@ pub fn stepped<H: Handlers>(
     alloc: Global,
     handle: &mut Handle,
     handlers: &H,
-    happening: &Happening<'_>,
+    event_at: &EventAt<'_>,
     buffer: &mut [u8],
 ) -> Told
     requires live { IsSome handle.old.slot.held }
-    requires may { IsForOne happening.now.event }
+    requires may { IsForOne event_at.now.event }
     ensures whole { IsWhole handle.new }
-    ensures tells { Tells (H.meaning handlers.now) handle.old.slot.held happening.now.time
-        happening.now.event result buffer.new handle.new.slot.held }
-    ensures quiet { RunsNoneIn handle.old.slot.held happening.now.event → (meaning : Meaning) → Tells
-        meaning handle.old.slot.held happening.now.time happening.now.event result buffer.new
+    ensures tells { Tells (H.meaning handlers.now) handle.old.slot.held event_at.now.time
+        event_at.now.event result buffer.new handle.new.slot.held }
+    ensures quiet { RunsNoneIn handle.old.slot.held event_at.now.event → (meaning : Meaning) → Tells
+        meaning handle.old.slot.held event_at.now.time event_at.now.event result buffer.new
         handle.new.slot.held }
 {
     let mut node = taken(handle, alloc);
-    let told = node.happen(handlers, happening, buffer);
+    let told = node.happen(handlers, event_at, buffer);
     put(handle, node);
     told
 }
@@ -54,7 +54,7 @@ pub fn called(alloc: Global, handle: &mut Handle, now: u64, call: Call<'_>) -> T
         alloc,
         handle,
         &NO_RUN,
-        &Happening { time: now, event },
+        &EventAt { time: now, event },
         &mut [],
     )
 }
@@ -80,9 +80,9 @@ pub extern "C" fn gasnet_c_tick(
     if !handle.live {
         return dead();
     }
-    let happening = Happening {
+    let event_at = EventAt {
         time: now,
         event: Event::Tick,
     };
-    stepped(alloc, handle, &NO_RUN, &happening, buffer)
+    stepped(alloc, handle, &NO_RUN, &event_at, buffer)
 }

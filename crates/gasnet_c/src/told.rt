@@ -73,7 +73,7 @@ fn asked_code(asked: &Asked) -> u32
         Asked::Accepted { .. } => 1,
         Asked::Ran => 2,
         Asked::NotYet => 3,
-        Asked::WornOut => 4,
+        Asked::Exhausted => 4,
         _ => 5,
     }
 }
@@ -85,7 +85,7 @@ fn delivered_code(delivered: &Delivered) -> u32
     match delivered {
         Delivered::Ran(_) => 12,
         Delivered::Noted(_, _) => 13,
-        Delivered::Again(_) => 14,
+        Delivered::Duplicate(_) => 14,
         Delivered::Stale => 15,
         Delivered::Returned { .. } => 16,
         Delivered::Late => 17,
@@ -100,7 +100,7 @@ fn ticked_code(ticked: &Ticked) -> u32
 {
     match ticked {
         Ticked::Nothing => 20,
-        Ticked::Resend(_) => 21,
+        Ticked::Retransmission(_) => 21,
         Ticked::Note(_) => 24,
         Ticked::Chunk(_) => 25,
     }
@@ -125,7 +125,7 @@ fn synced_code(synced: &Synced) -> u32
     match synced {
         Synced::Ok => 9,
         Synced::NotReady => 10,
-        Synced::WornOut(_) => 4,
+        Synced::Exhausted(_) => 4,
         _ => 5,
     }
 }
@@ -159,7 +159,7 @@ fn barrier_code(barrier: &BarrierAnswer) -> u32
         BarrierAnswer::Ok => 9,
         BarrierAnswer::NotReady => 10,
         BarrierAnswer::Mismatch => 11,
-        BarrierAnswer::WornOut(_) => 4,
+        BarrierAnswer::Exhausted(_) => 4,
         _ => 5,
     }
 }
@@ -264,7 +264,7 @@ pub fn tell_start(answer: &StartAnswer) -> Told
     let code = match answer {
         StartAnswer::Started => 9,
         StartAnswer::Busy | StartAnswer::BadArg(_) => 5,
-        StartAnswer::WornOut => 4,
+        StartAnswer::Exhausted => 4,
         StartAnswer::Forbidden(_) => 22,
         StartAnswer::LockBusy(_) => 18,
         StartAnswer::NoMemory => 23,
@@ -314,7 +314,7 @@ pub fn tell_end(answer: &EndAnswer) -> Told
         EndAnswer::Mismatch(node) => number(11, *node),
         EndAnswer::NotReady => number(10, 0),
         EndAnswer::NotStarted | EndAnswer::BadArg(_) => number(5, 0),
-        EndAnswer::WornOut(node) => number(4, *node),
+        EndAnswer::Exhausted(node) => number(4, *node),
         EndAnswer::Forbidden(_) => number(22, 0),
         EndAnswer::NoMemory => number(23, 0),
     }

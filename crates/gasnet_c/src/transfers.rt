@@ -12,7 +12,7 @@ use crate::handle::Handle;
 use crate::stepping::called;
 use crate::told::Told;
 use endpoint_rules::Call;
-use put_get::{Handle as Operation, Some3, Transfer};
+use put_get::{Handle as Operation, ImplicitKinds, Transfer};
 use std::alloc::Global;
 
 /// A transfer: `gasnet_c_move`. Offsets and lengths are in bytes.
@@ -21,7 +21,7 @@ use std::alloc::Global;
 pub struct Move {
     /// Where the target's range begins in its segment.
     pub remote: u64,
-    /// Where the own range begins in the own segment; not read of a memset.
+    /// Where the local range begins in the local segment; not read of a memset.
     pub local: u64,
     /// How many bytes each range has.
     pub len: u64,
@@ -79,9 +79,9 @@ fn moved_call(what: &Move) -> Call<'static>
 }
 
 /// Begins a transfer. It is `GASNET_C_HANDLE`, and its handle is told; or `GASNET_C_DONE` where it has no bytes or its
-/// target is the own node, `GASNET_C_TOO_MANY` where `GASNET_C_OPERATIONS` stand, and `GASNET_C_BAD` where the target or
+/// target is the local node, `GASNET_C_TOO_MANY` where `GASNET_C_OPERATIONS` stand, and `GASNET_C_BAD` where the target or
 /// a range is bad; of the last two nothing happened. Its chunks are sent by `gasnet_c_tick`: a chunk of a put is read
-/// out of the own segment by the tick that sends it.
+/// out of the local segment by the tick that sends it.
 #[unsafe(no_mangle)]
 pub extern "C" fn gasnet_c_begin(alloc: Global, handle: &mut Handle, now: u64, what: &Move) -> Told
     requires { IsWhole handle.old }
@@ -109,13 +109,13 @@ pub extern "C" fn gasnet_c_sync(alloc: Global, handle: &mut Handle, now: u64, se
 }
 
 /// The implicit operations that C names.
-fn which_of(which: u32) -> Some3
+fn which_of(which: u32) -> ImplicitKinds
     ensures { result ≡ which_of which }
 {
     match which {
-        0 => Some3::Puts,
-        1 => Some3::Gets,
-        _ => Some3::All,
+        0 => ImplicitKinds::Puts,
+        1 => ImplicitKinds::Gets,
+        _ => ImplicitKinds::All,
     }
 }
 

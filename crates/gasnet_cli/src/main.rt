@@ -45,7 +45,7 @@ use crate::progress::shown_progress;
 use crate::run::{Behind, run};
 use crate::settings::{Refusal, Settings};
 use crate::telling::{Causes, tell_dropped, tell_end, tell_help};
-use real_outside::{ChildEnds, LinkSocket, ProcessSpawner, SocketGate, SystemClock, UdpLink};
+use real_outside::{ChildEnds, LinkSocket, ProcessSpawner, SocketWaiter, SystemClock, UdpLink};
 use sealed_link::{Dropped, SealedLink};
 use std::alloc::AllocError;
 use std::env;
@@ -111,7 +111,7 @@ fn main(rt: HostRuntime) -> ExitCode {
     let behind = Behind {
         spawner: CountedSpawner::new(rt.alloc(), spawner(rt, agent, folder, &ends), &progress),
         clock: SystemClock::new(rt),
-        gate: SocketGate::new(rt, rt.alloc(), &socket),
+        waiter: SocketWaiter::new(rt, rt.alloc(), &socket),
         progress: &progress,
     };
     let mut notes = StandardNotes::new(&rt);

@@ -3,7 +3,7 @@
 use crate::command::Command;
 use crate::progress::Progress;
 use crate::watched::{WatchedReader, WatchedWriter};
-use gas_outside::{Clock, Gate, Link, Spawner};
+use gas_outside::{Clock, Link, Spawner, Waiter};
 use std::io;
 use std::io::{Input, Print};
 use std::process::ExitCode;
@@ -18,8 +18,8 @@ pub struct Behind<'a, P, C, G> {
     pub spawner: P,
     /// The clock of a node.
     pub clock: C,
-    /// The gate of its threads.
-    pub gate: G,
+    /// The waiter of its threads.
+    pub waiter: G,
     /// What the run is at.
     pub progress: &'a Progress,
 }
@@ -31,7 +31,7 @@ pub fn run<
     L: Link + Send + Drop,
     P: Spawner,
     C: Clock + Send + Drop,
-    G: Gate + Sync + Drop,
+    G: Waiter + Sync + Drop,
     N: Notes,
 >(
     rt: &H,
@@ -43,7 +43,7 @@ pub fn run<
     let Behind {
         spawner,
         clock,
-        gate,
+        waiter,
         progress,
     } = behind;
     let (input, output, whole) = (&mut command.input, &mut command.output, command.steps);
@@ -53,7 +53,7 @@ pub fn run<
         link,
         spawner,
         clock,
-        gate,
+        waiter,
     };
     let (code, after) = run_streams(rt, rt.alloc(), &command.words, streams, notes);
     let Outside { spawner, .. } = after;

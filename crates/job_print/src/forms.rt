@@ -29,7 +29,7 @@ pub(crate) enum Last<'a> {
     WordOps(&'a [WordOp]),
     /// Levels of a strided transfer.
     Levels(&'a [Level]),
-    /// Ranges of the other segment, and of the own one.
+    /// Ranges of the other segment, and of the local one.
     Ranges(&'a [(u64, u64)], &'a [(u64, u64)]),
 }
 

@@ -6,7 +6,7 @@ ghost use Rattle.job_text.specs.Words.{collective_word, implicit_word, kind_word
 use collective_area::CollectiveKind;
 use gas_atomic::Op;
 use handler_rules::{CallKind, Role};
-use put_get::Some3;
+use put_get::ImplicitKinds;
 
 /// The word of a kind of calls; none of those that no text names.
 pub(crate) fn kind_word(kind: CallKind) -> &'static [u8]
@@ -36,13 +36,13 @@ pub(crate) fn role_word(role: Role) -> &'static [u8]
 }
 
 /// The word of implicit operations.
-pub(crate) fn implicit_word(which: Some3) -> &'static [u8]
+pub(crate) fn implicit_word(which: ImplicitKinds) -> &'static [u8]
     ensures { result.now ≡ implicit_word which }
 {
     match which {
-        Some3::Puts => b"puts",
-        Some3::Gets => b"gets",
-        Some3::All => b"all",
+        ImplicitKinds::Puts => b"puts",
+        ImplicitKinds::Gets => b"gets",
+        ImplicitKinds::All => b"all",
     }
 }
 

@@ -12,7 +12,7 @@ use gas_atomic::Op;
 use gas_outside::{BufferedSink, Sink, Wrote};
 use handler_rules::{CallKind, Role};
 use job_text::{Bytes, Operand, Payload};
-use put_get::Some3;
+use put_get::ImplicitKinds;
 
 /// A word of a line behind its name, by what it says.
 #[derive(Clone, Copy)]
@@ -34,7 +34,7 @@ pub(crate) enum Word<'a> {
     /// A handler's role.
     Role(Role),
     /// Implicit operations.
-    Implicit(Some3),
+    Implicit(ImplicitKinds),
     /// An operation of remote atomics.
     Operation(Op),
     /// A kind of collective.

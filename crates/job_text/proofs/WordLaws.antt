@@ -17,8 +17,8 @@ use Rattle.handler_rules.specs.declared.rules.CallKind.{CallKind}
 use Rattle.handler_rules.specs.declared.rules.CallKind.TheVariants as kind
 use Rattle.handler_rules.specs.declared.rules.Role.{Role as HandlerRole}
 use Rattle.handler_rules.specs.declared.rules.Role.TheVariants as role
-use Rattle.put_get.specs.declared.operation.Some3.{Some3}
-use Rattle.put_get.specs.declared.operation.Some3.TheVariants as implicit
+use Rattle.put_get.specs.declared.operation.ImplicitKinds.{ImplicitKinds}
+use Rattle.put_get.specs.declared.operation.ImplicitKinds.TheVariants as implicit
 use Rattle.job_text.specs.declared.job.Operand.{Operand}
 use Rattle.job_text.specs.declared.job.Operand.TheVariants as operand
 use Rattle.job_text.specs.Lines.{Word}
@@ -208,14 +208,14 @@ implicit_takes word =
     (one_of {P = λ k. word ≡ implicit_word k} {word = word} {name = codes "all"} implicit.All (λ e. e) takes_none))
 
 -- implicit operations are read again
-implicit_again : (k : Some3) → implicit_of (implicit_word k) ≡ Some k
+implicit_again : (k : ImplicitKinds) → implicit_of (implicit_word k) ≡ Some k
 unfolding implicit_of
 implicit_again implicit.Puts = refl
 implicit_again implicit.Gets = refl
 implicit_again implicit.All = refl
 
 -- their word ends nowhere within
-implicit_run : (k : Some3) → IsRun (implicit_word k)
+implicit_run : (k : ImplicitKinds) → IsRun (implicit_word k)
 implicit_run implicit.Puts = (refl, (refl, (refl, (refl, tt))))
 implicit_run implicit.Gets = (refl, (refl, (refl, (refl, tt))))
 implicit_run implicit.All = (refl, (refl, (refl, tt)))

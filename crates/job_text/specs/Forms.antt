@@ -13,7 +13,7 @@ use Rattle.job_text.specs.Words.{kind_of, kind_word, IsNamed, role_of, role_word
 use Rattle.job_text.specs.Words.{implicit_of, implicit_word, op_of, op_word, collective_of, collective_word}
 use Rattle.job_text.specs.Payloads.{payload_of, body_payload_of, payload_word, IsPayload, IsBodyPayload, bytes_of}
 use Rattle.job_text.specs.Payloads.{bytes_word, AreBytes}
-use Rattle.put_get.specs.declared.operation.Some3.{Some3}
+use Rattle.put_get.specs.declared.operation.ImplicitKinds.{ImplicitKinds}
 use Rattle.job_text.specs.declared.job.Operand.{Operand}
 use Rattle.job_text.specs.declared.job.Operand.TheVariants as operand
 use Rattle.job_text.specs.declared.job.Payload.{Payload as PayloadValue}
@@ -59,7 +59,7 @@ Meaning Bytes = List ℕ
 Meaning Payload = PayloadValue
 Meaning BodyPayload = PayloadValue
 Meaning Integer = ℤ
-Meaning Implicit = Some3
+Meaning Implicit = ImplicitKinds
 Meaning Operation = Op
 Meaning Collective = CollectiveKind
 

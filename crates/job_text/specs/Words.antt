@@ -9,8 +9,8 @@ use Rattle.std.specs.Str.{bytes_eq}
 use Rattle.std.specs.Str.Parse.{digits_value, AllDigits}
 use Rattle.std.specs.Int.{IsInRange}
 use Rattle.job_text.specs.Lines.{Word, ◌>>=◌, is_stop, front, back}
-use Rattle.put_get.specs.declared.operation.Some3.{Some3}
-use Rattle.put_get.specs.declared.operation.Some3.TheVariants as implicit
+use Rattle.put_get.specs.declared.operation.ImplicitKinds.{ImplicitKinds}
+use Rattle.put_get.specs.declared.operation.ImplicitKinds.TheVariants as implicit
 use Rattle.job_text.specs.declared.job.Operand.{Operand}
 use Rattle.job_text.specs.declared.job.Operand.TheVariants as operand
 use Rattle.job_text.specs.declared.operands.NumberPlace.{NumberPlace}
@@ -170,13 +170,13 @@ role_of word =
     if bytes_eq word (codes "reply") then Some role.Reply else None)
 
 -- the word of implicit operations (GASNet 1.8.1, extended API: gasnet_try_syncnbi_puts, _gets and _all)
-abbrev pub implicit_word : Some3 → Word
+abbrev pub implicit_word : ImplicitKinds → Word
 implicit_word implicit.Puts = codes "puts"
 implicit_word implicit.Gets = codes "gets"
 implicit_word implicit.All = codes "all"
 
 -- implicit operations by their word
-unfoldable pub implicit_of : Word → Option Some3
+unfoldable pub implicit_of : Word → Option ImplicitKinds
 implicit_of word =
     if bytes_eq word (codes "puts") then Some implicit.Puts else (
     if bytes_eq word (codes "gets") then Some implicit.Gets else (

@@ -15,7 +15,7 @@ use collective_area::Shape;
 use datagram_grammar::Settings;
 use gas_atomic::WordOp;
 use handler_rules::{CallKind, Role};
-use put_get::{Some3, Transfer};
+use put_get::{ImplicitKinds, Transfer};
 use std::marker::Model;
 
 /// A number as an action has it.
@@ -66,7 +66,7 @@ impl Model for Bytes {
 pub enum Payload {
     /// These bytes.
     Bytes { bytes: Bytes },
-    /// A range of the own segment, in bytes.
+    /// A range of the local segment, in bytes.
     Range { offset: u64, len: u64 },
     /// The payload of the message that a handler runs for, and of a Long its place; in a handler's body alone.
     Message,
@@ -231,7 +231,7 @@ pub enum Action {
     Source { cell: u8 },
     /// The cell rises by the sum of the payload's bytes, and of a Long of the bytes at its place, wrapping.
     Sum { cell: u8 },
-    /// The payload of a Medium is written there, in bytes from the begin of the own segment.
+    /// The payload of a Medium is written there, in bytes from the begin of the local segment.
     Keep { offset: u64 },
     /// Locks a lock.
     Lock { lock: u8 },
@@ -310,27 +310,27 @@ pub enum ScheduledCall {
         cell: u8,
         operand: Operand,
     },
-    /// The bytes of a range of the own segment, at most 8,192 where the job was read.
+    /// The bytes of a range of the local segment, at most 8,192 where the job was read.
     Show {
         offset: u64,
         len: u16,
     },
-    /// Puts bytes into the own segment.
+    /// Puts bytes into the local segment.
     Set {
         offset: u64,
         bytes: Bytes,
     },
-    /// Puts the same byte at each place of a range of the own segment.
+    /// Puts the same byte at each place of a range of the local segment.
     Fill {
         offset: u64,
         len: u64,
         byte: u8,
     },
-    /// The number of 64 bits at a place of the own segment.
+    /// The number of 64 bits at a place of the local segment.
     Word {
         offset: u64,
     },
-    /// Puts a number of 64 bits at a place of the own segment.
+    /// Puts a number of 64 bits at a place of the local segment.
     SetWord {
         offset: u64,
         number: u64,
@@ -362,7 +362,7 @@ pub enum ScheduledCall {
     },
     /// Synchronises implicit transfers of the thread.
     SyncImplicit {
-        which: Some3,
+        which: ImplicitKinds,
     },
     /// Begins an access region.
     RegionBegin,
@@ -393,7 +393,7 @@ pub enum CollectiveText {
     Start { shape: Shape, from: u64 },
     /// Sends to one node more.
     Step,
-    /// Tries to end it, with the result at `dest` of the own segment.
+    /// Tries to end it, with the result at `dest` of the local segment.
     Try { dest: u64 },
 }
 
@@ -460,7 +460,7 @@ pub struct TimedEvent {
 }
 
 /// A put of a script that waits until all of it was sent: `remote` and `local` are offsets in the segment of the node
-/// `to` and in the own one, `len` is how many bytes.
+/// `to` and in the local one, `len` is how many bytes.
 #[derive(Clone, Copy)]
 pub struct PutText {
     /// The node that it is sent to.
@@ -478,7 +478,7 @@ pub struct PutText {
 pub enum WaitingStep {
     /// Waits until the cell holds the number at least.
     Until { cell: u8, operand: Operand },
-    /// Waits until the word of 64 bits at a place of the own segment is this number.
+    /// Waits until the word of 64 bits at a place of the local segment is this number.
     UntilWord { offset: u64, number: u64 },
     /// A transfer, until it is complete (GASNet 1.8.1, extended API: gasnet_put, gasnet_get and gasnet_memset).
     Transfer { transfer: BoxedTransfer },
@@ -494,7 +494,7 @@ pub enum WaitingStep {
     /// Waits for one of them at least (gasnet_wait_syncnb_some).
     WaitSome { registers: Registers },
     /// Waits for implicit transfers of the thread (gasnet_wait_syncnbi_puts, _gets and _all).
-    WaitImplicit { which: Some3 },
+    WaitImplicit { which: ImplicitKinds },
     /// Waits at the barrier (gasnet_barrier_wait).
     BarrierWait { id: i32, flags: u8 },
     /// Starts a collective, sends to all nodes, and waits until it ends with the result at `dest` (this project's
@@ -723,7 +723,7 @@ impl BatchText {
         self.to
     }
 
-    /// Where the block of its reply goes in the own segment, in bytes.
+    /// Where the block of its reply goes in the local segment, in bytes.
     pub fn local(&self) -> u64
         ensures { result ≡ self.now.request.local }
     {

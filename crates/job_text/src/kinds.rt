@@ -11,7 +11,7 @@ use crate::words::{is_name, name_of, spaced};
 use collective_area::CollectiveKind;
 use gas_atomic::Op;
 use handler_rules::{CallKind, Role};
-use put_get::Some3;
+use put_get::ImplicitKinds;
 
 /// The kind of calls that a word names.
 #[tactic(auto, unfolding(crate::specs::Words::kind_of))]
@@ -87,24 +87,24 @@ pub fn role_at(bytes: &[u8]) -> Result<(Role, &[u8]), Other>
 
 /// The kind of implicit operations that a word names.
 #[tactic(auto, unfolding(crate::specs::Words::implicit_of))]
-fn implicit_of(word: &[u8]) -> Option<Some3>
+fn implicit_of(word: &[u8]) -> Option<ImplicitKinds>
     ensures { result ≡ implicit_of word.now }
 {
     if is_name(word, b"puts") {
-        return Some(Some3::Puts);
+        return Some(ImplicitKinds::Puts);
     }
     if is_name(word, b"gets") {
-        return Some(Some3::Gets);
+        return Some(ImplicitKinds::Gets);
     }
     if is_name(word, b"all") {
-        return Some(Some3::All);
+        return Some(ImplicitKinds::All);
     }
     None
 }
 
 /// A kind of implicit operations behind a space.
 #[tactic(auto, unfolding(crate::specs::Forms::part_at, crate::specs::Forms::word_at))]
-pub fn implicit_at(bytes: &[u8]) -> Result<(Some3, &[u8]), Other>
+pub fn implicit_at(bytes: &[u8]) -> Result<(ImplicitKinds, &[u8]), Other>
     ensures { Finds (λ x. (x.0, x.1.now)) result (part_at Implicit bytes.now) }
 {
     let bytes = spaced(bytes)?;

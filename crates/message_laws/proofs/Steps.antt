@@ -26,7 +26,7 @@ ask_step : {Local Call Told : Type 0} (job : Job Local Call Told) (p q : Plain L
 ask_step job p q i ask b (asked.Accepted to label k) h =
     ThreadAsks i ask label refl (ap (λ (r : Plain _). r.requests) h.3) (ap (λ (r : Plain _). r.runs) h.3)
 ask_step job p q i ask b asked.NotYet h = same job p q _ b tt h.3
-ask_step job p q i ask b asked.WornOut h = same job p q _ b tt h.2
+ask_step job p q i ask b asked.Exhausted h = same job p q _ b tt h.2
 ask_step job p q i ask b (asked.BadArg part) h = same job p q _ b tt h.2
 ask_step job p q i ask b (asked.LockBusy lock) h = same job p q _ b tt h.3
 ask_step job p q i ask b asked.Ran h =
@@ -38,7 +38,7 @@ ask_step job p q i ask b (asked.Forbidden forbidden) h =
 run_step : {Local Call Told : Type 0} (job : Job Local Call Told) (p q : Plain Local) (i j k : ℕ) (a : Delivered)
     → RunStep job.behaviour.messages p (named i j k) a q
     → RequestStep {Call = Call} {Told = Told} job p q (RequestComes i j k) (OfNode (OfDelivery a))
-run_step job p q i j k (delivered.Again at) h = same job p q _ _ tt h.4
+run_step job p q i j k (delivered.Duplicate at) h = same job p q _ _ tt h.4
 run_step job p q i j k delivered.Stale h = same job p q _ _ tt h.3
 run_step job p q i j k (delivered.Deferred lock) h = same job p q _ _ tt h.3
 run_step job p q i j k a h = Runs i j k a refl refl h
@@ -57,7 +57,7 @@ take_step job p q i j k b a h = absurd h
 tick_step : {Local Call Told : Type 0} (job : Job Local Call Told) (p q : Plain Local) (i : ℕ)
     (b : WorldAnswer Told) (a : Ticked) → TickStep (site_of job i) p a q
     → RequestStep {Call = Call} job p q (Ticks i) b
-tick_step job p q i b (ticked.Resend at) h = same job p q _ b tt h.6
+tick_step job p q i b (ticked.Retransmission at) h = same job p q _ b tt h.6
 tick_step job p q i b ticked.Nothing h = same job p q _ b tt h.1
 tick_step job p q i b a h =
     NodeAsks i h.to h.request refl h.given (ap (λ (r : Plain _). r.requests) h.leaves)

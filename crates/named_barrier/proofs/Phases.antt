@@ -58,7 +58,7 @@ notify_ended : (kept : BarrierRecord) (id : ℤ) (flags : ℕ) (answer : Notifie
 notify_ended kept id flags told.Ok = refl
 notify_ended kept id flags told.BadFlags = refl
 notify_ended kept id flags told.Twice = refl
-notify_ended kept id flags told.WornOut = refl
+notify_ended kept id flags told.Exhausted = refl
 
 pub send_ended : (kept : BarrierRecord) (to : ℕ) (maybe : Option BarrierNote) → (send kept to maybe).ended ≡ kept.ended
 send_ended kept to None = refl
@@ -90,7 +90,7 @@ try_ended nodes barriers kept tried.Mismatch all phase low =
 try_ended nodes barriers kept tried.NotReady all phase low = inl low
 try_ended nodes barriers kept tried.NoNotify all phase low = inl low
 try_ended nodes barriers kept tried.BadFlags all phase low = inl low
-try_ended nodes barriers kept (tried.WornOut node) all phase low = inl low
+try_ended nodes barriers kept (tried.Exhausted node) all phase low = inl low
 
 same_ended : (nodes : ℕ) (barriers : Barriers) (kept newer : BarrierRecord) → newer.ended ≡ kept.ended → (phase : ℕ)
     → phase < newer.ended → (phase < kept.ended) ⊎ AllNotified nodes barriers phase

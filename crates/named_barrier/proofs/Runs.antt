@@ -110,7 +110,7 @@ keeps_notify nodes barriers kept id flags told.Ok = record {
 }
 keeps_notify nodes barriers kept id flags told.BadFlags = keeps_same nodes barriers kept
 keeps_notify nodes barriers kept id flags told.Twice = keeps_same nodes barriers kept
-keeps_notify nodes barriers kept id flags told.WornOut = keeps_same nodes barriers kept
+keeps_notify nodes barriers kept id flags told.Exhausted = keeps_same nodes barriers kept
 
 pub keeps_try : (nodes : ℕ) (barriers : Barriers) (kept : BarrierRecord) (answer : BarrierAnswer)
     → Keeps nodes barriers kept (try_after kept answer)
@@ -125,7 +125,7 @@ keeps_try nodes barriers kept tried.Mismatch =
 keeps_try nodes barriers kept tried.NotReady = keeps_same nodes barriers kept
 keeps_try nodes barriers kept tried.NoNotify = keeps_same nodes barriers kept
 keeps_try nodes barriers kept tried.BadFlags = keeps_same nodes barriers kept
-keeps_try nodes barriers kept (tried.WornOut node) = keeps_same nodes barriers kept
+keeps_try nodes barriers kept (tried.Exhausted node) = keeps_same nodes barriers kept
 
 pub keeps_hear : (nodes : ℕ) (barriers : Barriers) (kept : BarrierRecord) (note : BarrierNote)
     → IsCovered nodes barriers note → Keeps nodes barriers kept (hear kept note)
@@ -251,7 +251,7 @@ opens nodes = record { heard = λ node place note e. absurd (cc); sent = λ node
 pub are_covered : InEveryRun AreCovered
 are_covered nodes events all = run_keeps nodes events all_opened all (opens nodes)
 
-not_unready : (worn : Option ℕ) → (unready worn ≡ tried.Ok) ⊎ (unready worn ≡ tried.Mismatch) → ⊥
+not_unready : (exhausted : Option ℕ) → (unready exhausted ≡ tried.Ok) ⊎ (unready exhausted ≡ tried.Mismatch) → ⊥
 not_unready None (inl e) = cc
 not_unready None (inr e) = cc
 not_unready (Some node) (inl e) = cc
@@ -286,7 +286,7 @@ own_passes nodes part try (Some notify) note = elim (cases_Bool (has_all part.ma
       ])
     ]),
   )
-  | inr f ↦ absurd (not_unready try.worn (rw f at note))
+  | inr f ↦ absurd (not_unready try.exhausted (rw f at note))
 ]
 
 pub passes : (nodes me : ℕ) (kept : BarrierRecord) (try : Try)

@@ -205,12 +205,12 @@ within_notify nodes kept id flags within fits = by_flags (cases_Bool (nat_lt 3 f
         }
 
     by_phase : own kept kept.ended ≡ None → (eqb kept.ended (2 ^ 64 - 1) ≡ true) ⊎ (eqb kept.ended (2 ^ 64 - 1) ≡ false)
-        → IsWithin nodes (notify_after kept id flags (if kept.ended == 2 ^ 64 - 1 then told.WornOut else told.Ok))
+        → IsWithin nodes (notify_after kept id flags (if kept.ended == 2 ^ 64 - 1 then told.Exhausted else told.Ok))
     by_phase none (inl holds) = rw holds within
     by_phase none (inr fails) = rw fails (taken none (grind (arith, nat_tests, fails)))
 
     by_own : (mine : Option Notify) → own kept kept.ended ≡ mine → IsWithin nodes (notify_after kept id flags
-        (if is_some mine then told.Twice else (if kept.ended == 2 ^ 64 - 1 then told.WornOut else told.Ok)))
+        (if is_some mine then told.Twice else (if kept.ended == 2 ^ 64 - 1 then told.Exhausted else told.Ok)))
     by_own (Some one) is = within
     by_own None is = by_phase is (cases_Bool (eqb kept.ended (2 ^ 64 - 1)))
 
@@ -234,7 +234,7 @@ within_try nodes kept tried.Mismatch given within =
 within_try nodes kept tried.NotReady given within = within
 within_try nodes kept tried.NoNotify given within = within
 within_try nodes kept tried.BadFlags given within = within
-within_try nodes kept (tried.WornOut node) given within = within
+within_try nodes kept (tried.Exhausted node) given within = within
 
 within_hear : (nodes : ℕ) (kept : BarrierRecord) (note : BarrierNote) → IsWithin nodes kept → IsNote nodes note
     → IsWithin nodes (hear kept note)

@@ -81,7 +81,7 @@ abbrev pub notify_answer : BarrierRecord → (id : ℤ) → (flags : ℕ) → No
 notify_answer kept id flags =
     if nat_lt 3 flags then told.BadFlags
     else (if is_some (own kept kept.ended) then told.Twice
-    else (if kept.ended == 2 ^ 64 - 1 then told.WornOut else told.Ok))
+    else (if kept.ended == 2 ^ 64 - 1 then told.Exhausted else told.Ok))
 
 abbrev pub notify_after : BarrierRecord → (id : ℤ) → (flags : ℕ) → Notified → BarrierRecord
 notify_after kept id flags told.Ok =
@@ -93,17 +93,17 @@ notify_after kept id flags _ = kept
 pub record Try : Type 0 where
   pub id : ℤ
   pub flags : ℕ
-  pub worn : Option ℕ  -- a node that a note of the phase must go to still, for which the numbers are worn out
+  pub exhausted : Option ℕ  -- a node that a note of the phase must go to still, for which the numbers are exhausted out
 
 -- the try's flags, or its identifier where it is named, aren't those of the notify
 abbrev pub is_other : Notify → (id : ℤ) → (flags : ℕ) → Bool
 is_other notify id flags =
     not (notify.flags == flags) || (not (is_anonymous flags) && not (int_eq notify.id id))
 
--- of a phase that isn't complete, where the numbers of a node may be worn out
-abbrev pub unready : (worn : Option ℕ) → BarrierAnswer
+-- of a phase that isn't complete, where the numbers of a node may be exhausted out
+abbrev pub unready : (exhausted : Option ℕ) → BarrierAnswer
 unready None = tried.NotReady
-unready (Some node) = tried.WornOut node
+unready (Some node) = tried.Exhausted node
 
 -- of a phase that the node has notified, or hasn't
 abbrev pub own_try : (nodes : ℕ) → Part → Try → Option Notify → BarrierAnswer
@@ -111,7 +111,7 @@ own_try nodes part try None = tried.NoNotify
 own_try nodes part try (Some notify) =
     if has_all part.mask nodes
     then (if part.combined.mismatch || is_other notify try.id try.flags then tried.Mismatch else tried.Ok)
-    else unready try.worn
+    else unready try.exhausted
 
 abbrev pub try_answer : (nodes me : ℕ) → BarrierRecord → Try → BarrierAnswer
 try_answer nodes me kept try =

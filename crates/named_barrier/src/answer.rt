@@ -10,7 +10,7 @@ pub enum Notified {
     /// This phase was notified before.
     Twice,
     /// The phase is the last one, 2^64 - 1, which is never notified (profile).
-    WornOut,
+    Exhausted,
 }
 
 /// What `Barrier::try_wait` answers.
@@ -18,7 +18,7 @@ pub enum Notified {
 pub enum BarrierAnswer {
     /// All nodes have notified the phase, and their notifies match. The phase has ended.
     Ok,
-    /// All nodes have notified the phase, and their notifies don't match, or the try differs from the own notify. The
+    /// All nodes have notified the phase, and their notifies don't match, or the try differs from the local notify. The
     /// phase has ended.
     Mismatch,
     /// It isn't known that all nodes have notified the phase.
@@ -27,7 +27,7 @@ pub enum BarrierAnswer {
     NoNotify,
     /// The flags are above 3.
     BadFlags,
-    /// The phase isn't complete, and the numbers of messages for this node, to which a note must go, are worn out
+    /// The phase isn't complete, and the numbers of messages for this node, to which a note must go, are exhausted out
     /// (profile).
-    WornOut(u16),
+    Exhausted(u16),
 }

@@ -75,7 +75,7 @@ impl Barrier {
     /// Notifies the present phase: `gasnet_barrier_notify`.
     ///
     /// The flags are 0 where it is named by the identifier, 1 for ANONYMOUS, 2 for MISMATCH, and 3 for both (profile).
-    /// The first of these that is so: `BadFlags`, the flags are above 3; `Twice`, the phase was notified; `WornOut`,
+    /// The first of these that is so: `BadFlags`, the flags are above 3; `Twice`, the phase was notified; `Exhausted`,
     /// the phase is 2^64 - 1. Else `Ok`. A refusal changes nothing.
     pub fn notify(&mut self, id: i32, flags: u8) -> Notified
         ensures answer { (nodes me : ℕ) (kept : BarrierRecord) → Stands nodes me self.old kept
@@ -91,7 +91,7 @@ impl Barrier {
             return Notified::Twice;
         }
         if self.phase == u64::MAX {
-            return Notified::WornOut;
+            return Notified::Exhausted;
         }
         let own = Notify { id, flags };
         self.own = Some(own);
@@ -106,19 +106,19 @@ impl Barrier {
 
     /// Tries whether the present phase is complete, and ends it then: `gasnet_barrier_try`.
     ///
-    /// `worn` is the smallest node to which a note of this phase must go, and for which the numbers of messages are
-    /// worn out. The first of these that is so: `BadFlags`, the flags are above 3; `NoNotify`, the phase wasn't
-    /// notified; where all nodes are known to have notified it, `Mismatch` or `Ok`, and the phase ends; `WornOut` with
+    /// `exhausted` is the smallest node to which a note of this phase must go, and for which the numbers of messages are
+    /// exhausted out. The first of these that is so: `BadFlags`, the flags are above 3; `NoNotify`, the phase wasn't
+    /// notified; where all nodes are known to have notified it, `Mismatch` or `Ok`, and the phase ends; `Exhausted` with
     /// that node, where there is one; `NotReady`. It is a mismatch exactly where the notifies are one, or where the
-    /// flags, or the identifier where it is named, differ from the own notify.
-    pub fn try_wait(&mut self, id: i32, flags: u8, worn: Option<u16>) -> BarrierAnswer
+    /// flags, or the identifier where it is named, differ from the local notify.
+    pub fn try_wait(&mut self, id: i32, flags: u8, exhausted: Option<u16>) -> BarrierAnswer
         ensures answer { (nodes me : ℕ) (kept : BarrierRecord) → Stands nodes me self.old kept
-            → result ≡ try_answer nodes me kept (record { id = id; flags = flags; worn = worn }) }
+            → result ≡ try_answer nodes me kept (record { id = id; flags = flags; exhausted = exhausted }) }
         ensures stands { (nodes me : ℕ) (kept : BarrierRecord) → Stands nodes me self.old kept
             → Stands nodes me self.new (try_after kept (try_answer nodes me kept (record {
               id = id;
               flags = flags;
-              worn = worn;
+              exhausted = exhausted;
             }))) }
         ensures nodes { self.new.nodes ≡ self.old.nodes }
     {
@@ -129,8 +129,8 @@ impl Barrier {
             return BarrierAnswer::NoNotify;
         };
         if !has_all(&self.present.mask, self.nodes) {
-            return match worn {
-                Some(node) => BarrierAnswer::WornOut(node),
+            return match exhausted {
+                Some(node) => BarrierAnswer::Exhausted(node),
                 None => BarrierAnswer::NotReady,
             };
         }

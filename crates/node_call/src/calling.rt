@@ -10,7 +10,7 @@ ghost use Rattle.node_call.specs.Seen.{devices_seen};
 use crate::sieved::Sieved;
 use endpoint_lock::{End, Ended};
 use gas_endpoint::Endpoint;
-use gas_outside::{BufferedSink, Clock, Gate, Link, Sink, Wrote};
+use gas_outside::{BufferedSink, Clock, Link, Sink, Waiter, Wrote};
 use node_machine::NodeMachine;
 use node_script::Script;
 use station_run::{Node, NodeRun, Place, run_node};
@@ -36,8 +36,8 @@ pub struct Devices<'g, L, C, G> {
     pub link: L,
     /// Its clock.
     pub clock: C,
-    /// The gate that its threads pass before each turn.
-    pub gate: &'g G,
+    /// The waiter that its threads pass before each turn.
+    pub waiter: &'g G,
 }
 
 /// How the run of a node ended.
@@ -199,7 +199,7 @@ pub fn run_job_node<
     R: Threads + Wait + Sync,
     L: Link + Send,
     C: Clock + Send,
-    G: Gate + Sync,
+    G: Waiter + Sync,
     K: Sink + Send,
 >(
     rt: &R,
@@ -216,9 +216,13 @@ pub fn run_job_node<
         (outbox K.taken K.faults sink) (outbox K.taken K.faults result.sink)
         result.end result.node }
 {
-    let Devices { link, clock, gate } = devices;
+    let Devices {
+        link,
+        clock,
+        waiter,
+    } = devices;
     match ready(alloc, node, link, clock) {
-        Ok(node) => ran(run_node(rt, alloc, node, gate, sink)),
+        Ok(node) => ran(run_node(rt, alloc, node, waiter, sink)),
         Err((link, clock)) => NodeRan::unmade(link, clock, sink),
     }
 }

@@ -143,7 +143,7 @@ end_may May each at dest node it =
     behind ends.NotReady = tt
     behind ends.NotStarted = tt
     behind (ends.BadArg argument) = tt
-    behind (ends.WornOut other) = tt
+    behind (ends.Exhausted other) = tt
     behind (ends.Forbidden why) = tt
     behind ends.NoMemory = tt
 

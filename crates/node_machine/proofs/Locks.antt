@@ -26,7 +26,7 @@ use Rattle.node_record.specs.Behaviour.{Ask, Contact}
 use Rattle.node_record.specs.NodeStep.{Asks, Does, Comes, Ticks, site_of, node_after, node_answer}
 use Rattle.node_record.specs.Record.{Node}
 use Rattle.node_record.specs.Step.{Verdict, Runs, Returns, verdict, after_delivery, request_answer, after_request}
-use Rattle.node_record.specs.Step.{said, with_itself, is_worn_out, TickChoice, Resends, Sends, Rests, tick_choice}
+use Rattle.node_record.specs.Step.{said, with_itself, is_exhausted, TickChoice, Retransmits, Sends, Rests, tick_choice}
 use Rattle.node_record.specs.Step.{after_tick}
 use Rattle.am_core.specs.HandlerRuns.{handlers_of, run_reply}
 use Rattle.am_core.specs.Kept.{Local}
@@ -78,7 +78,7 @@ delivery_keeps settings table meaning me node message _ = refl
 tick_keeps : (settings : Parameters) (table : List (Option Entry)) (meaning : Meaning) (me now : ℕ)
     (node : Node EndpointLocal) (choice : TickChoice)
     → locks_in (after_tick (site_of (job_of settings table meaning) me) node now choice) ≡ locks_in node
-tick_keeps settings table meaning me now node (Resends due) = refl
+tick_keeps settings table meaning me now node (Retransmits due) = refl
 tick_keeps settings table meaning me now node (Sends sending) =
     elim (cases_Bool (sending.content.handler == note_handler)) [ inl e ↦ rw e refl | inr e ↦ rw e refl ]
 tick_keeps settings table meaning me now node Rests = refl
@@ -104,7 +104,7 @@ is_locking (Performs made) = (touches made).locks
 -- a thread of the node
 abbrev pub caller_of : Parameters → (me thread : ℕ) → Node EndpointLocal → Caller
 caller_of settings me thread node =
-    record { settings = settings; me = me; thread = thread; worn = is_worn_out settings node }
+    record { settings = settings; me = me; thread = thread; exhausted = is_exhausted settings node }
 
 -- every call but these two
 call_keeps : (settings : Parameters) (table : List (Option Entry)) (meaning : Meaning) (me thread now : ℕ)

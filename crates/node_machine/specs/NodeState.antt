@@ -89,7 +89,7 @@ fresh_collectives settings me at = record {
   ended = 0;
   shape = idle.shape;
   sent = no_nodes;
-  worn = no_nodes;
+  exhausted = no_nodes;
 }
 
 -- those of a node before all turns, where the job has an area of them

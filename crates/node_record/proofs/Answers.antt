@@ -23,8 +23,8 @@ use Rattle.node_record.specs.Credits.{limits_of}
 use Rattle.node_record.specs.Behaviour.{Behaviour, Ask, Sending, is_request, asks_well, replies_well}
 use Rattle.node_record.specs.Step.{Site, request_fault, unless_bad, unless_forbidden, own_answer, request_answer}
 use Rattle.node_record.specs.Step.{said, refusal, address_fault, first_why, Verdict}
-use Rattle.node_record.specs.Step.{Refused, Repeated, Passed, Runs, Missed, Returns, unless_refused, unless_waiting}
-use Rattle.node_record.specs.Step.{verdict, can_ask, Resends, Sends}
+use Rattle.node_record.specs.Step.{Refused, Duplicated, Passed, Runs, Missed, Returns, unless_refused, unless_waiting}
+use Rattle.node_record.specs.Step.{verdict, can_ask, Retransmits, Sends}
 use Rattle.node_record.specs.Step.{Rests, choice_of}
 
 -- ---- a request of a thread
@@ -69,10 +69,10 @@ not_own true (Some lock) answer p q n e = absurd (cc)
 not_own false lock answer p q n e = (refl, e)
 
 -- it has a slot and a number
-claimed : (worn out : Bool) (to slot number p q n : ℕ)
-    → (if worn then asked.WornOut else (if out then asked.NotYet else asked.Accepted to slot number)) ≡ asked.Accepted
+claimed : (exhausted out : Bool) (to slot number p q n : ℕ)
+    → (if exhausted then asked.Exhausted else (if out then asked.NotYet else asked.Accepted to slot number)) ≡ asked.Accepted
     p q n
-    → (worn ≡ false) × (out ≡ false) × (p ≡ to) × (q ≡ slot) × (n ≡ number)
+    → (exhausted ≡ false) × (out ≡ false) × (p ≡ to) × (q ≡ slot) × (n ≡ number)
 claimed true out to slot number p q n e = absurd (cc)
 claimed false true to slot number p q n e = absurd (cc)
 claimed false false to slot number p q n e = (refl, refl, cc, cc, cc)
@@ -130,7 +130,7 @@ here_says site node ask e =
 
 -- a request that runs is above every number run in its slot, and waits for no lock
 judged_runs : (same less : Bool) (lock : Option ℕ)
-    → (if same then Repeated else (if less then Passed else unless_waiting lock Runs)) ≡ Runs
+    → (if same then Duplicated else (if less then Passed else unless_waiting lock Runs)) ≡ Runs
     → (same ≡ false) × (less ≡ false) × (lock ≡ None)
 judged_runs true less lock e = absurd (cc)
 judged_runs false true lock e = absurd (cc)
@@ -139,7 +139,7 @@ judged_runs false false (Some k) e = absurd (cc)
 
 -- no request is taken as a reply
 judged_not_back : (same less : Bool) (lock : Option ℕ)
-    → (if same then Repeated else (if less then Passed else unless_waiting lock Runs)) ≡ Returns → ⊥
+    → (if same then Duplicated else (if less then Passed else unless_waiting lock Runs)) ≡ Returns → ⊥
 judged_not_back true less lock e = cc
 judged_not_back false true lock e = cc
 judged_not_back false false None e = cc
@@ -278,11 +278,11 @@ sends_choice None (Some next) sending e = cc
 sends_choice None None sending e = absurd (cc)
 
 -- a request is sent again where it is due
-pub resends_choice : (due : Option Due) (next : Option Sending) (d : Due) → choice_of due next ≡ Resends d
+pub retransmits_choice : (due : Option Due) (next : Option Sending) (d : Due) → choice_of due next ≡ Retransmits d
     → due ≡ Some d
-resends_choice (Some due) next d e = cc
-resends_choice None (Some next) d e = absurd (cc)
-resends_choice None None d e = absurd (cc)
+retransmits_choice (Some due) next d e = cc
+retransmits_choice None (Some next) d e = absurd (cc)
+retransmits_choice None None d e = absurd (cc)
 
 -- nothing is sent where there is no next request
 pub rests_choice : (due : Option Due) (next : Option Sending) → choice_of due next ≡ Rests → next ≡ None

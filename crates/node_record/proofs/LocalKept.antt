@@ -11,7 +11,7 @@ use Rattle.node_record.specs.Step.{Site, request_answer}
 use Rattle.node_record.specs.Step.{after_request, said, with_itself, Verdict}
 use Rattle.node_record.specs.Step.{Runs, Returns}
 use Rattle.node_record.specs.Step.{verdict, after_delivery, with_sender, can_ask, next_due, TickChoice, Sends}
-use Rattle.node_record.specs.Step.{tick_choice, with_asked, after_tick, is_worn_out}
+use Rattle.node_record.specs.Step.{tick_choice, with_asked, after_tick, is_exhausted}
 use Rattle.node_record.specs.NodeStep.{Job, site_of, IsAllSound, NodeEvent, Asks, Does, Comes, Ticks, node_after}
 use Rattle.node_record.proofs.Answers.{here_says, runs_says, returns_says, sends_choice}
 
@@ -55,7 +55,7 @@ pub event_kept : {Local Call Told : Type 0} (job : Job Local Call Told) (IsKept 
     → IsKept me (node_after job me node now event).local
 event_kept job IsKept me node now (Asks ask) S G = request_kept (site_of job me) IsKept node now ask _ S.messages G refl
 event_kept job IsKept me node now (Does thread call) S G =
-    S.does me (is_worn_out job.settings node) thread call node.local G
+    S.does me (is_exhausted job.settings node) thread call node.local G
 event_kept job IsKept me node now (Comes message) S G =
     delivery_kept (site_of job me) IsKept node message _ S.messages G refl
 event_kept job IsKept me node now Ticks S G = tick_kept (site_of job me) IsKept node now _ S.messages G refl

@@ -13,7 +13,7 @@ use Rattle.node_record.specs.Credits.{limits_of}
 use Rattle.node_record.specs.Behaviour.{Ask, Sending}
 use Rattle.node_record.specs.Step.{Site, new_request, with_request, said, request_answer, after_request}
 use Rattle.node_record.specs.Step.{Verdict, Runs, Returns, after_delivery, can_ask}
-use Rattle.node_record.specs.Step.{TickChoice, Resends, Sends, Rests, next_due, after_tick}
+use Rattle.node_record.specs.Step.{TickChoice, Retransmits, Sends, Rests, next_due, after_tick}
 use Rattle.node_record.specs.NodeStep.{Job, site_of, IsAllSound, NodeEvent, Asks, Does, Comes, Ticks, node_after}
 use Rattle.node_record.specs.Invariant.{IsOrderly, NodeInvariant, request_message}
 use Rattle.node_record.specs.Spelled.{IsAskSpelled, IsReplySpelled, IsTickSpelled, IsSpelled, run_made}
@@ -109,7 +109,7 @@ pub tick_keeps : {Local : Type 0} (site : Site Local) (IsKept : (me : ℕ) → L
     → IsKept site.me (after_tick site r now choice).local
     → ((sending : Sending) → choice ≡ Sends sending → CanAsk site r sending.to) → IsTickSpelled site r now choice
     → NodeInvariant site.settings IsKept site.me (after_tick site r now choice)
-tick_keeps site IsKept r now (Resends due) holds kept can spelled =
+tick_keeps site IsKept r now (Retransmits due) holds kept can spelled =
     change_keeps site IsKept due.peer due.number (sent_at now) r _ holds kept refl refl
     (orderly_sent (limits_of site.settings site.me due.peer) now (r.asked due.peer) due.number (holds.orderly due.peer))
     (λ x. (refl, refl))

@@ -52,7 +52,7 @@ check_under part own behaviour node thread kind over =
     rw (judged_under part own behaviour thread node.local over (behaviour.judges thread kind node.local))
     (rw (over.judges thread kind node.local) refl)
 
--- after a run of a request to the own node
+-- after a run of a request to the local node
 ran_under : {Larger Smaller : Type 0} (part : Larger → Smaller) (own : Behaviour Smaller)
     (behaviour : Behaviour Larger) (me : ℕ) (content : Content) (local : Larger) → IsOver part behaviour own
     → part (ran_here behaviour me content local) ≡ ran_here own me content (part local)

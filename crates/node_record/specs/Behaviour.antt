@@ -20,7 +20,7 @@ pub data Category : Type 0 where
   Medium : Category
   Long : Category
 
--- the payload is given, or it is a range of the own segment
+-- the payload is given, or it is a range of the local segment
 pub data PayloadFrom : Type 0 where
   Lent : (bytes : List ℕ) → PayloadFrom
   Own : (offset len : ℕ) → PayloadFrom
@@ -64,7 +64,7 @@ pub record Behaviour (Local : Type 0) : Type 0 where
   pub says : Asking → Local → Content
   -- why a message with this content is refused by the node that it is for
   pub refuses : Content → Option Why
-  -- the lock for which a request to the own node waits, if any
+  -- the lock for which a request to the local node waits, if any
   pub busy : Content → Local → Option ℕ
   -- the lock for which a message that is delivered waits, if any
   pub waits : Content → Local → Option ℕ

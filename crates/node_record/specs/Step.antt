@@ -65,7 +65,7 @@ after_check behaviour node thread kind =
 -- a request to another node, by those asked of it before
 abbrev pub claim_answer : Limits → (to : ℕ) → List Request → Asked
 claim_answer limits to requests =
-    if nat_le limits.last (length requests) then asked.WornOut
+    if nat_le limits.last (length requests) then asked.Exhausted
     else (if nat_le limits.credits (unreturned requests) then asked.NotYet
     else asked.Accepted to (next_claim requests).slot (next_claim requests).number)
 
@@ -157,7 +157,7 @@ refusal site message =
 -- what becomes of a message that is delivered
 pub data Verdict : Type 0 where
   Refused : Why → Verdict  -- it is refused
-  Repeated : Verdict  -- the last request run in its slot came again
+  Duplicated : Verdict  -- the last request run in its slot came again
   Passed : Verdict  -- an earlier request of its slot came again
   Runs : Verdict  -- a request runs
   Missed : Verdict  -- a reply to no request that isn't back
@@ -175,7 +175,7 @@ unless_waiting (Some lock) verdict = Waits lock
 -- a request that passes the checks, by the greatest number run in its slot and the lock for which it waits
 abbrev pub judged : (number greatest : ℕ) → Option ℕ → Verdict
 judged number greatest lock =
-    if number == greatest then Repeated
+    if number == greatest then Duplicated
     else (if nat_lt number greatest then Passed
     else unless_waiting lock Runs)
 
@@ -196,7 +196,7 @@ verdict site node message =
 -- how a delivery is answered
 abbrev pub answer_by : {Local : Type 0} → Behaviour Local → Message → Verdict → Delivered
 answer_by behaviour message (Refused reason) = delivered.Refused reason
-answer_by behaviour message Repeated = delivered.Again (reply_slot message.from message.slot)
+answer_by behaviour message Duplicated = delivered.Duplicate (reply_slot message.from message.slot)
 answer_by behaviour message Passed = delivered.Stale
 answer_by behaviour message Runs = behaviour.runs_as (content_of message) (reply_slot message.from message.slot)
 answer_by behaviour message Missed = delivered.Late
@@ -261,17 +261,17 @@ can_ask site node to =
     && (nat_lt (length (node.asked to)) limits.last && nat_lt (unreturned (node.asked to)) limits.credits)
 
 -- no number is left for that node
-abbrev pub is_worn_out : {Local : Type 0} → Parameters → Node Local → (to : ℕ) → Bool
-is_worn_out settings node to = nat_le settings.last (length (node.asked to))
+abbrev pub is_exhausted : {Local : Type 0} → Parameters → Node Local → (to : ℕ) → Bool
+is_exhausted settings node to = nat_le settings.last (length (node.asked to))
 
 -- what a tick does: the first of these that is possible
 pub data TickChoice : Type 0 where
-  Resends : Due → TickChoice  -- a request that is due is sent again
+  Retransmits : Due → TickChoice  -- a request that is due is sent again
   Sends : Sending → TickChoice  -- a request of the node's own accord is accepted and sent
   Rests : TickChoice
 
 abbrev pub choice_of : Option Due → Option Sending → TickChoice
-choice_of (Some due) sending = Resends due
+choice_of (Some due) sending = Retransmits due
 choice_of None (Some sending) = Sends sending
 choice_of None None = Rests
 
@@ -288,7 +288,7 @@ with_asked me node to =
 
 -- how a tick is answered
 abbrev pub tick_answer : {Local : Type 0} → Behaviour Local → Node Local → TickChoice → Ticked
-tick_answer behaviour node (Resends due) = ticked.Resend (request_slot due.peer due.slot)
+tick_answer behaviour node (Retransmits due) = ticked.Retransmission (request_slot due.peer due.slot)
 tick_answer behaviour node (Sends sending) =
     behaviour.sends_as sending.content (request_slot sending.to (next_claim (node.asked sending.to)).slot)
 tick_answer behaviour node Rests = ticked.Nothing
@@ -302,6 +302,6 @@ after_sending site node now sending =
 
 -- the node after a tick at this time, by what it does
 abbrev pub after_tick : {Local : Type 0} → Site Local → Node Local → (now : ℕ) → TickChoice → Node Local
-after_tick site node now (Resends due) = after_resend node now (Some due)
+after_tick site node now (Retransmits due) = after_resend node now (Some due)
 after_tick site node now (Sends sending) = after_sending site node now sending
 after_tick site node now Rests = node

@@ -8,7 +8,7 @@ use Rattle.lists.specs.Put.{put}
 use Rattle.lists.proofs.Put.{put_own}
 use Rattle.node_record.specs.Record.{Request, Node}
 use Rattle.node_record.specs.Requests.{sent_at}
-use Rattle.node_record.specs.Step.{Site, TickChoice, Resends, Sends, Rests, tick_choice, after_tick}
+use Rattle.node_record.specs.Step.{Site, TickChoice, Retransmits, Sends, Rests, tick_choice, after_tick}
 use Rattle.node_record.specs.NodeStep.{NodeEvent, Ticks, site_of, node_after}
 use Rattle.plain_world.specs.Sent.{Packet, asking, ticked_sends, sends}
 use Rattle.endpoint_rules.specs.EndpointRules.{OtherCall}
@@ -29,11 +29,11 @@ cons_nil h = cc
 
 tick_calm : {Kept : Type 0} (site : Site Kept) (me now : ℕ) (node : Node Kept) (choice : TickChoice)
     → ticked_sends me node choice ≡ [] → after_tick site node now choice ≡ node
-tick_calm {Kept} site me now node (Resends due) e =
+tick_calm {Kept} site me now node (Retransmits due) e =
     by_asked (numbered (node.asked due.peer) due.number) refl e
   where
     by_asked : (o : Option Request) → numbered (node.asked due.peer) due.number ≡ o
-        → asking me due.peer due.number o ≡ [] → after_tick site node now (Resends due) ≡ node
+        → asking me due.peer due.number o ≡ [] → after_tick site node now (Retransmits due) ≡ node
     by_asked None at h = ap (λ (f : ℕ → List Request). record node { asked = f })
         (ap (put node.asked due.peer) (change_past (sent_at now) (node.asked due.peer) due.number at)
         ∙ put_own node.asked due.peer)

@@ -19,7 +19,7 @@ use Rattle.node_record.specs.Executed.{slots_run}
 use Rattle.node_record.specs.Held.{held_with, held}
 use Rattle.node_record.specs.Behaviour.{Ask}
 use Rattle.node_record.specs.Step.{new_request, said}
-use Rattle.node_record.specs.Step.{Site, request_answer, after_request, TickChoice, Resends, Sends, Rests, tick_choice}
+use Rattle.node_record.specs.Step.{Site, request_answer, after_request, TickChoice, Retransmits, Sends, Rests, tick_choice}
 use Rattle.node_record.specs.Step.{after_tick}
 use Rattle.node_record.specs.NodeStep.{Job, site_of, NodeEvent, Asks as NodeAsks, Does as NodeDoes, Comes}
 use Rattle.node_record.specs.NodeStep.{Ticks as NodeTicks}
@@ -76,13 +76,13 @@ request_grows site r now ask asked.Ran peer = omega arith
 request_grows site r now ask (asked.BadArg part) peer = omega arith
 request_grows site r now ask (asked.Forbidden forbidden) peer = omega arith
 request_grows site r now ask (asked.LockBusy lock) peer = omega arith
-request_grows site r now ask asked.WornOut peer = omega arith
+request_grows site r now ask asked.Exhausted peer = omega arith
 request_grows site r now ask asked.NotYet peer = omega arith
 
 tick_grows : {Kept : Type 0} (site : Site Kept) (r : Node Kept) (now : ℕ) (choice : TickChoice) (peer : ℕ)
     → held_with site.settings site.me r peer ≤ held_with site.settings site.me (after_tick site r now choice) peer
-tick_grows site r now (Resends due) peer =
-    asked_more site.settings site.me due.peer _ r (after_tick site r now (Resends due)) refl refl
+tick_grows site r now (Retransmits due) peer =
+    asked_more site.settings site.me due.peer _ r (after_tick site r now (Retransmits due)) refl refl
     (let e = unreturned-sent now (r.asked due.peer) due.number in omega (arith, e)) peer
 tick_grows site r now (Sends sending) peer =
     asked_more site.settings site.me sending.to _ r (after_tick site r now (Sends sending)) refl refl

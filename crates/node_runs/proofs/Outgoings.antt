@@ -30,16 +30,16 @@ use Rattle.node_record.specs.Requests.{Due, next_claim, dues, all_dues, open_in,
 use Rattle.node_record.specs.Executed.{greatest, run_at, last_run}
 use Rattle.node_record.specs.Behaviour.{Ask, is_request}
 use Rattle.node_record.specs.Step.{Site, new_request, said, request_answer, after_request, address_fault}
-use Rattle.node_record.specs.Step.{first_why, refusal, slots_for, Verdict, Refused, Repeated, Passed, Runs, Missed}
+use Rattle.node_record.specs.Step.{first_why, refusal, slots_for, Verdict, Refused, Duplicated, Passed, Runs, Missed}
 use Rattle.node_record.specs.Step.{Returns}
 use Rattle.node_record.specs.Step.{Waits, unless_refused, unless_waiting, verdict}
-use Rattle.node_record.specs.Step.{after_delivery, TickChoice, Resends, Sends, Rests, tick_choice, next_due, can_ask}
+use Rattle.node_record.specs.Step.{after_delivery, TickChoice, Retransmits, Sends, Rests, tick_choice, next_due, can_ask}
 use Rattle.node_record.specs.Step.{after_tick}
 use Rattle.node_record.specs.Invariant.{NodeInvariant, request_message, reply_message}
 use Rattle.node_record.specs.SlotMessages.{message_at}
 use Rattle.node_record.specs.Spelled.{run_made}
 use Rattle.node_record.specs.NodeStep.{Job, site_of, IsAllSound, NodeEvent, Asks, Does, Comes, Ticks, node_after}
-use Rattle.node_record.proofs.Answers.{accepted_says, runs_says, sends_choice, resends_choice, can_says}
+use Rattle.node_record.proofs.Answers.{accepted_says, runs_says, sends_choice, retransmits_choice, can_says}
 use Rattle.node_record.proofs.Keeping.{open_says}
 use Rattle.node_record.proofs.Runs.{run_at_says, last_new}
 use Rattle.plain_world.specs.Sent.{Place, Packet, Asking, Replying, asking, replying, asked_sends, delivered_sends}
@@ -168,14 +168,14 @@ request_stays site now node ask (asked.Forbidden forbidden) packet S =
     (stay_same node.asked) refl S
 request_stays site now node ask (asked.BadArg part) packet S = S
 request_stays site now node ask (asked.LockBusy lock) packet S = S
-request_stays site now node ask asked.WornOut packet S = S
+request_stays site now node ask asked.Exhausted packet S = S
 request_stays site now node ask asked.NotYet packet S = S
 
 tick_stays : {Local : Type 0} (site : Site Local) (now : ℕ) (node : Node Local) (choice : TickChoice)
     (packet : Packet) → IsInSlot site.settings site.me packet node
     → IsInSlot site.settings site.me packet (after_tick site node now choice)
-tick_stays site now node (Resends due) packet S =
-    stays_by site.settings site.me packet node (after_tick site node now (Resends due))
+tick_stays site now node (Retransmits due) packet S =
+    stays_by site.settings site.me packet node (after_tick site node now (Retransmits due))
     (stay_sent node.asked now due.peer due.number) refl S
 tick_stays site now node (Sends sending) packet S =
     stays_by site.settings site.me packet node (after_tick site node now (Sends sending))
@@ -235,7 +235,7 @@ asked_in site now node ask asked.Ran e packet h = absurd (contains_none packet h
 asked_in site now node ask (asked.Forbidden forbidden) e packet h = absurd (contains_none packet h)
 asked_in site now node ask (asked.BadArg part) e packet h = absurd (contains_none packet h)
 asked_in site now node ask (asked.LockBusy lock) e packet h = absurd (contains_none packet h)
-asked_in site now node ask asked.WornOut e packet h = absurd (contains_none packet h)
+asked_in site now node ask asked.Exhausted e packet h = absurd (contains_none packet h)
 asked_in site now node ask asked.NotYet e packet h = absurd (contains_none packet h)
 
 -- ---- a message that comes
@@ -279,7 +279,7 @@ record IsAgain {Local : Type 0} (site : Site Local) (node : Node Local) (message
   top : message.number ≡ greatest message.slot (node.ran message.from)
 
 again_says : {Local : Type 0} (site : Site Local) (node : Node Local) (message : Message)
-    → verdict site node message ≡ Repeated → IsAgain site node message
+    → verdict site node message ≡ Duplicated → IsAgain site node message
 again_says site node message e =
     by_parts (refusal site message) (is_request message.kind)
     (eqb message.number (greatest message.slot (node.ran message.from)))
@@ -289,8 +289,8 @@ again_says site node message e =
   where
     by_parts : (o : Option Why) (asks same less opens : Bool) (lock : Option ℕ) → refusal site message ≡ o
         → is_request message.kind ≡ asks → eqb message.number (greatest message.slot (node.ran message.from)) ≡ same
-        → unless_refused o (if asks then (if same then Repeated else (if less then Passed
-        else unless_waiting lock Runs)) else (if opens then unless_waiting lock Returns else Missed)) ≡ Repeated
+        → unless_refused o (if asks then (if same then Duplicated else (if less then Passed
+        else unless_waiting lock Runs)) else (if opens then unless_waiting lock Returns else Missed)) ≡ Duplicated
         → IsAgain site node message
     by_parts None true true less opens lock f g k h =
         record { unrefused = f; request = g; top = eqb-true message.number _ k }
@@ -332,7 +332,7 @@ delivered_in {Local} site node message Runs is e packet h =
       slot_is = refl;
       says = refl;
     })
-delivered_in {Local} site node message Repeated is e packet h =
+delivered_in {Local} site node message Duplicated is e packet h =
     by_run (run_at message.slot message.number (node.ran message.from)) refl h
   where
     says : IsAgain site node message
@@ -400,7 +400,7 @@ ticked_in : {Local Call Told : Type 0} (job : Job Local Call Told) (IsKept : (me
     → NodeInvariant job.settings IsKept me node → tick_choice (site_of job me) node now ≡ choice → (packet : Packet)
     → Contains (ticked_sends me node choice) packet
     → IsInSlot job.settings me packet (after_tick (site_of job me) node now choice)
-ticked_in {Local} job IsKept me now node (Resends due) sound I e packet h =
+ticked_in {Local} job IsKept me now node (Retransmits due) sound I e packet h =
     one_stands job.settings me after packet (Asking at open_at.0.content)
     (subst (λ (o : Option Request). Contains (asking me due.peer due.number o) packet) open_at.1 h)
     (record {
@@ -417,10 +417,10 @@ ticked_in {Local} job IsKept me now node (Resends due) sound I e packet h =
     })
   where
     after : Node Local
-    after = after_tick (site_of job me) node now (Resends due)
+    after = after_tick (site_of job me) node now (Retransmits due)
 
     first : next_due job.settings node now ≡ Some due
-    first = resends_choice (next_due job.settings node now) _ due e
+    first = retransmits_choice (next_due job.settings node now) _ due e
 
     open_at : IsOpenAt node.asked due
     open_at = earliest_has (IsOpenAt node.asked) _ due

@@ -26,11 +26,11 @@ use Rattle.node_record.specs.Requests.{unreturned, next_claim, free_slot}
 use Rattle.node_record.specs.Behaviour.{Behaviour, Ask, Sending, Contact}
 use Rattle.node_record.specs.Step.{said, request_answer, after_request, address_fault, first_why, Verdict}
 use Rattle.node_record.specs.Step.{Runs, Returns, verdict, with_sender, with_itself}
-use Rattle.node_record.specs.Step.{after_delivery, TickChoice, Resends, Sends, Rests, tick_choice, next_due, can_ask}
+use Rattle.node_record.specs.Step.{after_delivery, TickChoice, Retransmits, Sends, Rests, tick_choice, next_due, can_ask}
 use Rattle.node_record.specs.Step.{after_tick, slots_for, with_asked}
 use Rattle.node_record.specs.Invariant.{NodeInvariant, address_in}
 use Rattle.node_record.specs.NodeStep.{site_of, Asks, Does, Comes, Ticks, node_after}
-use Rattle.node_record.specs.Step.{is_worn_out}
+use Rattle.node_record.specs.Step.{is_exhausted}
 use Rattle.node_record.specs.Spelled.{IsAskSpelled, IsReplySpelled, IsTickSpelled, IsSpelled}
 use Rattle.node_record.proofs.Answers.{accepted_says, here_says, runs_says, returns_says, sends_choice, can_says}
 use Rattle.node_record.proofs.Slots.{free_le}
@@ -197,7 +197,7 @@ tick_spelled settings table meaning me now node (Sends sending) job here fits ke
     (claim_place settings table meaning me sending.to (node.asked sending.to) job here can.to_in can.other can.left
     can.free)
     (sending_spoken settings table meaning me (can_ask site node) node.local sending job fits kept is)
-tick_spelled settings table meaning me now node (Resends due) job here fits kept e = tt
+tick_spelled settings table meaning me now node (Retransmits due) job here fits kept e = tt
 tick_spelled settings table meaning me now node Rests job here fits kept e = tt
 
 -- ---- what an event leaves
@@ -383,7 +383,7 @@ are_spoken settings table meaning job = record { spelled = spelled; fits = fits 
         ask_fits settings table meaning me now node ask _ job here keeps may.0 may.1 refl
     fits me node now (Does thread call) here holds keeps may =
         call_fits settings table meaning
-        (record { settings = settings; me = me; thread = thread; worn = is_worn_out settings node })
+        (record { settings = settings; me = me; thread = thread; exhausted = is_exhausted settings node })
         call node.local refl may keeps
     fits me node now (Comes message) here holds keeps may =
         delivery_fits settings table meaning me node message _ job keeps may.0 may.1 refl

@@ -100,14 +100,14 @@ asked_words asked.Ran = codes "ran" ∷ []
 asked_words (asked.BadArg part) = bad_words part
 asked_words (asked.Forbidden rule) = forbidden_words rule
 asked_words (asked.LockBusy lock) = codes "lock-busy" ∷ decimal lock ∷ []
-asked_words asked.WornOut = codes "worn-out" ∷ []
+asked_words asked.Exhausted = codes "worn-out" ∷ []
 asked_words asked.NotYet = codes "not-yet" ∷ []
 
 -- the words of the answer to bytes that were delivered
 abbrev pub delivered_words : Delivered → Line
 delivered_words (delivered.Ran at) = codes "ran" ∷ []
 delivered_words (delivered.Noted at note) = codes "ran" ∷ []
-delivered_words (delivered.Again at) = codes "again" ∷ []
+delivered_words (delivered.Duplicate at) = codes "again" ∷ []
 delivered_words delivered.Stale = codes "stale" ∷ []
 delivered_words (delivered.Returned to slot number) = codes "returned" ∷ []
 delivered_words delivered.Late = codes "late" ∷ []
@@ -146,7 +146,7 @@ synced_words synced.Ok = codes "ok" ∷ []
 synced_words synced.NotReady = codes "not-ready" ∷ []
 synced_words synced.NotYours = codes "not-yours" ∷ []
 synced_words synced.BadHandle = codes "bad-handle" ∷ []
-synced_words (synced.WornOut node) = codes "worn-out" ∷ decimal node ∷ []
+synced_words (synced.Exhausted node) = codes "worn-out" ∷ decimal node ∷ []
 
 -- the words of the answer to a call on access regions
 abbrev pub region_words : Region → Line
@@ -162,7 +162,7 @@ abbrev pub notified_words : Notified → Line
 notified_words notified.Ok = codes "ok" ∷ []
 notified_words notified.BadFlags = codes "bad-flags" ∷ []
 notified_words notified.Twice = codes "twice" ∷ []
-notified_words notified.WornOut = codes "worn-out" ∷ []
+notified_words notified.Exhausted = codes "worn-out" ∷ []
 
 -- the words of the answer to a try of the barrier
 abbrev pub barrier_words : BarrierAnswer → Line
@@ -171,9 +171,9 @@ barrier_words barrier.Mismatch = codes "mismatch" ∷ []
 barrier_words barrier.NotReady = codes "not-ready" ∷ []
 barrier_words barrier.NoNotify = codes "no-notify" ∷ []
 barrier_words barrier.BadFlags = codes "bad-flags" ∷ []
-barrier_words (barrier.WornOut node) = codes "worn-out" ∷ decimal node ∷ []
+barrier_words (barrier.Exhausted node) = codes "worn-out" ∷ decimal node ∷ []
 
--- ---- the own cells and segment
+-- ---- the local cells and segment
 
 -- the word of bytes that are shown: two digits for each
 abbrev pub shown_word : List ℕ → Word
@@ -201,7 +201,7 @@ sent_words word at number = word ∷ decimal at.peer ∷ decimal at.slot ∷ dec
 
 -- the words of the answer to a tick, by the number at each slot
 abbrev pub ticked_words : (SlotRef → ℕ) → Ticked → Line
-ticked_words numbers (ticked.Resend at) = sent_words (codes "resend") at (numbers at)
+ticked_words numbers (ticked.Retransmission at) = sent_words (codes "resend") at (numbers at)
 ticked_words numbers (ticked.Note at) = sent_words (codes "note") at (numbers at)
 ticked_words numbers (ticked.Chunk at) = sent_words (codes "chunk") at (numbers at)
 ticked_words numbers ticked.Nothing = codes "nothing" ∷ []

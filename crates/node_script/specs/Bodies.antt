@@ -45,7 +45,7 @@ raised outcome cell number =
 
 -- ---- bytes
 
--- the own segment as an action finds it that begins after this outcome
+-- the local segment as an action finds it that begins after this outcome
 abbrev pub segment_at : Start → Outcome → List ℕ
 segment_at start outcome = written_by start.segment outcome.writes
 

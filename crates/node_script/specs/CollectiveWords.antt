@@ -29,7 +29,7 @@ abbrev pub started_words : StartAnswer → Line
 started_words started.Started = codes "ok" ∷ []
 started_words started.Busy = codes "busy" ∷ []
 started_words (started.BadArg argument) = bad_argument_words argument
-started_words started.WornOut = codes "worn-out" ∷ []
+started_words started.Exhausted = codes "worn-out" ∷ []
 started_words (started.Forbidden rule) = forbidden_words rule
 started_words (started.LockBusy lock) = codes "lock-busy" ∷ decimal lock ∷ []
 started_words started.NoMemory = codes "no-memory" ∷ []
@@ -48,7 +48,7 @@ ended_words (ended.Mismatch node) = codes "mismatch-with" ∷ decimal node ∷ [
 ended_words ended.NotReady = codes "not-ready" ∷ []
 ended_words ended.NotStarted = codes "not-started" ∷ []
 ended_words (ended.BadArg argument) = bad_argument_words argument
-ended_words (ended.WornOut node) = codes "worn-out" ∷ decimal node ∷ []
+ended_words (ended.Exhausted node) = codes "worn-out" ∷ decimal node ∷ []
 ended_words (ended.Forbidden rule) = forbidden_words rule
 ended_words ended.NoMemory = codes "no-memory" ∷ []
 

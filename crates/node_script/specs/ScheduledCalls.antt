@@ -86,7 +86,7 @@ IsOwn (call.LongAsync text) = ⊥
 IsOwn (call.Atomic batch) = ⊥
 IsOwn _ = Unit {0}
 
--- the call is one on the own segment
+-- the call is one on the local segment
 abbrev pub IsOnSegment : ScheduledCall → Type 0
 IsOnSegment (call.Show offset len) = Unit {0}
 IsOnSegment (call.Set offset bytes) = Unit {0}

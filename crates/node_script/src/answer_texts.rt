@@ -89,7 +89,7 @@ pub(crate) fn write_asked<K: Sink>(answer: Asked, sink: &mut BufferedSink<K>) ->
         Asked::BadArg(part) => write_reason(b"bad-arg", bad_word(part), sink),
         Asked::Forbidden(rule) => write_reason(b"forbidden", rule_word(rule), sink),
         Asked::LockBusy(lock) => write_numbered(b"lock-busy", u64::from(lock), sink),
-        Asked::WornOut => write_word(b"worn-out", sink),
+        Asked::Exhausted => write_word(b"worn-out", sink),
         Asked::NotYet => write_word(b"not-yet", sink),
     }
 }
@@ -102,7 +102,7 @@ pub(crate) fn write_delivered<K: Sink>(answer: Delivered, sink: &mut BufferedSin
 {
     match answer {
         Delivered::Ran(_) | Delivered::Noted(..) => write_word(b"ran", sink),
-        Delivered::Again(_) => write_word(b"again", sink),
+        Delivered::Duplicate(_) => write_word(b"again", sink),
         Delivered::Stale => write_word(b"stale", sink),
         Delivered::Returned { .. } => write_word(b"returned", sink),
         Delivered::Late => write_word(b"late", sink),

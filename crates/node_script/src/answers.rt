@@ -51,7 +51,7 @@ fn write_ticked<K: Sink>(answer: Ticked, endpoint: &Endpoint, sink: &mut Buffere
         (ending (ticked_words (sight_at endpoint.now node).numbers answer)) result) }
 {
     match answer {
-        Ticked::Resend(at) => write_sent(b"resend", at, endpoint, sink),
+        Ticked::Retransmission(at) => write_sent(b"resend", at, endpoint, sink),
         Ticked::Note(at) => write_sent(b"note", at, endpoint, sink),
         Ticked::Chunk(at) => write_sent(b"chunk", at, endpoint, sink),
         Ticked::Nothing => write_word(b"nothing", sink),

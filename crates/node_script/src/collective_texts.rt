@@ -48,7 +48,7 @@ fn write_started<K: Sink>(answer: StartAnswer, sink: &mut BufferedSink<K>) -> Wr
         StartAnswer::Started => write_word(b"ok", sink),
         StartAnswer::Busy => write_word(b"busy", sink),
         StartAnswer::BadArg(argument) => write_reason(b"bad-arg", argument_word(argument), sink),
-        StartAnswer::WornOut => write_word(b"worn-out", sink),
+        StartAnswer::Exhausted => write_word(b"worn-out", sink),
         StartAnswer::Forbidden(rule) => write_reason(b"forbidden", rule_word(rule), sink),
         StartAnswer::LockBusy(lock) => write_numbered(b"lock-busy", u64::from(lock), sink),
         StartAnswer::NoMemory => write_word(b"no-memory", sink),
@@ -81,7 +81,7 @@ fn write_ended<K: Sink>(answer: EndAnswer, sink: &mut BufferedSink<K>) -> Wrote
         EndAnswer::NotReady => write_word(b"not-ready", sink),
         EndAnswer::NotStarted => write_word(b"not-started", sink),
         EndAnswer::BadArg(argument) => write_reason(b"bad-arg", argument_word(argument), sink),
-        EndAnswer::WornOut(node) => write_numbered(b"worn-out", u64::from(node), sink),
+        EndAnswer::Exhausted(node) => write_numbered(b"worn-out", u64::from(node), sink),
         EndAnswer::Forbidden(rule) => write_reason(b"forbidden", rule_word(rule), sink),
         EndAnswer::NoMemory => write_word(b"no-memory", sink),
     }

@@ -148,7 +148,7 @@ fn own_call_of<'a>(call: &'a ScheduledCall, cells: &Cells) -> Call<'a>
     }
 }
 
-/// A call on the own segment.
+/// A call on the local segment.
 fn segment_call_of(call: &ScheduledCall) -> Call<'_>
     requires { IsOnSegment call.now }
     ensures meant { (cells : List ℤ) → meant result ≡ meant_by cells call.now }

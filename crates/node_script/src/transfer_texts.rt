@@ -52,7 +52,7 @@ pub(crate) fn write_synced<K: Sink>(answer: Synced, sink: &mut BufferedSink<K>) 
         Synced::NotReady => write_word(b"not-ready", sink),
         Synced::NotYours => write_word(b"not-yours", sink),
         Synced::BadHandle => write_word(b"bad-handle", sink),
-        Synced::WornOut(node) => write_numbered(b"worn-out", u64::from(node), sink),
+        Synced::Exhausted(node) => write_numbered(b"worn-out", u64::from(node), sink),
     }
 }
 
@@ -82,7 +82,7 @@ pub(crate) fn write_notified<K: Sink>(answer: Notified, sink: &mut BufferedSink<
         Notified::Ok => write_word(b"ok", sink),
         Notified::BadFlags => write_word(b"bad-flags", sink),
         Notified::Twice => write_word(b"twice", sink),
-        Notified::WornOut => write_word(b"worn-out", sink),
+        Notified::Exhausted => write_word(b"worn-out", sink),
     }
 }
 
@@ -98,6 +98,6 @@ pub(crate) fn write_barrier<K: Sink>(answer: BarrierAnswer, sink: &mut BufferedS
         BarrierAnswer::NotReady => write_word(b"not-ready", sink),
         BarrierAnswer::NoNotify => write_word(b"no-notify", sink),
         BarrierAnswer::BadFlags => write_word(b"bad-flags", sink),
-        BarrierAnswer::WornOut(node) => write_numbered(b"worn-out", u64::from(node), sink),
+        BarrierAnswer::Exhausted(node) => write_numbered(b"worn-out", u64::from(node), sink),
     }
 }

@@ -16,8 +16,8 @@ use Rattle.node_record.specs.Executed.{greatest, run_of, run_at}
 use Rattle.node_record.specs.Credits.{Limits, limits_of}
 use Rattle.node_record.specs.Behaviour.{Ask}
 use Rattle.node_record.specs.Step.{unless_waiting, taken_back, with_request, said, request_answer}
-use Rattle.node_record.specs.Step.{after_request, Verdict, Repeated, Runs, Missed, Returns, Waits, verdict, with_sender}
-use Rattle.node_record.specs.Step.{after_delivery, TickChoice, Resends, Sends, Rests, after_tick}
+use Rattle.node_record.specs.Step.{after_request, Verdict, Duplicated, Runs, Missed, Returns, Waits, verdict, with_sender}
+use Rattle.node_record.specs.Step.{after_delivery, TickChoice, Retransmits, Sends, Rests, after_tick}
 use Rattle.node_record.specs.NodeStep.{Job, site_of}
 use Rattle.node_record.specs.Invariant.{request_message, reply_message}
 use Rattle.node_record.proofs.Runs.{run_of_from, run_of_there}
@@ -113,7 +113,7 @@ adds_request_comes job IsKept world from to number request Runs holds e is =
     ((world to).ran from) number request _
     (holds.pair from to) e
     says.above refl)
-adds_request_comes job IsKept world from to number request Repeated holds e is =
+adds_request_comes job IsKept world from to number request Duplicated holds e is =
     adds_again to (world to) _ _ (adds_same to (world to) _ refl refl)
     (replying_had job IsKept world to from request.slot number _ holds refl)
 adds_request_comes job IsKept world from to number request Returns holds e is =
@@ -122,31 +122,31 @@ adds_request_comes job IsKept world from to number request _ holds e is = adds_s
 
 -- a reply is neither run nor repeated
 reply_answers : (open_ : Option Request) (slot : ℕ) (lock : Option ℕ) (v : Verdict)
-    → taken_back slot open_ lock ≡ v → (v ≢ Runs) × (v ≢ Repeated)
+    → taken_back slot open_ lock ≡ v → (v ≢ Runs) × (v ≢ Duplicated)
 reply_answers o slot lock v e = go (is_open slot o) lock v e
   where
     go : (open_ : Bool) (wait : Option ℕ) (v : Verdict) → (if open_ then unless_waiting wait Returns else Missed) ≡ v
-        → (v ≢ Runs) × (v ≢ Repeated)
+        → (v ≢ Runs) × (v ≢ Duplicated)
     go true None v e = ((λ f. back_runs (e ∙ f)), λ f. back_repeats (e ∙ f))
       where
         back_runs : Returns ≡ Runs → ⊥
         back_runs h = cc
 
-        back_repeats : Returns ≡ Repeated → ⊥
+        back_repeats : Returns ≡ Duplicated → ⊥
         back_repeats h = cc
     go true (Some k) v e = ((λ f. waits_runs (e ∙ f)), λ f. waits_repeats (e ∙ f))
       where
         waits_runs : Waits k ≡ Runs → ⊥
         waits_runs h = cc
 
-        waits_repeats : Waits k ≡ Repeated → ⊥
+        waits_repeats : Waits k ≡ Duplicated → ⊥
         waits_repeats h = cc
     go false wait v e = ((λ f. missed_runs (e ∙ f)), λ f. missed_repeats (e ∙ f))
       where
         missed_runs : Missed ≡ Runs → ⊥
         missed_runs h = cc
 
-        missed_repeats : Missed ≡ Repeated → ⊥
+        missed_repeats : Missed ≡ Duplicated → ⊥
         missed_repeats h = cc
 
 -- the reply of a run comes
@@ -164,10 +164,10 @@ adds_reply_comes job IsKept world from to number run v holds e is =
     (sym judged_is ∙ is) in
     go v not_run.0 not_run.1
   where
-    go : (v : Verdict) → v ≢ Runs → v ≢ Repeated
+    go : (v : Verdict) → v ≢ Runs → v ≢ Duplicated
         → DeliveryAdds job from (world from) (reply_message job.settings from to run) v
     go Runs n o = absurd (n refl)
-    go Repeated n o = absurd (o refl)
+    go Duplicated n o = absurd (o refl)
     go Returns n o = adds_changed from to run.number as_back (world from) _ refl refl (λ y. (refl, refl))
     go _ n o = adds_same from (world from) _ refl refl
 
@@ -175,7 +175,7 @@ adds_reply_comes job IsKept world from to number run v holds e is =
 pub adds_tick : {Local Call Told : Type 0} (job : Job Local Call Told) (i now : ℕ) (r : Node Local)
     (choice : TickChoice)
     → Adds i r (after_tick (site_of job i) r now choice) (ticked_sends i r choice)
-adds_tick job i now r (Resends d) =
+adds_tick job i now r (Retransmits d) =
     adds_again i r _ _ (adds_changed i d.peer d.number (sent_at now) r _ refl refl (λ y. (refl, refl)))
     (asking_had i d.peer d.number r _ refl)
 adds_tick job i now r (Sends sending) =

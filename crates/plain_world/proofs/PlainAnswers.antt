@@ -29,7 +29,7 @@ pub first_ran : {Local Call Told : Type 0} (job : Job Local Call Told) (p q : Pl
     → job.behaviour.messages.waits request.content (p.local name.to) ≡ None
     → PlainStep job p (RequestComes name.from name.to name.number) a q
     → Is a (job.behaviour.messages.runs_as request.content (reply_slot name.from request.label))
-first_ran job p q name request (OfNode (OfDelivery (delivered.Again at))) F free h = absurd (F.new h.1.ran)
+first_ran job p q name request (OfNode (OfDelivery (delivered.Duplicate at))) F free h = absurd (F.new h.1.ran)
 first_ran job p q name request (OfNode (OfDelivery delivered.Stale)) F free h = absurd (F.new h.1.ran)
 first_ran job p q name request (OfNode (OfDelivery (delivered.Deferred lock))) F free h =
     let same = one_request p name.from name.to name.number h.0 request h.1.is F.is in
@@ -48,7 +48,7 @@ pub first_waits : {Local Call Told : Type 0} (job : Job Local Call Told) (p q : 
     (lock : ℕ) (a : WorldAnswer Told) → IsFresh p name request
     → job.behaviour.messages.waits request.content (p.local name.to) ≡ Some lock
     → PlainStep job p (RequestComes name.from name.to name.number) a q → Is a (delivered.Deferred lock)
-first_waits job p q name request lock (OfNode (OfDelivery (delivered.Again at))) F waits h = absurd (F.new h.1.ran)
+first_waits job p q name request lock (OfNode (OfDelivery (delivered.Duplicate at))) F waits h = absurd (F.new h.1.ran)
 first_waits job p q name request lock (OfNode (OfDelivery delivered.Stale)) F waits h = absurd (F.new h.1.ran)
 first_waits job p q name request lock (OfNode (OfDelivery (delivered.Deferred other))) F waits h =
     let same = one_request p name.from name.to name.number h.0 request h.1.is F.is in
@@ -68,10 +68,10 @@ pub then_again : {Local Call Told : Type 0} (job : Job Local Call Told) (p q : P
     (a : WorldAnswer Told) → IsRequest p name.from name.to name.number request → InRuns p name.from name.to name.number
     → (IsPassed p name.from name.to name.number request → ⊥)
     → PlainStep job p (RequestComes name.from name.to name.number) a q
-    → Is a (delivered.Again (reply_slot name.from request.label))
-then_again job p q name request (OfNode (OfDelivery (delivered.Again at))) e ran last h =
+    → Is a (delivered.Duplicate (reply_slot name.from request.label))
+then_again job p q name request (OfNode (OfDelivery (delivered.Duplicate at))) e ran last h =
     let same = one_request p name.from name.to name.number h.0 request h.1.is e in
-    ap (λ b. OfNode (OfDelivery (delivered.Again b))) (h.3 ∙ ap (λ (z : Labelled). reply_slot name.from z.label) same)
+    ap (λ b. OfNode (OfDelivery (delivered.Duplicate b))) (h.3 ∙ ap (λ (z : Labelled). reply_slot name.from z.label) same)
 then_again job p q name request (OfNode (OfDelivery delivered.Stale)) e ran last h =
     absurd (last (subst (IsPassed p name.from name.to name.number)
     (one_request p name.from name.to name.number h.0 request h.1.is e) h.2))

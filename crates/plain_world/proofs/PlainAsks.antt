@@ -101,8 +101,8 @@ claim_step job IsKept world now i ask holds pass =
           plain_same world i,
         )
       ]
-      | inr worn ↦ at asked.WornOut (grind (arith, nat_tests))
-          (pass, length-map requests labelled ∙ omega (arith, worn, orderly.short), plain_same world i)
+      | inr exhausted ↦ at asked.Exhausted (grind (arith, nat_tests))
+          (pass, length-map requests labelled ∙ omega (arith, exhausted, orderly.short), plain_same world i)
     ]
   where
     at : (a : Asked) → claim_answer (limits_of job.settings i ask.to) ask.to ((world i).asked ask.to) ≡ a

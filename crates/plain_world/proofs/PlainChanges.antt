@@ -37,7 +37,7 @@ ask_changes : {Local Call Told : Type 0} (job : Job Local Call Told) (p q : Plai
     (e : Event Call) (b : WorldAnswer Told) (a : Asked) → AskStep (site_of job i) p ask a q → Changes p q e b
 ask_changes job p q i ask e b (asked.Accepted to label k) h = Accepts i ask.to _ p.local h.3
 ask_changes job p q i ask e b asked.NotYet h = Nothing h.3
-ask_changes job p q i ask e b asked.WornOut h = Nothing h.2
+ask_changes job p q i ask e b asked.Exhausted h = Nothing h.2
 ask_changes job p q i ask e b (asked.BadArg part) h = Nothing h.2
 ask_changes job p q i ask e b (asked.LockBusy lock) h = Nothing h.3
 ask_changes job p q i ask e b asked.Ran h = Keeps i _ h.3
@@ -48,7 +48,7 @@ run_changes : {Local Call Told : Type 0} (behaviour : Behaviour Local) (p q : Pl
     (a : Delivered)
     → RunStep behaviour p name a q
     → Changes {Call = Call} {Told = Told} p q (RequestComes name.from name.to name.number) (OfNode (OfDelivery a))
-run_changes behaviour p q name (delivered.Again at) h = Nothing h.4
+run_changes behaviour p q name (delivered.Duplicate at) h = Nothing h.4
 run_changes behaviour p q name delivered.Stale h = Nothing h.3
 run_changes behaviour p q name (delivered.Deferred lock) h = Nothing h.3
 run_changes behaviour p q name a h =
@@ -68,7 +68,7 @@ take_changes behaviour p q name a h = absurd h
 -- a tick
 tick_changes : {Local Call Told : Type 0} (job : Job Local Call Told) (p q : Plain Local) (i : ℕ) (e : Event Call)
     (b : WorldAnswer Told) (a : Ticked) → TickStep (site_of job i) p a q → Changes p q e b
-tick_changes job p q i e b (ticked.Resend at) h = Nothing h.6
+tick_changes job p q i e b (ticked.Retransmission at) h = Nothing h.6
 tick_changes job p q i e b ticked.Nothing h = Nothing h.1
 tick_changes job p q i e b a h = Accepts i h.to h.request _ h.leaves
 

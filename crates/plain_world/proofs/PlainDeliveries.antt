@@ -19,7 +19,7 @@ use Rattle.node_record.specs.Record.{Request, Run}
 use Rattle.node_record.specs.Executed.{greatest, run_of}
 use Rattle.node_record.specs.Credits.{Limits, limits_of}
 use Rattle.node_record.specs.Behaviour.{IsRun, is_request, asks_well, replies_well}
-use Rattle.node_record.specs.Step.{refusal, Verdict, Repeated, Passed, Runs, Missed, Returns, Waits, judged, taken_back}
+use Rattle.node_record.specs.Step.{refusal, Verdict, Duplicated, Passed, Runs, Missed, Returns, Waits, judged, taken_back}
 use Rattle.node_record.specs.Step.{verdict, answer_by, with_sender, reply_slot, after_delivery}
 use Rattle.node_record.specs.NodeStep.{Job, site_of, IsAllSound}
 use Rattle.node_record.specs.Invariant.{request_message, reply_message}
@@ -144,7 +144,7 @@ first_run job IsKept world from to number x sound e new free a is =
         → RunStep job.behaviour.messages (plain_of world) (named from to number) a
         (plain_of (put world to
         (after_delivery (site_of job to) (world to) (request_message job.settings from to number x) Runs)))
-    go (delivered.Again at) f run = absurd run
+    go (delivered.Duplicate at) f run = absurd run
     go delivered.Stale f run = absurd run
     go (delivered.Deferred lock) f run = absurd run
     go a f run = record {
@@ -176,7 +176,7 @@ run_step job IsKept world from to number request sound holds e =
     elim (cases_order number top) [
       | inl same ↦ (let last =
           greatest_run limits refuses requests runs request.slot P (omega (arith, same, from_one.0)) in
-          at Repeated (judged_is ∙ rw (eq-eqb number top same) refl) (
+          at Duplicated (judged_is ∙ rw (eq-eqb number top same) refl) (
             labelled request,
             record { is = is; ran = ap (λ q. is_among q (map replied runs)) same ∙ last.3 },
             (λ passed.

@@ -125,7 +125,7 @@ run_makes {Local = Local} job name = record {
   where
     go : (p q : Plain Local) (b : Delivered) → IsRanAnswer b → NodeStep job p (request_comes name) (OfDelivery b) q
         → (IsRan name p → ⊥) × IsRan name q
-    go p q (delivered.Again at) g h = absurd g.1
+    go p q (delivered.Duplicate at) g h = absurd g.1
     go p q delivered.Stale g h = absurd g.1
     go p q (delivered.Deferred lock) g h = absurd g.1
     go p q b g h =

@@ -11,7 +11,7 @@ use Rattle.plain_world.specs.PlainStep.{PlainStep}
 use Rattle.plain_world.proofs.PlainParts.{plain_local}
 use Rattle.plain_world.proofs.PlainAsks.{request_step}
 use Rattle.plain_world.proofs.PlainDeliveries.{request_comes, reply_comes}
-use Rattle.plain_world.proofs.PlainTicks.{worn_out_is, tick_step}
+use Rattle.plain_world.proofs.PlainTicks.{exhausted_is, tick_step}
 
 -- each event of a world of which the invariant holds is a step of the plain world, with the same answer
 pub step_plain : {Local Call Told : Type 0} (job : Job Local Call Told) (IsKept : (me : ℕ) → Local → Type 0)
@@ -25,10 +25,10 @@ step_plain {Call = Call} job IsKept world timed sound holds = go timed.event
         (plain_of (world_after job world (record { now = timed.now; event = event })))
     go (Asks i ask) = request_step job IsKept world timed.now i ask holds
     go (Does i thread call) = (
-      ap (λ test. (job.behaviour.does i test thread call (world i).local).0) (sym (worn_out_is job.settings world i)),
+      ap (λ test. (job.behaviour.does i test thread call (world i).local).0) (sym (exhausted_is job.settings world i)),
       plain_local world i _ refl refl
           ∙ ap (λ test. with_plain (plain_of world) i (job.behaviour.does i test thread call (world i).local).1)
-          (sym (worn_out_is job.settings world i)),
+          (sym (exhausted_is job.settings world i)),
     )
     go (RequestComes i j k) = request_comes job IsKept world timed.now i j k _ sound holds refl
     go (ReplyComes i j k) = reply_comes job IsKept world timed.now i j k _ holds refl

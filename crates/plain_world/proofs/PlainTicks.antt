@@ -19,15 +19,15 @@ use Rattle.node_record.specs.Requests.{next_claim, Due, dues, all_dues, earliest
 use Rattle.node_record.specs.Requests.{is_earlier, sooner}
 use Rattle.node_record.specs.Behaviour.{Sending, IsFirstSent}
 use Rattle.node_record.specs.Step.{request_slot, next_due}
-use Rattle.node_record.specs.Step.{can_ask, is_worn_out, TickChoice, Resends, Sends, Rests, tick_choice, tick_answer}
+use Rattle.node_record.specs.Step.{can_ask, is_exhausted, TickChoice, Retransmits, Sends, Rests, tick_choice, tick_answer}
 use Rattle.node_record.specs.Step.{after_tick}
 use Rattle.node_record.specs.NodeStep.{Job, site_of, IsAllSound}
-use Rattle.node_record.proofs.Answers.{CanAsk, can_says, sends_choice, resends_choice, rests_choice}
+use Rattle.node_record.proofs.Answers.{CanAsk, can_says, sends_choice, retransmits_choice, rests_choice}
 use Rattle.plain_world.specs.World.{World}
 use Rattle.plain_world.specs.Invariant.{Holds}
 use Rattle.plain_world.specs.Plain.{plain_of, labelled}
 use Rattle.plain_world.specs.PlainStep.{TickStep}
-use Rattle.plain_world.specs.PlainStep.{plain_worn_out, plain_can_ask, next_of}
+use Rattle.plain_world.specs.PlainStep.{plain_exhausted, plain_can_ask, next_of}
 use Rattle.plain_world.proofs.PlainReadings.{is_back_at}
 use Rattle.plain_world.proofs.PlainReadings.{outstanding_is}
 use Rattle.plain_world.proofs.PlainParts.{plain_same, plain_accepted, plain_sent}
@@ -80,10 +80,10 @@ earliest_has P (c ∷ ds) d a e = subst P (same_Some _ _ e) (go (earliest ds) (�
     go None each = a.0
     go (Some b) each = elim (is_earlier b c) as (λ t. P (cond t b c)) [ true ↦ each b refl | false ↦ a.0 ]
 
--- the same numbers are worn out
-pub worn_out_is : {Local : Type 0} (settings : Parameters) (world : World Local) (i : ℕ)
-    → plain_worn_out settings (plain_of world) i ≡ is_worn_out settings (world i)
-worn_out_is settings world i = fun_ext (λ to. ap (leb settings.last) (length-map ((world i).asked to) labelled))
+-- the same numbers are exhausted out
+pub exhausted_is : {Local : Type 0} (settings : Parameters) (world : World Local) (i : ℕ)
+    → plain_exhausted settings (plain_of world) i ≡ is_exhausted settings (world i)
+exhausted_is settings world i = fun_ext (λ to. ap (leb settings.last) (length-map ((world i).asked to) labelled))
 
 -- the same nodes can be asked
 can_ask_is : {Local Call Told : Type 0} (job : Job Local Call Told) (world : World Local) (i : ℕ)
@@ -116,7 +116,7 @@ first_sent job IsKept world now i sending sound can given a is =
         → IsFirstSent a (request_slot sending.to (next_claim ((world i).asked sending.to)).slot)
         → TickStep (site_of job i) (plain_of world) a
         (plain_of (put world i (after_tick (site_of job i) (world i) now (Sends sending))))
-    go (ticked.Resend at) f first = absurd first
+    go (ticked.Retransmission at) f first = absurd first
     go ticked.Nothing f first = absurd first
     go a f first =
         let claim = next_claim ((world i).asked sending.to) in
@@ -140,8 +140,8 @@ pub tick_step : {Local Call Told : Type 0} (job : Job Local Call Told) (IsKept :
     → tick_choice (site_of job i) (world i) now ≡ choice
     → TickStep (site_of job i) (plain_of world) (tick_answer job.behaviour.messages (world i) choice)
     (plain_of (put world i (after_tick (site_of job i) (world i) now choice)))
-tick_step job IsKept world now i (Resends d) sound holds e =
-    let due = resends_choice (next_due job.settings (world i) now) _ d e in
+tick_step job IsKept world now i (Retransmits d) sound holds e =
+    let due = retransmits_choice (next_due job.settings (world i) now) _ d e in
     let it = earliest_has (IsOpenAt (world i).asked) _ d
     (all_dues_open now job.settings.resend (world i).asked job.settings.nodes) due in
     let requests = (world i).asked d.peer in (

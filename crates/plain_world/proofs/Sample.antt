@@ -1,4 +1,4 @@
--- One run, computed: credits of a pair, a lock, a tick that sends, and calls on the own node.
+-- One run, computed: credits of a pair, a lock, a tick that sends, and calls on the local node.
 use Rattle.std.proofs.Common.{◌≡◌, ℕ, ◌+◌, Bool, true, false, ◌&&◌, if◌then◌else◌, eqb, ltb, List, [], ◌∷◌, refl, sym}
 use Rattle.std.proofs.Common.{ltb-true, subst}
 use Rattle.std.proofs.lemmas.Bool.{and_parts}
@@ -67,14 +67,14 @@ settings = record {
   resend = 10;
 }
 
--- a call puts its number in front, and is told how many nodes' numbers are worn out of 0 to 2
+-- a call puts its number in front, and is told how many nodes' numbers are exhausted out of 0 to 2
 abbrev job : Job (List ℕ) ℕ ℕ
 job = record {
   settings = settings;
   behaviour = record {
     messages = sample;
-    does = λ me worn thread call local.
-        ((if worn 0 then 1 else 0) + ((if worn 1 then 1 else 0) + (if worn 2 then 1 else 0)), call ∷ local);
+    does = λ me exhausted thread call local.
+        ((if exhausted 0 then 1 else 0) + ((if exhausted 1 then 1 else 0) + (if exhausted 2 then 1 else 0)), call ∷ local);
   };
 }
 
@@ -111,11 +111,11 @@ answered : answers_of job events (opening start)
     ∷ OfNode (OfRequest asked.Ran)
     ∷ OfNode (OfCall 0) ∷ OfNode (OfDelivery (delivered.Deferred 3)) ∷ OfNode (OfRequest (asked.LockBusy 3))
     ∷ OfNode (OfCall 0) ∷ OfNode (OfDelivery (delivered.Ran (reply_slot 0 0)))
-    ∷ OfNode (OfDelivery (delivered.Again (reply_slot 0 0))) ∷ OfNode (OfCall 0)
+    ∷ OfNode (OfDelivery (delivered.Duplicate (reply_slot 0 0))) ∷ OfNode (OfCall 0)
     ∷ OfNode (OfDelivery (delivered.Deferred 3)) ∷ OfNode (OfCall 0)
     ∷ OfNode (OfDelivery (delivered.Returned 1 0 1)) ∷ OfNode (OfDelivery delivered.Late) ∷ OfNode (OfCall 0)
     ∷ OfNode (OfTick (ticked.Chunk (request_slot 1 0))) ∷ OfNode (OfTick ticked.Nothing)
-    ∷ OfNode (OfTick (ticked.Resend (request_slot 1 0)))
+    ∷ OfNode (OfTick (ticked.Retransmission (request_slot 1 0)))
     ∷ OfNode (OfDelivery (delivered.Ran (reply_slot 0 0))) ∷ OfNode (OfDelivery delivered.Stale) ∷ Unsent
     ∷ OfNode (OfRequest (asked.Accepted 2 0 1)) ∷ OfNode (OfRequest (asked.Accepted 2 1 2))
     ∷ OfNode (OfRequest asked.NotYet) ∷ []
@@ -156,7 +156,7 @@ sound = record {
     runs_as = λ content place. refl;
     sends_as = λ content place. refl;
   };
-  does = λ me worn thread call local good. refl;
+  does = λ me exhausted thread call local good. refl;
 }
 
 -- the event is one of nodes that are there

@@ -18,7 +18,7 @@ use Rattle.node_record.specs.Executed.{run_of}
 use Rattle.node_record.specs.Credits.{limits_of}
 use Rattle.node_record.specs.Behaviour.{Ask, is_request, asks_well, replies_well}
 use Rattle.node_record.specs.Step.{new_request, with_request, request_answer, after_request, Verdict, Runs}
-use Rattle.node_record.specs.Step.{Returns, verdict, with_sender, after_delivery, TickChoice, Resends, Sends, Rests}
+use Rattle.node_record.specs.Step.{Returns, verdict, with_sender, after_delivery, TickChoice, Retransmits, Sends, Rests}
 use Rattle.node_record.specs.Step.{next_due, can_ask, tick_choice, after_tick}
 use Rattle.node_record.specs.NodeStep.{Job, site_of, IsAllSound, NodeEvent, Asks as NodeAsks, Does as NodeDoes, Comes}
 use Rattle.node_record.specs.NodeStep.{Ticks as NodeTicks, node_after}
@@ -159,7 +159,7 @@ ticks_keep : {Local Call Told : Type 0} (job : Job Local Call Told) (IsKept : (m
     → IsKept i (after_tick (site_of job i) (world i) now choice).local
     → tick_choice (site_of job i) (world i) now ≡ choice
     → Holds job IsKept (put world i (after_tick (site_of job i) (world i) now choice))
-ticks_keep job IsKept world now i (Resends d) sound holds here good e =
+ticks_keep job IsKept world now i (Retransmits d) sound holds here good e =
     changed job IsKept world i d.peer d.number (sent_at now) _ holds good refl refl
     (pair_sent (limits_of job.settings i d.peer) job.behaviour.messages.refuses now ((world i).asked d.peer)
     ((world d.peer).ran i) d.number

@@ -98,7 +98,7 @@ pub record StandsInSlot
   pub message : message_at job.settings name.to (world name.to) (reply_slot name.from request.label)
       ≡ Some (spelling (addressed (address_in job.settings name.to name.from request.label name.number) reply))
   pub again : IsDelivered job world (RequestComes name.from name.to name.number)
-      (delivered.Again (reply_slot name.from request.label))
+      (delivered.Duplicate (reply_slot name.from request.label))
 
 -- the reply of a request that ran stands there until a later request of that label runs
 abbrev pub ReplyStands : {Local Call Told : Type 0} → Job Local Call Told → World Local → Type 0

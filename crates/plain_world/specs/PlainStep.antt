@@ -44,11 +44,11 @@ pub record IsNext
 abbrev pub plain_said : {Local : Type 0} → Site Local → Plain Local → Ask → Content
 plain_said site plain ask = site.behaviour.says ask.what (plain.local site.me)
 
--- what the run of a request to the own node, and of its reply, leaves
+-- what the run of a request to the local node, and of its reply, leaves
 abbrev pub ran_at : {Local : Type 0} → Site Local → Plain Local → Ask → Local
 ran_at site plain ask = ran_here site.behaviour site.me (plain_said site plain ask) (plain.local site.me)
 
--- accept, not yet and worn out; and what is local: a violation, a bad argument, and a request to the own node
+-- accept, not yet and exhausted out; and what is local: a violation, a bad argument, and a request to the local node
 abbrev pub AskStep : {Local : Type 0} → Site Local → Plain Local → Ask → Asked → Plain Local → Type 0
 AskStep site before ask (asked.Accepted to label number) after =
     Passes site before ask × (to ≡ ask.to)
@@ -57,7 +57,7 @@ AskStep site before ask (asked.Accepted to label number) after =
 AskStep site before ask asked.NotYet after =
     Passes site before ask × (length (before.requests site.me ask.to) < site.settings.last)
     × (outstanding before site.me ask.to ≡ credits_of site.settings site.me ask.to) × (after ≡ before)
-AskStep site before ask asked.WornOut after =
+AskStep site before ask asked.Exhausted after =
     Passes site before ask × (length (before.requests site.me ask.to) ≡ site.settings.last) × (after ≡ before)
 AskStep site before ask asked.Ran after =
     IsFaultless site before ask × (ask.to ≡ site.me)
@@ -122,10 +122,10 @@ pub record RunsFirst
       let out = behaviour.run (at_target name request) request.content (before.local name.to) in
       after ≡ with_replied before name.from name.to (record { number = name.number; reply = out.1 }) out.0
 
--- run; repeat: Again where no greater number of the same label was run, else Stale; deferred
+-- run; repeat: Duplicate where no greater number of the same label was run, else Stale; deferred
 abbrev pub RunStep : {Local : Type 0}
     → Behaviour Local → Plain Local → Named → Delivered → Plain Local → Type 0
-RunStep behaviour before name (delivered.Again at) after =
+RunStep behaviour before name (delivered.Duplicate at) after =
     (request : Labelled) × IsRepeat before name request × (IsPassed before name.from name.to name.number request → ⊥)
     × (at ≡ reply_slot name.from request.label) × (after ≡ before)
 RunStep behaviour before name delivered.Stale after =
@@ -195,7 +195,7 @@ pub record SendsFirst
 -- resend of some request that isn't back: which one is due it doesn't know; nothing, where the node has no next
 -- request; and accept by a tick
 abbrev pub TickStep : {Local : Type 0} → Site Local → Plain Local → Ticked → Plain Local → Type 0
-TickStep site before (ticked.Resend at) after =
+TickStep site before (ticked.Retransmission at) after =
     (to number : ℕ) × (request : Labelled) × IsRequest before site.me to number request
     × (before.back site.me to number ≡ false) × (at ≡ request_slot to request.label) × (after ≡ before)
 TickStep site before ticked.Nothing after = (next_of site before ≡ None) × (after ≡ before)
@@ -204,14 +204,14 @@ TickStep site before answer after = SendsFirst site before answer after
 -- ---- all steps
 
 -- no number is left for that node
-abbrev pub plain_worn_out : {Local : Type 0} → Parameters → Plain Local → (node to : ℕ) → Bool
-plain_worn_out settings plain node to = nat_le settings.last (length (plain.requests node to))
+abbrev pub plain_exhausted : {Local : Type 0} → Parameters → Plain Local → (node to : ℕ) → Bool
+plain_exhausted settings plain node to = nat_le settings.last (length (plain.requests node to))
 
 -- any other call
 abbrev pub CallStep : {Local Call Told : Type 0}
     → Job Local Call Told → Plain Local → Event Call → Told → Plain Local → Type 0
 CallStep job before (Does node thread call) answer after =
-    let out = job.behaviour.does node (plain_worn_out job.settings before node) thread call (before.local node) in
+    let out = job.behaviour.does node (plain_exhausted job.settings before node) thread call (before.local node) in
     (answer ≡ out.0) × (after ≡ with_plain before node out.1)
 CallStep job before _ answer after = ⊥
 

@@ -11,8 +11,8 @@ use Rattle.node_record.specs.Record.{Request, Run, Node}
 use Rattle.node_record.specs.Requests.{next_claim}
 use Rattle.node_record.specs.Executed.{run_of, run_at}
 use Rattle.node_record.specs.Behaviour.{Ask}
-use Rattle.node_record.specs.Step.{Site, said, with_sender, request_answer, Verdict, Repeated, Runs, verdict}
-use Rattle.node_record.specs.Step.{TickChoice, Resends, Sends, Rests, tick_choice}
+use Rattle.node_record.specs.Step.{Site, said, with_sender, request_answer, Verdict, Duplicated, Runs, verdict}
+use Rattle.node_record.specs.Step.{TickChoice, Retransmits, Sends, Rests, tick_choice}
 use Rattle.node_record.specs.NodeStep.{Job, site_of, NodeEvent, Asks, Does, Comes, Ticks}
 use Rattle.plain_world.specs.World.{World, opening, Timed, Fall, falls, world_after, run}
 
@@ -70,13 +70,13 @@ delivered_sends site node message Runs =
     Replying (record { from = message.from; to = site.me; number = message.number; slot = message.slot })
     (site.behaviour.run (with_sender site.me message) (content_of message) node.local).1
     ∷ []
-delivered_sends site node message Repeated =
+delivered_sends site node message Duplicated =
     replying message.from site.me message.number (run_at message.slot message.number (node.ran message.from))
 delivered_sends site node message _ = []
 
 -- a tick sends the request that is due, or the node's next one
 abbrev pub ticked_sends : {Local : Type 0} → (me : ℕ) → Node Local → TickChoice → List Packet
-ticked_sends me node (Resends due) = asking me due.peer due.number (numbered (node.asked due.peer) due.number)
+ticked_sends me node (Retransmits due) = asking me due.peer due.number (numbered (node.asked due.peer) due.number)
 ticked_sends me node (Sends sending) =
     let claim = next_claim (node.asked sending.to) in
     Asking (record { from = me; to = sending.to; number = claim.number; slot = claim.slot }) sending.content ∷ []

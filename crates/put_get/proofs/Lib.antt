@@ -13,7 +13,7 @@ pub mod Changed
 pub mod Backs
 pub mod Members
 pub mod Marks
-pub mod Worn
+pub mod Exhausted
 pub mod Lists
 pub mod Waiting
 pub mod Oldest

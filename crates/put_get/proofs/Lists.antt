@@ -107,7 +107,7 @@ left_alone table operations choice synced.Ok isnt S = absurd (isnt refl)
 left_alone table operations choice synced.NotReady isnt S = S
 left_alone table operations choice synced.NotYours isnt S = S
 left_alone table operations choice synced.BadHandle isnt S = S
-left_alone table operations choice (synced.WornOut node) isnt S = S
+left_alone table operations choice (synced.Exhausted node) isnt S = S
 
 pub here_stays : (table : Transfers) (operations : List Operation) (thread : ℕ) (members_here : List Operation)
     (choice : Choice) (fault : Synced)

@@ -8,7 +8,7 @@ use Rattle.std.proofs.lemmas.Option.{same_Some}
 use Rattle.put_get.specs.declared.table.Standing.{Standing}
 use Rattle.put_get.specs.declared.table.Pick.TheVariants as pick
 use Rattle.put_get.specs.declared.table.Check.TheVariants.{Any, Others, Unissued, UnissuedTo, Unfinished}
-use Rattle.put_get.specs.declared.operation.Some3.{Some3}
+use Rattle.put_get.specs.declared.operation.ImplicitKinds.{ImplicitKinds}
 use Rattle.put_get.specs.Operation.{Operation, Sent, returned_of, has_next, is_complete, target}
 use Rattle.put_get.specs.Syncs.{Choice, chosen, members, in_region, is_name, is_empty, is_other, implicit_of}
 use Rattle.put_get.specs.Table.{on_place, picked, passes, has}
@@ -143,7 +143,7 @@ members_agree places operations handle K = elim (cases_Bool (is_empty (chosen (i
   }
 ]
 
-pub implicit_agree : (thread : ℕ) (which : Some3)
+pub implicit_agree : (thread : ℕ) (which : ImplicitKinds)
     → Agrees (implicit_of thread which) (picked (pick.Implicit thread which))
 implicit_agree thread which = record {
   chosen = λ number operation stands. rw stands refl;

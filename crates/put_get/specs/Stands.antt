@@ -107,12 +107,12 @@ pub record Agrees (choice : Choice) (test : Standing → Bool) : Type 0 where
       → choice number operation ≡ test (kept number operation)
   pub open_only : (number : ℕ) (operation : Operation) → choice number operation ≡ true → operation.synced ≡ false
 
--- the first node that is worn out and to which a record has an unissued chunk
-abbrev pub IsFirstWorn : (worn : ℕ → Bool) → (Standing → Bool) → List (Option Standing) → Option ℕ → Type 0
-IsFirstWorn worn test places None = (node : ℕ) → worn node ≡ true → has test (UnissuedTo node) places ≡ false
-IsFirstWorn worn test places (Some node) =
-    (worn node ≡ true) × (has test (UnissuedTo node) places ≡ true)
-    × ((other : ℕ) → other < node → worn other ≡ true → has test (UnissuedTo other) places ≡ false)
+-- the first node that is exhausted out and to which a record has an unissued chunk
+abbrev pub IsFirstExhausted : (exhausted : ℕ → Bool) → (Standing → Bool) → List (Option Standing) → Option ℕ → Type 0
+IsFirstExhausted exhausted test places None = (node : ℕ) → exhausted node ≡ true → has test (UnissuedTo node) places ≡ false
+IsFirstExhausted exhausted test places (Some node) =
+    (exhausted node ≡ true) × (has test (UnissuedTo node) places ≡ true)
+    × ((other : ℕ) → other < node → exhausted other ≡ true → has test (UnissuedTo other) places ≡ false)
 
 -- ---- the next chunk
 

@@ -6,8 +6,8 @@ use Rattle.std.specs.Option.{option_or}
 use Rattle.put_get.specs.declared.operation.Transfer.{Transfer}
 use Rattle.put_get.specs.declared.operation.Mode.{Mode}
 use Rattle.put_get.specs.declared.operation.Mode.TheVariants.{Implicit}
-use Rattle.put_get.specs.declared.operation.Some3.{Some3}
-use Rattle.put_get.specs.declared.operation.Some3.TheVariants.{Puts, Gets, All}
+use Rattle.put_get.specs.declared.operation.ImplicitKinds.{ImplicitKinds}
+use Rattle.put_get.specs.declared.operation.ImplicitKinds.TheVariants.{Puts, Gets, All}
 use Rattle.put_get.specs.declared.operation.Handle.{Handle}
 use Rattle.put_get.specs.declared.operation.Synced.{Synced}
 use Rattle.put_get.specs.declared.operation.Synced.TheVariants as synced
@@ -54,7 +54,7 @@ members handle operations number operation =
     else in_region handle number operation
 
 -- memsets are puts
-abbrev pub is_kind : Some3 → Transfer → Bool
+abbrev pub is_kind : ImplicitKinds → Transfer → Bool
 is_kind Puts transfer = not (is_get transfer)
 is_kind Gets transfer = is_get transfer
 is_kind All transfer = true
@@ -64,7 +64,7 @@ is_implicit Implicit = true
 is_implicit _ = false
 
 -- the thread's implicit operations outside regions
-abbrev pub implicit_of : (thread : ℕ) → Some3 → Choice
+abbrev pub implicit_of : (thread : ℕ) → ImplicitKinds → Choice
 implicit_of thread which number operation =
     not operation.synced
     && (is_implicit operation.mode && ((operation.thread == thread) && is_kind which operation.transfer))
@@ -75,20 +75,20 @@ abbrev pub less : ℕ → Option ℕ → Option ℕ
 less node None = Some node
 less node (Some other) = Some (min node other)
 
--- the smallest node that is worn out and has an unissued chunk of these
-abbrev pub worn_of : (worn : ℕ → Bool) → List Operation → Option ℕ
-worn_of worn [] = None
-worn_of worn (operation ∷ later) =
-    if worn (target operation.transfer) && has_next operation then less (target operation.transfer) (worn_of worn later)
-    else worn_of worn later
+-- the smallest node that is exhausted out and has an unissued chunk of these
+abbrev pub exhausted_of : (exhausted : ℕ → Bool) → List Operation → Option ℕ
+exhausted_of exhausted [] = None
+exhausted_of exhausted (operation ∷ later) =
+    if exhausted (target operation.transfer) && has_next operation then less (target operation.transfer) (exhausted_of exhausted later)
+    else exhausted_of exhausted later
 
-abbrev pub worn_or : Option ℕ → Synced
-worn_or None = synced.NotReady
-worn_or (Some node) = synced.WornOut node
+abbrev pub exhausted_or : Option ℕ → Synced
+exhausted_or None = synced.NotReady
+exhausted_or (Some node) = synced.Exhausted node
 
 -- a sync of these operations, where there is no fault
-abbrev pub sync_answer : (worn : ℕ → Bool) → List Operation → Synced
-sync_answer worn operations = if list_all is_complete operations then synced.Ok else worn_or (worn_of worn operations)
+abbrev pub sync_answer : (exhausted : ℕ → Bool) → List Operation → Synced
+sync_answer exhausted operations = if list_all is_complete operations then synced.Ok else exhausted_or (exhausted_of exhausted operations)
 
 abbrev pub is_other : (thread : ℕ) → Operation → Bool
 is_other thread operation = not (operation.thread == thread)
@@ -105,12 +105,12 @@ unless_fault None answer = answer
 unless_fault (Some fault) answer = fault
 
 -- a sync of a handle whose members are these
-abbrev pub members_answer : (worn : ℕ → Bool) → (thread : ℕ) → List Operation → Synced
-members_answer worn thread operations = unless_fault (fault_here thread operations) (sync_answer worn operations)
+abbrev pub members_answer : (exhausted : ℕ → Bool) → (thread : ℕ) → List Operation → Synced
+members_answer exhausted thread operations = unless_fault (fault_here thread operations) (sync_answer exhausted operations)
 
-abbrev pub handle_answer : (worn : ℕ → Bool) → (thread handle : ℕ) → List Operation → Synced
-handle_answer worn thread handle operations =
-    if handle == 0 then synced.Ok else members_answer worn thread (chosen (members handle operations) 1 operations)
+abbrev pub handle_answer : (exhausted : ℕ → Bool) → (thread handle : ℕ) → List Operation → Synced
+handle_answer exhausted thread handle operations =
+    if handle == 0 then synced.Ok else members_answer exhausted thread (chosen (members handle operations) 1 operations)
 
 -- where the answer is Ok those chosen go
 abbrev pub left_by : Synced → Choice → List Operation → List Operation
@@ -122,8 +122,8 @@ abbrev pub after_handle : (answer : Synced) → (handle : ℕ) → List Operatio
 after_handle answer handle operations =
     if handle == 0 then operations else left_by answer (members handle operations) operations
 
-abbrev pub implicit_answer : (worn : ℕ → Bool) → (thread : ℕ) → Some3 → List Operation → Synced
-implicit_answer worn thread which operations = sync_answer worn (chosen (implicit_of thread which) 1 operations)
+abbrev pub implicit_answer : (exhausted : ℕ → Bool) → (thread : ℕ) → ImplicitKinds → List Operation → Synced
+implicit_answer exhausted thread which operations = sync_answer exhausted (chosen (implicit_of thread which) 1 operations)
 
 -- every chunk of every member was issued; None where there is no member
 abbrev pub issued_answer : (handle : ℕ) → List Operation → Option Bool
@@ -149,10 +149,10 @@ members_of handles operations number operation =
     handles
 
 -- the sync of all of these handles
-abbrev pub all_answer : (worn : ℕ → Bool) → (thread : ℕ) → List Handle → List Operation → Synced
-all_answer worn thread handles operations =
+abbrev pub all_answer : (exhausted : ℕ → Bool) → (thread : ℕ) → List Handle → List Operation → Synced
+all_answer exhausted thread handles operations =
     unless_fault (fault_of thread operations handles)
-    (sync_answer worn (chosen (members_of handles operations) 1 operations))
+    (sync_answer exhausted (chosen (members_of handles operations) 1 operations))
 
 -- the handle has operations, and all are complete
 abbrev pub is_whole : List Operation → Handle → Bool
@@ -166,12 +166,12 @@ whole_of handles operations number operation =
     handles
 
 -- the sync of those of these handles that are complete, where there is no fault
-abbrev pub some_here : (worn : ℕ → Bool) → List Handle → List Operation → Synced
-some_here worn handles operations =
+abbrev pub some_here : (exhausted : ℕ → Bool) → List Handle → List Operation → Synced
+some_here exhausted handles operations =
     if list_all (λ (handle : Handle). handle.serial == 0) handles || list_any (is_whole operations) handles
     then synced.Ok
-    else worn_or (worn_of worn (chosen (members_of handles operations) 1 operations))
+    else exhausted_or (exhausted_of exhausted (chosen (members_of handles operations) 1 operations))
 
-abbrev pub some_answer : (worn : ℕ → Bool) → (thread : ℕ) → List Handle → List Operation → Synced
-some_answer worn thread handles operations =
-    unless_fault (fault_of thread operations handles) (some_here worn handles operations)
+abbrev pub some_answer : (exhausted : ℕ → Bool) → (thread : ℕ) → List Handle → List Operation → Synced
+some_answer exhausted thread handles operations =
+    unless_fault (fault_of thread operations handles) (some_here exhausted handles operations)

@@ -17,7 +17,7 @@ pub struct Handle {
 /// and lengths are in bytes; `remote` is an offset into the target's segment and `local` one into the own.
 #[derive(Clone, Copy)]
 pub enum Transfer {
-    /// Bytes of the own segment are written into the target's (gasnet_put).
+    /// Bytes of the local segment are written into the target's (gasnet_put).
     Put {
         to: u16,
         remote: u64,
@@ -54,7 +54,7 @@ pub enum Mode {
 
 /// Of which implicit operations a sync speaks.
 #[derive(Clone, Copy, Debug)]
-pub enum Some3 {
+pub enum ImplicitKinds {
     /// Puts and memsets (gasnet_try_syncnbi_puts).
     Puts,
     /// Gets (gasnet_try_syncnbi_gets).
@@ -74,9 +74,9 @@ pub enum Synced {
     NotYours,
     /// No operation and no region that stands has the handle's number.
     BadHandle,
-    /// Some chunk can't be issued any more: the numbers to this node are worn out. It is the smallest such node
+    /// Some chunk can't be issued any more: the numbers to this node are exhausted out. It is the smallest such node
     /// (profile).
-    WornOut(u16),
+    Exhausted(u16),
 }
 
 /// No operation can begin: 256 records stand, or number 2^64 - 1 was given.

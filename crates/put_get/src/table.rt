@@ -8,7 +8,7 @@ ghost use Rattle.put_get.specs.Table.{unless_marked, also, has, AreMarks, IsPlac
 ghost use Rattle.std.specs.List.{list_any};
 
 use crate::extent::Extent;
-use crate::operation::{Some3, Transfer};
+use crate::operation::{ImplicitKinds, Transfer};
 use crate::queue::Queue;
 use slab::Slab;
 use std::alloc::{AllocError, Global};
@@ -34,7 +34,7 @@ pub(crate) enum Pick {
     /// The one with that number.
     Number(u64),
     /// The thread's implicit ones of that kind.
-    Implicit { thread: u16, which: Some3 },
+    Implicit { thread: u16, which: ImplicitKinds },
 }
 
 /// What is asked of a record.
@@ -47,13 +47,13 @@ pub(crate) enum Check {
     Unfinished,
 }
 
-fn is_kind(which: Some3, transfer: Transfer) -> bool
+fn is_kind(which: ImplicitKinds, transfer: Transfer) -> bool
     ensures { result ≡ is_kind which transfer }
 {
     match which {
-        Some3::Puts => !transfer.is_get(),
-        Some3::Gets => transfer.is_get(),
-        Some3::All => true,
+        ImplicitKinds::Puts => !transfer.is_get(),
+        ImplicitKinds::Gets => transfer.is_get(),
+        ImplicitKinds::All => true,
     }
 }
 

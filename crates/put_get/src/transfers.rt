@@ -13,9 +13,9 @@ ghost use Rattle.put_get.specs.Syncs.{after_handle, implicit_of, implicit_answer
 ghost use Rattle.put_get.specs.Syncs.{fault_of, members_of, all_answer, whole_of, some_here, some_answer, is_whole};
 ghost use Rattle.put_get.specs.Table.{AreMarks, also, is_unissued, picked};
 ghost use Rattle.put_get.specs.Stands.{HasOperations, room_of, Stands, Agrees, member_in, member_of, member_of_any};
-ghost use Rattle.put_get.specs.Stands.{is_whole_in, whole_here, whole_in, IsFirstWorn, CanNote, next_of};
+ghost use Rattle.put_get.specs.Stands.{is_whole_in, whole_here, whole_in, IsFirstExhausted, CanNote, next_of};
 
-use crate::operation::{Handle, Mode, Next, Some3, Synced, TooMany, Transfer};
+use crate::operation::{Handle, ImplicitKinds, Mode, Next, Synced, TooMany, Transfer};
 use crate::slots::{Slots, Waiting};
 use crate::table::{Check, Pick, Standing, Table, either, flag_at};
 use std::alloc::{AllocError, Global};
@@ -226,14 +226,14 @@ impl Transfers {
         self.table.place_of(handle.serial).is_some()
     }
 
-    /// The smallest node that is worn out and has an unissued chunk of what is marked.
-    fn first_worn(&self, worn: &[bool], marks: &[bool; 256]) -> Option<u16>
-        requires { length worn.now ≤ 65536 }
+    /// The smallest node that is exhausted out and has an unissued chunk of what is marked.
+    fn first_exhausted(&self, exhausted: &[bool], marks: &[bool; 256]) -> Option<u16>
+        requires { length exhausted.now ≤ 65536 }
         ensures { (test : Standing → Bool) → AreMarks test self.now.table marks.now
-            → IsFirstWorn (flag_at worn.now) test self.now.table result }
+            → IsFirstExhausted (flag_at exhausted.now) test self.now.table result }
     {
-        for node in 0..worn.len() {
-            if flag_at(worn, node) && self.table.has(marks, Check::UnissuedTo(node as u16)) {
+        for node in 0..exhausted.len() {
+            if flag_at(exhausted, node) && self.table.has(marks, Check::UnissuedTo(node as u16)) {
                 return Some(node as u16);
             }
         }
@@ -241,12 +241,12 @@ impl Transfers {
     }
 
     /// Where what is marked is complete it goes.
-    fn sync_marked(&mut self, worn: &[bool], marks: &[bool; 256]) -> Synced
-        requires { length worn.now ≤ 65536 }
+    fn sync_marked(&mut self, exhausted: &[bool], marks: &[bool; 256]) -> Synced
+        requires { length exhausted.now ≤ 65536 }
         ensures answer { (operations : List Operation) (choice : Choice) (test : Standing → Bool)
             → Stands self.old operations
             → AreMarks test self.old.table marks.now → Agrees choice test
-            → result ≡ sync_answer (flag_at worn.now) (chosen choice 1 operations) }
+            → result ≡ sync_answer (flag_at exhausted.now) (chosen choice 1 operations) }
         ensures stands { (operations : List Operation) (choice : Choice) (test : Standing → Bool)
             → Stands self.old operations
             → AreMarks test self.old.table marks.now → Agrees choice test
@@ -257,19 +257,21 @@ impl Transfers {
             self.table.drop_marked(marks);
             return Synced::Ok;
         }
-        match self.first_worn(worn, marks) {
-            Some(node) => Synced::WornOut(node),
+        match self.first_exhausted(exhausted, marks) {
+            Some(node) => Synced::Exhausted(node),
             None => Synced::NotReady,
         }
     }
 
-    /// The smallest node that is worn out and has an unissued chunk of what is meant.
-    fn first_worn_of(&self, worn: &[bool], pick: Pick) -> Option<u16>
-        requires { length worn.now ≤ 65536 }
-        ensures { IsFirstWorn (flag_at worn.now) (picked pick) self.now.table result }
+    /// The smallest node that is exhausted out and has an unissued chunk of what is meant.
+    fn first_exhausted_of(&self, exhausted: &[bool], pick: Pick) -> Option<u16>
+        requires { length exhausted.now ≤ 65536 }
+        ensures { IsFirstExhausted (flag_at exhausted.now) (picked pick) self.now.table result }
     {
-        for node in 0..worn.len() {
-            if flag_at(worn, node) && self.table.any_passes(pick, Check::UnissuedTo(node as u16)) {
+        for node in 0..exhausted.len() {
+            if flag_at(exhausted, node)
+                && self.table.any_passes(pick, Check::UnissuedTo(node as u16))
+            {
                 return Some(node as u16);
             }
         }
@@ -278,11 +280,11 @@ impl Transfers {
 
     /// Where what is meant is complete it goes. While it isn't, the first record that is unfinished answers, and no
     /// record is marked.
-    fn sync_picked(&mut self, worn: &[bool], pick: Pick) -> Synced
-        requires { length worn.now ≤ 65536 }
+    fn sync_picked(&mut self, exhausted: &[bool], pick: Pick) -> Synced
+        requires { length exhausted.now ≤ 65536 }
         ensures answer { (operations : List Operation) (choice : Choice) → Stands self.old operations
             → Agrees choice (picked pick)
-            → result ≡ sync_answer (flag_at worn.now) (chosen choice 1 operations) }
+            → result ≡ sync_answer (flag_at exhausted.now) (chosen choice 1 operations) }
         ensures stands { (operations : List Operation) (choice : Choice) → Stands self.old operations
             → Agrees choice (picked pick)
             → Stands self.new (left_by result choice operations) }
@@ -294,8 +296,8 @@ impl Transfers {
             self.table.drop_marked(&marks);
             return Synced::Ok;
         }
-        match self.first_worn_of(worn, pick) {
-            Some(node) => Synced::WornOut(node),
+        match self.first_exhausted_of(exhausted, pick) {
+            Some(node) => Synced::Exhausted(node),
             None => Synced::NotReady,
         }
     }
@@ -317,15 +319,15 @@ impl Transfers {
         None
     }
 
-    /// A sync of a handle that doesn't wait; `worn` has a flag for each node whose numbers are worn out. The first of
+    /// A sync of a handle that doesn't wait; `exhausted` has a flag for each node whose numbers are exhausted out. The first of
     /// these that applies: `Ok` for the invalid handle; `BadHandle` where no operation and no region that stands has
     /// the number; `NotYours` where it belongs to another thread; `Ok` where the operation is complete, or all those of
-    /// the region are, and their records go; `WornOut` with the smallest worn-out node to which a chunk is unissued;
+    /// the region are, and their records go; `Exhausted` with the smallest exhausted-out node to which a chunk is unissued;
     /// else `NotReady`. (GASNet 1.8.1 extended API, gasnet_try_syncnb.)
-    pub fn try_sync(&mut self, worn: &[bool], thread: u16, handle: Handle) -> Synced
-        requires { length worn.now ≤ 65536 }
+    pub fn try_sync(&mut self, exhausted: &[bool], thread: u16, handle: Handle) -> Synced
+        requires { length exhausted.now ≤ 65536 }
         ensures answer { (operations : List Operation) → Stands self.old operations
-            → result ≡ handle_answer (flag_at worn.now) thread handle.serial operations }
+            → result ≡ handle_answer (flag_at exhausted.now) thread handle.serial operations }
         ensures stands { (operations : List Operation) → Stands self.old operations
             → Stands self.new (after_handle result handle.serial operations) }
         ensures room { room_of self.new ≡ room_of self.old }
@@ -337,21 +339,26 @@ impl Transfers {
         self.mark_members(handle.serial, &mut marks);
         match self.fault(thread, &marks) {
             Some(fault) => fault,
-            None => self.sync_marked(worn, &marks),
+            None => self.sync_marked(exhausted, &marks),
         }
     }
 
-    /// A sync of the thread's implicit operations outside regions that doesn't wait: `Ok`, `WornOut` or `NotReady`, as
+    /// A sync of the thread's implicit operations outside regions that doesn't wait: `Ok`, `Exhausted` or `NotReady`, as
     /// with `try_sync`. (GASNet 1.8.1 extended API, gasnet_try_syncnbi_all and its like.)
-    pub fn try_sync_implicit(&mut self, worn: &[bool], thread: u16, which: Some3) -> Synced
-        requires { length worn.now ≤ 65536 }
+    pub fn try_sync_implicit(
+        &mut self,
+        exhausted: &[bool],
+        thread: u16,
+        which: ImplicitKinds,
+    ) -> Synced
+        requires { length exhausted.now ≤ 65536 }
         ensures answer { (operations : List Operation) → Stands self.old operations
-            → result ≡ implicit_answer (flag_at worn.now) thread which operations }
+            → result ≡ implicit_answer (flag_at exhausted.now) thread which operations }
         ensures stands { (operations : List Operation) → Stands self.old operations
             → Stands self.new (left_by result (implicit_of thread which) operations) }
         ensures room { room_of self.new ≡ room_of self.old }
     {
-        self.sync_picked(worn, Pick::Implicit { thread, which })
+        self.sync_picked(exhausted, Pick::Implicit { thread, which })
     }
 }
 
@@ -404,12 +411,12 @@ impl Transfers {
     }
 
     /// A sync of all of these handles that doesn't wait. The first of them that is `BadHandle` or `NotYours` decides;
-    /// then it is `Ok` where all are complete or invalid, and their records go; then `WornOut`, then `NotReady`, over
+    /// then it is `Ok` where all are complete or invalid, and their records go; then `Exhausted`, then `NotReady`, over
     /// all of them. Nothing changes unless it is `Ok` (profile). (GASNet 1.8.1 extended API, gasnet_try_syncnb_all.)
-    pub fn try_sync_all(&mut self, worn: &[bool], thread: u16, handles: &[Handle]) -> Synced
-        requires { length worn.now ≤ 65536 }
+    pub fn try_sync_all(&mut self, exhausted: &[bool], thread: u16, handles: &[Handle]) -> Synced
+        requires { length exhausted.now ≤ 65536 }
         ensures answer { (operations : List Operation) → Stands self.old operations
-            → result ≡ all_answer (flag_at worn.now) thread handles.now operations }
+            → result ≡ all_answer (flag_at exhausted.now) thread handles.now operations }
         ensures stands { (operations : List Operation) → Stands self.old operations
             → Stands self.new (left_by result (members_of handles.now operations) operations) }
         ensures room { room_of self.new ≡ room_of self.old }
@@ -419,7 +426,7 @@ impl Transfers {
             None => {
                 let mut marks = [false; 256];
                 self.mark_all(handles, &mut marks);
-                self.sync_marked(worn, &marks)
+                self.sync_marked(exhausted, &marks)
             }
         }
     }
@@ -492,10 +499,10 @@ impl Transfers {
     }
 
     /// A sync of those of these handles that are complete, where none has a fault.
-    fn sync_some(&mut self, worn: &[bool], handles: &[Handle]) -> Synced
-        requires { length worn.now ≤ 65536 }
+    fn sync_some(&mut self, exhausted: &[bool], handles: &[Handle]) -> Synced
+        requires { length exhausted.now ≤ 65536 }
         ensures answer { (operations : List Operation) → Stands self.old operations
-            → result ≡ some_here (flag_at worn.now) handles.now operations }
+            → result ≡ some_here (flag_at exhausted.now) handles.now operations }
         ensures stands { (operations : List Operation) → Stands self.old operations
             → Stands self.new (left_by result (whole_of handles.now operations) operations) }
         ensures room { room_of self.new ≡ room_of self.old }
@@ -507,8 +514,8 @@ impl Transfers {
             return Synced::Ok;
         }
         self.mark_all(handles, &mut marks);
-        match self.first_worn(worn, &marks) {
-            Some(node) => Synced::WornOut(node),
+        match self.first_exhausted(exhausted, &marks) {
+            Some(node) => Synced::Exhausted(node),
             None => Synced::NotReady,
         }
     }
@@ -516,17 +523,17 @@ impl Transfers {
     /// A sync of some of these handles that doesn't wait: as `try_sync_all`, but `Ok` where all are invalid or at least
     /// one is complete, and the records of those that are complete go. (GASNet 1.8.1 extended API,
     /// gasnet_try_syncnb_some.)
-    pub fn try_sync_some(&mut self, worn: &[bool], thread: u16, handles: &[Handle]) -> Synced
-        requires { length worn.now ≤ 65536 }
+    pub fn try_sync_some(&mut self, exhausted: &[bool], thread: u16, handles: &[Handle]) -> Synced
+        requires { length exhausted.now ≤ 65536 }
         ensures answer { (operations : List Operation) → Stands self.old operations
-            → result ≡ some_answer (flag_at worn.now) thread handles.now operations }
+            → result ≡ some_answer (flag_at exhausted.now) thread handles.now operations }
         ensures stands { (operations : List Operation) → Stands self.old operations
             → Stands self.new (left_by result (whole_of handles.now operations) operations) }
         ensures room { room_of self.new ≡ room_of self.old }
     {
         match self.first_fault(thread, handles) {
             Some(fault) => fault,
-            None => self.sync_some(worn, handles),
+            None => self.sync_some(exhausted, handles),
         }
     }
 }

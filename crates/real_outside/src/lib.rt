@@ -1,4 +1,4 @@
-//! The real ones of the traits of `gas_outside`: a link over a UDP socket, a clock of the system, a gate that watches
+//! The real ones of the traits of `gas_outside`: a link over a UDP socket, a clock of the system, a waiter that watches
 //! the link's socket, and a spawner of processes.
 //!
 //! `Hosts` has the addresses of a job's nodes. A link receives what comes from these addresses alone.
@@ -11,7 +11,7 @@
 //!   (`IsLoss`).
 //! - `Hosts`: the address of the node of a rank (`IsAddress`), and which node is the peer at an address (`FindsPeer`).
 //! - `SystemClock` meets `Clock` [`asked`, `said`]: it counts how often it was asked, and tells what it said last.
-//! - `SocketGate` meets `Gate`, which promises nothing.
+//! - `SocketWaiter` meets `Waiter`, which promises nothing.
 //! - `ProcessSpawner` meets `Spawner` [`output`, `later`, `cause`]: where a child ended, bytes within the limit were
 //!   appended; after another answer nothing was; its count of faults never falls, and `Failed` comes only where that
 //!   count rose, or stands at its last value.
@@ -21,7 +21,7 @@
 //!
 //! `ChildEnds` keeps how the children of a spawner ended; nothing is proved of it.
 //!
-//! What the link, the clock and the spawner do with the system is tested in `outside_tests`, and the gate by the nodes
+//! What the link, the clock and the spawner do with the system is tested in `outside_tests`, and the waiter by the nodes
 //! of the program that `tools/rows` runs.
 #![tactic(auto)]
 
@@ -34,7 +34,7 @@ mod link_fault;
 mod link_socket;
 mod output;
 mod process_spawner;
-mod socket_gate;
+mod socket_waiter;
 mod system_clock;
 mod udp_link;
 
@@ -43,6 +43,6 @@ pub use hosts::Hosts;
 pub use link_fault::LinkFault;
 pub use link_socket::LinkSocket;
 pub use process_spawner::ProcessSpawner;
-pub use socket_gate::SocketGate;
+pub use socket_waiter::SocketWaiter;
 pub use system_clock::SystemClock;
 pub use udp_link::UdpLink;

@@ -5,7 +5,7 @@ use std::net::{SocketAddr, UdpSocket};
 use std::sync::OnceLock;
 use std::sync::atomic::{AtomicU64, Ordering};
 
-/// Where a link keeps its socket, once it is bound, so that a gate can watch it.
+/// Where a link keeps its socket, once it is bound, so that a waiter can watch it.
 #[derive(Drop)]
 pub struct LinkSocket {
     socket: OnceLock<UdpSocket>,

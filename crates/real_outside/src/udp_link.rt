@@ -33,7 +33,7 @@ const RECEIVE_BYTES: i32 = 4_194_304;
 ///
 /// A datagram that the socket can't take now is lost, and so is one to a port that isn't open yet. Any other error of
 /// the system is a fault. The link can be bound once; a call before, and a second `bind`, is a fault. So is each call
-/// once nobody reads standard output any more, which the gate notes. It tells what it was bound to, and nothing of
+/// once nobody reads standard output any more, which the waiter notes. It tells what it was bound to, and nothing of
 /// datagrams.
 #[derive(Drop)]
 pub struct UdpLink<'a, R: Net> {

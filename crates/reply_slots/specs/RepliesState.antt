@@ -4,7 +4,7 @@ use Rattle.std.specs.Prelude.{slice_get, IfSome, IsSomeAnd, option_and_then, cou
 use Rattle.std.proofs.Math.ListN.{replicate}
 use Rattle.lists.specs.Update.{update}
 use Rattle.reply_slots.specs.declared.Judged.{Judged}
-use Rattle.reply_slots.specs.declared.Judged.TheVariants.{New, Again, Stale}
+use Rattle.reply_slots.specs.declared.Judged.TheVariants.{New, Duplicate, Stale}
 pub use Rattle.slot_table.specs.TableState.{counts_of, refill}
 
 -- a slot of one peer
@@ -66,7 +66,7 @@ sealed len (Kept number message) = Kept number message
 -- how a request's number stands to the last number of the slot
 abbrev pub Judges : ReplyState → ℕ → Judged → Type 0
 Judges state number New = last_number state < number
-Judges state number Again = number ≡ last_number state
+Judges state number Duplicate = number ≡ last_number state
 Judges state number Stale = number < last_number state
 
 -- a slot of a node, if there is one

@@ -28,12 +28,12 @@ use Rattle.named_barrier.specs.declared.answer.BarrierAnswer.TheVariants as barr
 use Rattle.access_region.specs.Regions.{has_begun}
 use Rattle.put_get.specs.Syncs.{members_of, whole_of, left_by, after_handle, implicit_of}
 use Rattle.put_get.specs.declared.operation.Handle.{Handle}
-use Rattle.put_get.specs.declared.operation.Some3.{Some3}
+use Rattle.put_get.specs.declared.operation.ImplicitKinds.{ImplicitKinds}
 use Rattle.put_get.specs.declared.operation.Synced.{Synced}
 use Rattle.put_get.specs.declared.operation.Synced.TheVariants as synced
 use Rattle.node_record.specs.Record.{Node}
 use Rattle.node_record.specs.Behaviour.{Behaviour, Ask, Asking}
-use Rattle.node_record.specs.Step.{Site, request_answer, after_request, with_local, is_worn_out}
+use Rattle.node_record.specs.Step.{Site, request_answer, after_request, with_local, is_exhausted}
 use Rattle.node_record.specs.NodeStep.{site_of, node_answer, node_after}
 use Rattle.node_record.specs.declared.answer.Asked.{Asked}
 use Rattle.node_record.specs.declared.answer.Asked.TheVariants as asked
@@ -104,7 +104,7 @@ asked_leaves site node now ask asked.Ran e = absurd (true≢false (sym e))
 asked_leaves site node now ask (asked.BadArg part) e = refl
 asked_leaves site node now ask (asked.Forbidden forbidden) e = absurd (true≢false (sym e))
 asked_leaves site node now ask (asked.LockBusy lock) e = refl
-asked_leaves site node now ask asked.WornOut e = refl
+asked_leaves site node now ask asked.Exhausted e = refl
 asked_leaves site node now ask asked.NotYet e = refl
 
 request_leaves : (place : TryContext) (node : Node EndpointLocal) (to : ℕ) (what : Asking)
@@ -163,7 +163,7 @@ synced_leaves local left synced.Ok not_ready e = absurd (true≢false (sym e))
 synced_leaves local left synced.NotReady not_ready e = not_ready
 synced_leaves local left synced.NotYours not_ready e = absurd (true≢false (sym e))
 synced_leaves local left synced.BadHandle not_ready e = absurd (true≢false (sym e))
-synced_leaves local left (synced.WornOut node) not_ready e = absurd (true≢false (sym e))
+synced_leaves local left (synced.Exhausted node) not_ready e = absurd (true≢false (sym e))
 
 -- a handle that isn't ready leaves the operations
 handle_leaves : (handle : ℕ) (local : EndpointLocal)
@@ -195,7 +195,7 @@ transfer_leaves place node call may e =
       settings = place.settings;
       me = place.me;
       thread = place.thread;
-      worn = is_worn_out place.settings node;
+      exhausted = is_exhausted place.settings node;
     } in
     ap (with_local node)
     (judged_leaves behaviour place.thread (behaviour.judges place.thread (transfer_kind call) node.local) node.local
@@ -238,7 +238,7 @@ sync_some_waits registers = record {
       }) _ refl e;
 }
 
-sync_implicit_waits : (some : Some3) → MayWait (SyncImplicit some)
+sync_implicit_waits : (some : ImplicitKinds) → MayWait (SyncImplicit some)
 sync_implicit_waits some = record {
   leaves = λ caller local e.
       implicit_leaves (has_begun local.regions caller.thread) local _
@@ -271,7 +271,7 @@ tried_leaves kept barrier.Mismatch e = absurd (true≢false (sym e))
 tried_leaves kept barrier.NotReady e = refl
 tried_leaves kept barrier.NoNotify e = absurd (true≢false (sym e))
 tried_leaves kept barrier.BadFlags e = absurd (true≢false (sym e))
-tried_leaves kept (barrier.WornOut node) e = absurd (true≢false (sym e))
+tried_leaves kept (barrier.Exhausted node) e = absurd (true≢false (sym e))
 
 barrier_leaves : (place : TryContext) (node : Node EndpointLocal) (id : ℤ) (flags : ℕ)
     → Leaves is_not_ready place node (Performs (OnBarrier (TryBarrier id flags)))
@@ -281,7 +281,7 @@ barrier_leaves place node id flags e =
       settings = place.settings;
       me = place.me;
       thread = place.thread;
-      worn = is_worn_out place.settings node;
+      exhausted = is_exhausted place.settings node;
     } in
     ap (with_local node)
     (judged_leaves behaviour place.thread (behaviour.judges place.thread kinds.Barrier node.local) node.local

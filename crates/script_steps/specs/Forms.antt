@@ -71,7 +71,7 @@ is_not_ready (answers.Synced synced.NotReady) = true
 is_not_ready (answers.Barrier barrier.NotReady) = true
 is_not_ready _ = false
 
--- ---- answers that end a step which looks at the own node
+-- ---- answers that end a step which looks at the local node
 
 -- ok, where the cell that was read is at least the value
 abbrev pub reached : (value : ℤ) → Answer → Option ScriptAnswer

@@ -2,7 +2,7 @@
 //!
 //! `run_node` binds a node's link, and runs the node's threads over it until an end. It writes the trace of what they do
 //! as it grows, by `TraceSink`, which takes each entry under the threads' lock. It knows of the node's machine, link,
-//! clock, gate and sink what their traits promise, and no more.
+//! clock, waiter and sink what their traits promise, and no more.
 //!
 //! What is proved, by the names of clauses (in `src/`) and definitions (in `specs/`):
 //!

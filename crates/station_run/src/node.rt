@@ -7,7 +7,7 @@ ghost use Rattle.station_run.specs.NodeRuns.{RunsSome, Runs, Finishes, opening_o
 
 use crate::recorder::TraceSink;
 use endpoint_lock::{End, Ended, Recorder, Station, Unmade, run_threads};
-use gas_outside::{BufferedSink, Clock, Gate, Link, LinkAnswer, Sink, Wrote};
+use gas_outside::{BufferedSink, Clock, Link, LinkAnswer, Sink, Waiter, Wrote};
 use gasnet_trace::print_head;
 use machine::Machine;
 use std::alloc::Global;
@@ -60,8 +60,8 @@ fn run_bound<
     L: Link + Send,
     C: Clock + Send,
     D: Recorder + Send,
-    G: Gate + Sync,
->(rt: &R, alloc: Global, node: Node<M, L, C>, recorder: D, gate: &G) -> Ended<M, L, C, D>
+    G: Waiter + Sync,
+>(rt: &R, alloc: Global, node: Node<M, L, C>, recorder: D, waiter: &G) -> Ended<M, L, C, D>
     requires { 1 ≤ node.patience }
     ensures { Leaves M.Machine L.Link C.Clock D.Recorder (opening_over node.link recorder node) result }
 {
@@ -74,7 +74,7 @@ fn run_bound<
     } = node;
     let threads = machine.threads();
     match Station::new(alloc, machine, link, clock, recorder, patience) {
-        Ok(station) => run_threads(rt, alloc, station, threads, gate),
+        Ok(station) => run_threads(rt, alloc, station, threads, waiter),
         Err(
             Unmade {
                 machine,
@@ -99,8 +99,8 @@ fn run_to_end<
     L: Link + Send,
     C: Clock + Send,
     D: Recorder + Send,
-    G: Gate + Sync,
->(rt: &R, alloc: Global, node: Node<M, L, C>, recorder: D, gate: &G) -> Ended<M, L, C, D>
+    G: Waiter + Sync,
+>(rt: &R, alloc: Global, node: Node<M, L, C>, recorder: D, waiter: &G) -> Ended<M, L, C, D>
     requires { 1 ≤ node.patience }
     ensures { RunsSome M.Machine L.Link C.Clock D.Recorder node recorder result }
 {
@@ -121,7 +121,7 @@ fn run_to_end<
                 clock,
                 patience,
             };
-            run_bound(rt, alloc, bound, recorder, gate)
+            run_bound(rt, alloc, bound, recorder, waiter)
         }
         LinkAnswer::Failed => Ended {
             machine,
@@ -179,13 +179,13 @@ pub fn run_node<
     M: Machine + Send,
     L: Link + Send,
     C: Clock + Send,
-    G: Gate + Sync,
+    G: Waiter + Sync,
     K: Sink + Send,
 >(
     rt: &R,
     alloc: Global,
     node: Node<M, L, C>,
-    gate: &G,
+    waiter: &G,
     sink: BufferedSink<K>,
 ) -> NodeRun<M, L, C, K>
     requires { 1 ≤ node.patience }
@@ -220,5 +220,5 @@ pub fn run_node<
             };
         }
     }
-    write_end(run_to_end(rt, alloc, node, TraceSink::over(sink), gate))
+    write_end(run_to_end(rt, alloc, node, TraceSink::over(sink), waiter))
 }

@@ -13,7 +13,7 @@ use Rattle.handler_rules.specs.declared.rules.Forbidden.{Forbidden}
 use Rattle.put_get.specs.declared.operation.Transfer.{Transfer}
 use Rattle.put_get.specs.Operation.{Operation, begin_answer, is_full}
 use Rattle.node_record.specs.Record.{Node}
-use Rattle.node_record.specs.Step.{is_worn_out}
+use Rattle.node_record.specs.Step.{is_exhausted}
 use Rattle.access_region.specs.Regions.{has_begun}
 use Rattle.hsl_locks.specs.declared.answer.Held.{Held}
 use Rattle.am_core.specs.Kept.{Local, segment_of}
@@ -53,7 +53,7 @@ caller_at site node thread = record {
   settings = site.settings;
   me = site.node;
   thread = thread;
-  worn = is_worn_out site.settings node;
+  exhausted = is_exhausted site.settings node;
 }
 
 allowed : (site : Site) (thread : ℕ) (verdict : Result (Unit {0}) Forbidden) (local : EndpointLocal)
@@ -394,7 +394,7 @@ begun_are_under_way site node asked same plan other =
         subst (λ operations. Holds operations (begun_pieces asked answer)) opened.operations
         (subst (λ v. Holds behind.local.operations (begun_pieces asked v)) (sym is) (by_first refused refl opened))
 
--- ---- the own node
+-- ---- the local node
 
 -- the judgement depends on the locks alone
 judged_by_locks : (site : Site) (one other : Node EndpointLocal) (thread : ℕ) (kind : CallKind)

@@ -101,7 +101,7 @@ IsWithin way pairs write =
 abbrev pub request_of_chunk : (node : ℕ) → Next → (number : ℕ) → Named
 request_of_chunk node chunk number = named node (target chunk.transfer) number
 
--- The chunk put the pair: a tick issued it while the own byte was this; its request ran exactly once, and wrote that
+-- The chunk put the pair: a tick issued it while the local byte was this; its request ran exactly once, and wrote that
 -- byte to the place at the target. What it wrote lies where the pairs are written
 pub record PairPut (job : EndpointJob) (stretch : Stretch) (node : ℕ) (chunk : Next) (pairs : List Pair) (pair : Pair)
     : Type 0 where
@@ -117,7 +117,7 @@ pub record PairPut (job : EndpointJob) (stretch : Stretch) (node : ℕ) (chunk :
   pub within : IsWithin Put pairs write
 
 -- The chunk got the pair: a tick issued it; its request ran exactly once, while the target's byte was this; its reply
--- came back exactly once, and wrote that byte to the own place. What it wrote lies where the pairs are written
+-- came back exactly once, and wrote that byte to the local place. What it wrote lies where the pairs are written
 pub record PairGot (job : EndpointJob) (stretch : Stretch) (node : ℕ) (chunk : Next) (pairs : List Pair) (pair : Pair)
     : Type 0 where
   pub number : ℕ
@@ -179,7 +179,7 @@ BegunAreUnderWay =
     (answers_at site (node_then site node (on_transfers asked.thread RegionBegin))
     (beginnings asked.plan asked.thread (begun_pieces asked (vis_answer site node asked))))
 
--- the writes of the own segment behind the beginnings of pieces, where it had these before: each piece adds what the
+-- the writes of the local segment behind the beginnings of pieces, where it had these before: each piece adds what the
 -- segment has then
 abbrev pub copied : Parameters → PlanState → List Piece → List Write → List Write
 copied settings plan [] writes = writes

@@ -7,7 +7,7 @@ ghost use Rattle.strided_laws.specs.StridedLaws.{BegunAreUnderWay, OwnIsCopied, 
 pub fn every_plan()
     // The pieces that a beginning tells as begun, of a plan for another node, are under way.
     ensures begun { BegunAreUnderWay }
-    // Each piece of a plan for the own node was copied in the calls, in their order.
+    // Each piece of a plan for the local node was copied in the calls, in their order.
     ensures own { OwnIsCopied }
     // In every run of a job with settings in range and lawful handlers.
     ensures laws { InEveryJob StridedHolds }

@@ -32,5 +32,5 @@ uncounted outside = record {
   link = outside.link;
   spawner = outside.spawner;
   clock = outside.clock;
-  gate = outside.gate;
+  waiter = outside.waiter;
 }

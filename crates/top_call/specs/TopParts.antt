@@ -181,7 +181,7 @@ with_sink outside sink = record {
   link = outside.link;
   spawner = outside.spawner;
   clock = outside.clock;
-  gate = outside.gate;
+  waiter = outside.waiter;
 }
 
 -- the outside is the other one, over a sink that gathers before its sink and holds back nothing

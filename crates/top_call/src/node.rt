@@ -16,7 +16,7 @@ use crate::ports::has_ports;
 use crate::reading::job_from;
 use crate::status::say;
 use gas_endpoint::Endpoint;
-use gas_outside::{BufferedSink, Clock, Gate, Link, Sink, Source};
+use gas_outside::{BufferedSink, Clock, Link, Sink, Source, Waiter};
 use job_text::Job;
 use node_call::{Devices, NodeEnd, NodeOf, NodeRan, run_job_node};
 use node_script::Script;
@@ -91,7 +91,7 @@ fn say_unrun<K: Sink, L, C, G>(
     let Devices {
         link,
         clock,
-        gate: _,
+        waiter: _,
     } = devices;
     let mut sink = sink;
     let ended = say(&mut sink, end, Given::nothing());
@@ -108,7 +108,7 @@ fn run_read<
     R: Threads + Wait + Sync,
     L: Link + Send,
     C: Clock + Send,
-    G: Gate + Sync,
+    G: Waiter + Sync,
     K: Sink + Send,
 >(
     rt: &R,
@@ -167,7 +167,7 @@ pub fn node_command<
     L: Link + Send,
     P,
     C: Clock + Send,
-    G: Gate + Sync,
+    G: Waiter + Sync,
 >(
     rt: &R,
     alloc: Global,
@@ -187,7 +187,7 @@ pub fn node_command<
         link,
         spawner,
         clock,
-        gate,
+        waiter,
     } = outside;
     let mut source = source;
     match job_from(alloc, &mut source) {
@@ -195,7 +195,7 @@ pub fn node_command<
             let devices = Devices {
                 link,
                 clock,
-                gate: &gate,
+                waiter: &waiter,
             };
             let NodeEnded {
                 ended,
@@ -211,7 +211,7 @@ pub fn node_command<
                     link,
                     spawner,
                     clock,
-                    gate,
+                    waiter,
                 },
             )
         }
@@ -226,7 +226,7 @@ pub fn node_command<
                     link,
                     spawner,
                     clock,
-                    gate,
+                    waiter,
                 },
             )
         }

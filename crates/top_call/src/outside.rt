@@ -14,6 +14,6 @@ pub struct Outside<S, K, L, P, C, G> {
     pub spawner: P,
     /// The clock of a node.
     pub clock: C,
-    /// The gate that a node's threads pass before each turn.
-    pub gate: G,
+    /// The waiter that a node's threads pass before each turn.
+    pub waiter: G,
 }

@@ -12,7 +12,7 @@ ghost use Rattle.top_call.specs.TopCall.{IsComplete, LeavesAlone, StatusMeans};
 use crate::outside::Outside;
 use crate::standard::{ReaderSource, WriterSink};
 use crate::top::gasnet;
-use gas_outside::{Clock, Gate, Link, Spawner};
+use gas_outside::{Clock, Link, Spawner, Waiter};
 use launch_run::Notes;
 use std::alloc::{AllocError, Global};
 use std::env::Args;
@@ -32,7 +32,7 @@ pub fn run_streams<
     L: Link + Send,
     P: Spawner,
     C: Clock + Send,
-    G: Gate + Sync,
+    G: Waiter + Sync,
     N: Notes,
 >(
     rt: &H,
@@ -62,7 +62,7 @@ pub fn run_streams<
         link,
         spawner,
         clock,
-        gate,
+        waiter,
     } = streams;
     let outside = Outside {
         source: ReaderSource::new(source),
@@ -70,7 +70,7 @@ pub fn run_streams<
         link,
         spawner,
         clock,
-        gate,
+        waiter,
     };
     let (status, after) = gasnet(rt, alloc, words, outside, notes);
     (ExitCode::from(status.into_code()), after)

@@ -12,7 +12,7 @@ use crate::node::{AskedNode, node_command};
 use crate::outside::Outside;
 use crate::words::{Command, asked};
 use gas_endpoint::Endpoint;
-use gas_outside::{BufferedSink, Clock, Gate, Link, Sink, Source, Spawner, Wrote};
+use gas_outside::{BufferedSink, Clock, Link, Sink, Source, Spawner, Waiter, Wrote};
 use gas_world::World;
 use launch_run::Notes;
 use std::alloc::Global;
@@ -73,7 +73,7 @@ fn gathering<S, K: Sink, L, P, C, G>(
         link,
         spawner,
         clock,
-        gate,
+        waiter,
     } = outside;
     Outside {
         source,
@@ -81,7 +81,7 @@ fn gathering<S, K: Sink, L, P, C, G>(
         link,
         spawner,
         clock,
-        gate,
+        waiter,
     }
 }
 
@@ -98,7 +98,7 @@ fn closed<S, K: Sink, L, P, C, G>(
         link,
         spawner,
         clock,
-        gate,
+        waiter,
     } = gathering;
     let mut sink = sink;
     let Ended { end, given } = flushed(&mut sink, ended);
@@ -115,7 +115,7 @@ fn closed<S, K: Sink, L, P, C, G>(
             link,
             spawner,
             clock,
-            gate,
+            waiter,
         },
     )
 }
@@ -210,7 +210,7 @@ pub fn gasnet<
     L: Link + Send,
     P: Spawner,
     C: Clock + Send,
-    G: Gate + Sync,
+    G: Waiter + Sync,
     N: Notes,
 >(
     rt: &R,

@@ -9,7 +9,7 @@ use Rattle.handler_rules.specs.declared.message.Which.{Which}
 use Rattle.handler_rules.specs.Runs.{Meaning}
 use Rattle.lists.proofs.Put.{put_same}
 use Rattle.node_record.specs.Record.{Node}
-use Rattle.node_record.specs.Step.{is_worn_out}
+use Rattle.node_record.specs.Step.{is_exhausted}
 use Rattle.node_record.specs.NodeStep.{OfCall}
 use Rattle.plain_world.specs.World.{WorldAnswer, OfNode, world_answer, world_after}
 use Rattle.put_get.specs.declared.operation.Handle.{Handle}
@@ -36,7 +36,7 @@ use Rattle.transfer_laws.specs.TransferLaws.{IsBeginning, called}
 -- a thread of the node, as a caller
 abbrev pub caller_of : Parameters → Records → (node thread : ℕ) → Caller
 caller_of settings world node thread =
-    record { settings = settings; me = node; thread = thread; worn = is_worn_out settings (world node) }
+    record { settings = settings; me = node; thread = thread; exhausted = is_exhausted settings (world node) }
 
 -- what a call on transfers answers and leaves, in the job
 abbrev pub does_there : Parameters → List (Option Entry) → Meaning → Records → (node thread : ℕ) → TransferCall

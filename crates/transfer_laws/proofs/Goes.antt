@@ -18,7 +18,7 @@ use Rattle.plain_world.specs.World.{Timed, Event, OfNode, world_answer, world_af
 use Rattle.put_get.specs.declared.operation.Handle.{Handle}
 use Rattle.put_get.specs.declared.operation.Mode.{Mode}
 use Rattle.put_get.specs.declared.operation.Mode.TheVariants.{Explicit}
-use Rattle.put_get.specs.declared.operation.Some3.{Some3}
+use Rattle.put_get.specs.declared.operation.ImplicitKinds.{ImplicitKinds}
 use Rattle.put_get.specs.declared.operation.Synced.{Synced}
 use Rattle.put_get.specs.declared.operation.Synced.TheVariants as synced
 use Rattle.put_get.specs.declared.operation.Transfer.{Transfer}
@@ -48,14 +48,14 @@ use Rattle.endpoint_rules.proofs.Syncing.{sync_all, bad_handle, not_yours}
 -- ---- a sync of operations that answers Ok
 
 -- none is another thread's, and all are complete
-members_say : (worn : ℕ → Bool) (thread : ℕ) (operations : List Operation)
-    → members_answer worn thread operations ≡ synced.Ok
+members_say : (exhausted : ℕ → Bool) (thread : ℕ) (operations : List Operation)
+    → members_answer exhausted thread operations ≡ synced.Ok
     → (list_any (is_other thread) operations ≡ false) × (list_all is_complete operations ≡ true)
-members_say worn thread operations e = elim (cases_Bool (is_empty operations)) [
+members_say exhausted thread operations e = elim (cases_Bool (is_empty operations)) [
   | inl none ↦ absurd (bad_handle (rw none at e))
   | inr some ↦ elim (cases_Bool (list_any (is_other thread) operations)) [
     | inl foreign ↦ absurd (not_yours (rw (some, foreign) at e))
-    | inr own ↦ (own, sync_all worn operations (rw (some, own) at e))
+    | inr own ↦ (own, sync_all exhausted operations (rw (some, own) at e))
   ]
 ]
 
@@ -147,16 +147,16 @@ own_at thread choice operations (suc place) operation none at is =
 
 -- ---- a sync of a handle
 
-handle_over : (worn : ℕ → Bool) (thread handle : ℕ) (operations : List Operation) (number : ℕ) (operation : Operation)
-    → handle_answer worn thread handle operations ≡ synced.Ok
+handle_over : (exhausted : ℕ → Bool) (thread handle : ℕ) (operations : List Operation) (number : ℕ) (operation : Operation)
+    → handle_answer exhausted thread handle operations ≡ synced.Ok
     → numbered operations number ≡ Some operation → members_by handle operations number operation ≡ true
     → IsOver (after_handle synced.Ok handle operations) thread number operation
-handle_over worn thread handle operations number operation ok at is =
+handle_over exhausted thread handle operations number operation ok at is =
     let both = and_parts (not (handle == 0)) (members handle operations number operation) is in
     let valid : (handle == 0) ≡ false = not-true (handle == 0) both.0 in
-    let said : members_answer worn thread (chosen (members handle operations) 1 operations)
+    let said : members_answer exhausted thread (chosen (members handle operations) 1 operations)
     ≡ synced.Ok = rw valid at ok in
-    let it = members_say worn thread (chosen (members handle operations) 1 operations) said in
+    let it = members_say exhausted thread (chosen (members handle operations) 1 operations) said in
     rw valid (chosen_over thread (members handle operations) operations number operation it.0 it.1 at both.1)
 
 -- ---- lists of handles
@@ -257,11 +257,11 @@ whole_complete operations number operation (handle ∷ later) at any =
       | inr not_here ↦ whole_complete operations number operation later at (rw not_here at any)
     ]
 
-all_over : (worn : ℕ → Bool) (thread : ℕ) (handles : List Handle) (operations : List Operation) (number : ℕ)
-    (operation : Operation) → all_answer worn thread handles operations ≡ synced.Ok
+all_over : (exhausted : ℕ → Bool) (thread : ℕ) (handles : List Handle) (operations : List Operation) (number : ℕ)
+    (operation : Operation) → all_answer exhausted thread handles operations ≡ synced.Ok
     → numbered operations number ≡ Some operation → members_of handles operations number operation ≡ true
     → IsOver (left_by synced.Ok (members_of handles operations) operations) thread number operation
-all_over worn thread handles operations number operation ok at is =
+all_over exhausted thread handles operations number operation ok at is =
     let it = without_fault (fault_of thread operations handles) _ (fault_not_ok thread operations handles) ok in
     known_over thread (members_of handles operations) operations number operation
     (listed_own thread operations number operation _ handles at
@@ -269,13 +269,13 @@ all_over worn thread handles operations number operation ok at is =
     here in
     (not-true (handle.serial == 0) both.0, both.1)) it.0 is)
     (complete_at (members_of handles operations) operations number operation
-    (sync_all worn (chosen (members_of handles operations) 1 operations) it.1) at is) at is
+    (sync_all exhausted (chosen (members_of handles operations) 1 operations) it.1) at is) at is
 
-some_over : (worn : ℕ → Bool) (thread : ℕ) (handles : List Handle) (operations : List Operation) (number : ℕ)
-    (operation : Operation) → some_answer worn thread handles operations ≡ synced.Ok
+some_over : (exhausted : ℕ → Bool) (thread : ℕ) (handles : List Handle) (operations : List Operation) (number : ℕ)
+    (operation : Operation) → some_answer exhausted thread handles operations ≡ synced.Ok
     → numbered operations number ≡ Some operation → whole_of handles operations number operation ≡ true
     → IsOver (left_by synced.Ok (whole_of handles operations) operations) thread number operation
-some_over worn thread handles operations number operation ok at is =
+some_over exhausted thread handles operations number operation ok at is =
     let it = without_fault (fault_of thread operations handles) _ (fault_not_ok thread operations handles) ok in
     known_over thread (whole_of handles operations) operations number operation
     (listed_own thread operations number operation _ handles at
@@ -287,11 +287,11 @@ some_over worn thread handles operations number operation ok at is =
     )) it.0 is)
     (whole_complete operations number operation handles at is) at is
 
-implicit_over : (worn : ℕ → Bool) (thread : ℕ) (some : Some3) (operations : List Operation) (number : ℕ)
-    (operation : Operation) → implicit_answer worn thread some operations ≡ synced.Ok
+implicit_over : (exhausted : ℕ → Bool) (thread : ℕ) (some : ImplicitKinds) (operations : List Operation) (number : ℕ)
+    (operation : Operation) → implicit_answer exhausted thread some operations ≡ synced.Ok
     → numbered operations number ≡ Some operation → implicit_of thread some number operation ≡ true
     → IsOver (left_by synced.Ok (implicit_of thread some) operations) thread number operation
-implicit_over worn thread some operations number operation ok at is =
+implicit_over exhausted thread some operations number operation ok at is =
     let one = and_parts (not operation.synced)
     (is_implicit operation.mode && ((operation.thread == thread) && is_kind some operation.transfer)) is in
     let two = and_parts (is_implicit operation.mode) ((operation.thread == thread) && is_kind some operation.transfer)
@@ -300,7 +300,7 @@ implicit_over worn thread some operations number operation ok at is =
     known_over thread (implicit_of thread some) operations number operation
     (eqb-true operation.thread thread three.0)
     (complete_at (implicit_of thread some) operations number operation
-    (sync_all worn (chosen (implicit_of thread some) 1 operations) ok) at is) at is
+    (sync_all exhausted (chosen (implicit_of thread some) 1 operations) ok) at is) at is
 
 -- ---- calls
 
@@ -322,23 +322,23 @@ call_over caller (Sync register) local number operation told at is =
     let handle = (handle_in local.registers register).serial in
     let ok = synced_same _ _ told in
     over_as (λ says. after_handle says handle local.operations) _ caller.thread number operation ok
-    (handle_over caller.worn caller.thread handle local.operations number operation ok at is)
+    (handle_over caller.exhausted caller.thread handle local.operations number operation ok at is)
 call_over caller (SyncHandle handle) local number operation told at is =
     let ok = synced_same _ _ told in
     over_as (λ says. after_handle says handle.serial local.operations) _ caller.thread number operation ok
-    (handle_over caller.worn caller.thread handle.serial local.operations number operation ok at is)
+    (handle_over caller.exhausted caller.thread handle.serial local.operations number operation ok at is)
 call_over caller (SyncAll registers) local number operation told at is =
     let handles = map (handle_in local.registers) registers in
     let ok = synced_same _ _ told in
     over_as (λ says. left_by says (members_of handles local.operations) local.operations) _ caller.thread number
     operation ok
-    (all_over caller.worn caller.thread handles local.operations number operation ok at is)
+    (all_over caller.exhausted caller.thread handles local.operations number operation ok at is)
 call_over caller (SyncSome registers) local number operation told at is =
     let handles = map (handle_in local.registers) registers in
     let ok = synced_same _ _ told in
     over_as (λ says. left_by says (whole_of handles local.operations) local.operations) _ caller.thread number
     operation ok
-    (some_over caller.worn caller.thread handles local.operations number operation ok at is)
+    (some_over caller.exhausted caller.thread handles local.operations number operation ok at is)
 call_over caller (SyncImplicit some) local number operation told at is =
     elim (cases_Bool (has_begun local.regions caller.thread)) [
       | inl inside ↦ absurd (not_synced (rw inside at told))
@@ -346,7 +346,7 @@ call_over caller (SyncImplicit some) local number operation told at is =
           let ok = synced_same _ _ (rw outside at told) in
           over_as (λ says. left_by says (implicit_of caller.thread some) local.operations) _ caller.thread number
           operation ok
-          (implicit_over caller.worn caller.thread some local.operations number operation ok at is))
+          (implicit_over caller.exhausted caller.thread some local.operations number operation ok at is))
     ]
   where
     not_synced : {one : RegionAnswer} → answers.Region one ≡ answers.Synced synced.Ok → ⊥
@@ -403,7 +403,7 @@ done_says None true full next is = refl
 done_says None false true next is = absurd (cc)
 done_says None false false next is = absurd (cc)
 
--- it has no bytes, or its target is the own node; and what is written
+-- it has no bytes, or its target is the local node; and what is written
 record IsOwn (node : ℕ) (transfer : Transfer) (segment : List ℕ) (before after : List Write) : Type 0 where
   own : (size transfer ≡ 0) ⊎ (target transfer ≡ node)
   written : after ≡ before ++ written_at_once segment transfer

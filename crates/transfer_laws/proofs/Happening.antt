@@ -113,7 +113,7 @@ run_step : {Local : Type 0} (behaviour : Behaviour Local) (p q : Plain Local) (n
     → IsRanAnswer b → RunStep behaviour p name b q → RunsFirst behaviour p name b q
 run_step behaviour p q name (delivered.Ran at) says h = h
 run_step behaviour p q name (delivered.Noted at note) says h = h
-run_step behaviour p q name (delivered.Again at) says h = absurd says.1
+run_step behaviour p q name (delivered.Duplicate at) says h = absurd says.1
 run_step behaviour p q name delivered.Stale says h = absurd says.1
 run_step behaviour p q name (delivered.Returned to slot number) says h = absurd says.1
 run_step behaviour p q name delivered.Late says h = absurd says.1
@@ -224,7 +224,7 @@ take_step : {Local : Type 0} (behaviour : Behaviour Local) (p q : Plain Local) (
 take_step behaviour p q name (delivered.Returned to slot number) says h = h
 take_step behaviour p q name (delivered.Ran at) says h = absurd says
 take_step behaviour p q name (delivered.Noted at note) says h = absurd says
-take_step behaviour p q name (delivered.Again at) says h = absurd says
+take_step behaviour p q name (delivered.Duplicate at) says h = absurd says
 take_step behaviour p q name delivered.Stale says h = absurd says
 take_step behaviour p q name delivered.Late says h = absurd says
 take_step behaviour p q name (delivered.Deferred lock) says h = absurd says

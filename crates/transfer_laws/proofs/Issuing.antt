@@ -20,7 +20,7 @@ use Rattle.node_record.specs.Step.{request_slot}
 use Rattle.node_record.specs.NodeStep.{site_of, OfTick}
 use Rattle.plain_world.specs.World.{Event, Ticks, WorldAnswer, OfNode}
 use Rattle.plain_world.specs.Plain.{Plain, Labelled, IsRequest}
-use Rattle.plain_world.specs.PlainStep.{SendsFirst, plain_can_ask, plain_worn_out}
+use Rattle.plain_world.specs.PlainStep.{SendsFirst, plain_can_ask, plain_exhausted}
 use Rattle.raw_segment.specs.Image.{Write}
 use Rattle.plain_world.proofs.PlainGrowing.{pair_same}
 use Rattle.named_barrier.specs.Record.{SentNote}
@@ -344,7 +344,7 @@ step_effect settings table meaning p q e a node (Sends answer event answered fir
     (send_effect settings table meaning node p q answer first))
 step_effect settings table meaning p q e a node (Calls thread call event is) =
     let it = call_effect settings table meaning
-    (record { settings = settings; me = node; thread = thread; worn = plain_worn_out settings p node }) call
+    (record { settings = settings; me = node; thread = thread; exhausted = plain_exhausted settings p node }) call
     (p.local node) in
     evolving settings p q e a node
     (subst (λ (ops : List Operation). Evolves (p.local node).operations ops)

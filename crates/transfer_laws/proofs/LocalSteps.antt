@@ -17,7 +17,7 @@ use Rattle.node_record.specs.NodeStep.{Job, site_of, NodeAnswer, OfRequest, OfCa
 use Rattle.plain_world.specs.World.{Event, Asks, Does, RequestComes, ReplyComes, Ticks, WorldAnswer, OfNode, Unsent}
 use Rattle.plain_world.specs.Plain.{Plain}
 use Rattle.plain_world.specs.PlainStep.{named, AskStep, RunStep, RunsFirst, TakeStep, TickStep, SendsFirst, CallStep}
-use Rattle.plain_world.specs.PlainStep.{NodeStep, UnsentStep, PlainStep, plain_worn_out}
+use Rattle.plain_world.specs.PlainStep.{NodeStep, UnsentStep, PlainStep, plain_exhausted}
 
 -- what the node keeps is as it was; or the event fell there, and left this of it
 pub data LocalStep {Local Call Told : Type 0} (job : Job Local Call Told) (p q : Plain Local) (e : Event Call)
@@ -35,7 +35,7 @@ pub data LocalStep {Local Call Told : Type 0} (job : Job Local Call Told) (p q :
       → LocalStep job p q e a node
   Calls : (thread : ℕ) (call : Call) → e ≡ Does node thread call
       → q.local node
-      ≡ (job.behaviour.does node (plain_worn_out job.settings p node) thread call (p.local node)).1
+      ≡ (job.behaviour.does node (plain_exhausted job.settings p node) thread call (p.local node)).1
       → LocalStep job p q e a node
 
 -- what one node gets
@@ -57,7 +57,7 @@ ask_step : {Local Call Told : Type 0} (job : Job Local Call Told) (p q : Plain L
     → LocalStep job p q e b node
 ask_step job p q i ask e b node (asked.Accepted to label k) h = Same (ap (λ (r : Plain _). r.local node) h.3)
 ask_step job p q i ask e b node asked.NotYet h = unchanged job p q e b node h.3
-ask_step job p q i ask e b node asked.WornOut h = unchanged job p q e b node h.2
+ask_step job p q i ask e b node asked.Exhausted h = unchanged job p q e b node h.2
 ask_step job p q i ask e b node (asked.BadArg part) h = unchanged job p q e b node h.2
 ask_step job p q i ask e b node (asked.LockBusy lock) h = unchanged job p q e b node h.3
 ask_step job p q i ask e b node asked.Ran h =
@@ -93,7 +93,7 @@ first_step job p q from to number e b node a h =
 run_step : {Local Call Told : Type 0} (job : Job Local Call Told) (p q : Plain Local) (from to number : ℕ)
     (e : Event Call) (b : WorldAnswer Told) (node : ℕ) (a : Delivered)
     → RunStep job.behaviour.messages p (named from to number) a q → LocalStep job p q e b node
-run_step job p q from to number e b node (delivered.Again at) h = unchanged job p q e b node h.4
+run_step job p q from to number e b node (delivered.Duplicate at) h = unchanged job p q e b node h.4
 run_step job p q from to number e b node delivered.Stale h = unchanged job p q e b node h.3
 run_step job p q from to number e b node (delivered.Deferred lock) h = unchanged job p q e b node h.3
 run_step job p q from to number e b node a h = first_step job p q from to number e b node a h
@@ -129,7 +129,7 @@ send_step {Call = Call} {Told = Told} job p q i node a h =
 
 tick_step : {Local Call Told : Type 0} (job : Job Local Call Told) (p q : Plain Local) (i node : ℕ) (a : Ticked)
     → TickStep (site_of job i) p a q → LocalStep {Call = Call} {Told = Told} job p q (Ticks i) (OfNode (OfTick a)) node
-tick_step job p q i node (ticked.Resend at) h = unchanged job p q _ _ node h.6
+tick_step job p q i node (ticked.Retransmission at) h = unchanged job p q _ _ node h.6
 tick_step job p q i node ticked.Nothing h = unchanged job p q _ _ node h.1
 tick_step job p q i node a h = send_step job p q i node a h
 
@@ -137,11 +137,11 @@ tick_step job p q i node a h = send_step job p q i node a h
 call_step : {Local Call Told : Type 0} (job : Job Local Call Told) (p q : Plain Local) (e : Event Call)
     (b : WorldAnswer Told) (node : ℕ) (a : Told) → CallStep job p e a q → LocalStep job p q e b node
 call_step job p q (Does i thread call) b node a h =
-    elim (put_local p q i (job.behaviour.does i (plain_worn_out job.settings p i) thread call (p.local i)).1 node
+    elim (put_local p q i (job.behaviour.does i (plain_exhausted job.settings p i) thread call (p.local i)).1 node
     (ap (λ (r : Plain _). r.local) h.1)) [
       | inl same ↦ Same same
       | inr it ↦ Calls thread call (ap (λ j. Does j thread call) (sym it.0))
-          (it.1 ∙ ap (λ j. (job.behaviour.does j (plain_worn_out job.settings p j) thread call (p.local j)).1)
+          (it.1 ∙ ap (λ j. (job.behaviour.does j (plain_exhausted job.settings p j) thread call (p.local j)).1)
           (sym it.0))
     ]
 call_step job p q e b node a h = absurd h

@@ -74,7 +74,7 @@ pub record Writes (job : EndpointJob) (node : ℕ) (write : Write) (moment : End
 
 -- ---- chunks
 
--- a chunk of a transfer of a node, with its ranges: offsets into the own segment and into the target's
+-- a chunk of a transfer of a node, with its ranges: offsets into the local segment and into the target's
 pub record Piece : Type 0 where
   pub node : ℕ
   pub chunk : Next
@@ -98,7 +98,7 @@ pub record Issues (job : EndpointJob) (node : ℕ) (chunk : Next) (number : ℕ)
       IsRequest (plain_of (after_in job moment)) node (target chunk.transfer) number
       (record { content = content; label = slot })
 
--- it is issued, and the own range holds these bytes
+-- it is issued, and the local range holds these bytes
 abbrev pub IssuesBytes : EndpointJob → Piece → (number : ℕ) → (bytes : List ℕ) → EndpointMoment → Type 0
 IssuesBytes job piece number bytes moment =
     Issues job piece.node piece.chunk number moment
@@ -120,7 +120,7 @@ abbrev pub BackWrites : EndpointJob → Piece → (number : ℕ) → Write → E
 BackWrites job piece number write moment =
     ComesBack job (request_of piece number) moment × Writes job piece.node write moment
 
--- a chunk of a put: it was issued with the bytes that the own range held then; its request ran exactly once, and wrote
+-- a chunk of a put: it was issued with the bytes that the local range held then; its request ran exactly once, and wrote
 -- these bytes to the target's range; its reply came back exactly once
 pub record PutDone (job : EndpointJob) (stretch : Stretch) (piece : Piece) : Type 0 where
   pub number : ℕ
@@ -143,7 +143,7 @@ pub record MemsetDone (job : EndpointJob) (stretch : Stretch) (piece : Piece) (b
   pub back : HappensOnceIn job stretch (ComesBack job (request_of piece number))
 
 -- a chunk of a get: it was issued; its request ran exactly once, where the target's range held these bytes at that one
--- moment; its reply came back exactly once, and wrote them to the own range
+-- moment; its reply came back exactly once, and wrote them to the local range
 pub record GetDone (job : EndpointJob) (stretch : Stretch) (piece : Piece) : Type 0 where
   pub number : ℕ
   pub bytes : List ℕ

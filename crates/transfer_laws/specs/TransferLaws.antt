@@ -165,7 +165,7 @@ IsDoneAtOnce (BeginImplicit asked) transfer answer =
     (asked ≡ transfer) × (answer ≡ OfNode (OfCall (answers.Started begun.Done)))
 IsDoneAtOnce call transfer answer = ⊥
 
--- what is written then: nothing, where the transfer has no bytes; else its target is the own node, and its bytes are
+-- what is written then: nothing, where the transfer has no bytes; else its target is the local node, and its bytes are
 -- written as the node's segment had them
 abbrev pub OwnIsDone : EndpointJob → Type 0
 OwnIsDone job =

@@ -14,10 +14,10 @@ ghost use Rattle.transfer_laws.specs.TransferLaws.{InEveryJob, TransfersHold};
 /// `over`: a transfer whose operation is complete or was synchronised is done: each of its chunks was issued by a tick
 /// after the transfer began, with the bytes that the source held then; its request ran exactly once; and its bytes were
 /// written then, and stand where no later write has one (of a get: the bytes that the target's range held at the one
-/// moment when the request ran were written to the own range when its reply came back, which it did once).
+/// moment when the request ran were written to the local range when its reply came back, which it did once).
 /// `synchronised`: so it is of each transfer that a sync which answers Ok synchronises, of whatever form. `goes`: a
 /// sync that answers Ok finds each operation of which it speaks its caller's and complete, and marks it. `own`: a
-/// transfer that is answered Done has no bytes, or was written to the own segment in the call. `cover`: each byte of a
+/// transfer that is answered Done has no bytes, or was written to the local segment in the call. `cover`: each byte of a
 /// range lies in exactly one chunk.
 pub fn every_transfer()
     // The laws hold in every run of a job with settings in range and lawful handlers.

@@ -376,18 +376,18 @@ waits_alike settings version table content held = elim (cases_Bool (content.hand
 -- ---- other calls
 
 calls_alike : (settings : Parameters) (version : ℕ) (table : List (Option Entry)) (meaning : Meaning) (me : ℕ)
-    (worn : ℕ → Bool) (thread : ℕ) (call : OtherCall) (local : EndpointLocal)
-    → (all_rules (in_version settings version) table meaning).does me worn thread call local
-    ≡ (all_rules settings table meaning).does me worn thread call local
-calls_alike settings version table meaning me worn thread (OnCore call) local = by_call call
+    (exhausted : ℕ → Bool) (thread : ℕ) (call : OtherCall) (local : EndpointLocal)
+    → (all_rules (in_version settings version) table meaning).does me exhausted thread call local
+    ≡ (all_rules settings table meaning).does me exhausted thread call local
+calls_alike settings version table meaning me exhausted thread (OnCore call) local = by_call call
   where
     by_call : (call : LocalCall)
-        → (all_rules (in_version settings version) table meaning).does me worn thread (OnCore call) local
-        ≡ (all_rules settings table meaning).does me worn thread (OnCore call) local
+        → (all_rules (in_version settings version) table meaning).does me exhausted thread (OnCore call) local
+        ≡ (all_rules settings table meaning).does me exhausted thread (OnCore call) local
     by_call Poll = refl
     by_call _ = refl
-calls_alike settings version table meaning me worn thread (OnTransfers call) local = refl
-calls_alike settings version table meaning me worn thread (OnBarrier call) local = refl
+calls_alike settings version table meaning me exhausted thread (OnTransfers call) local = refl
+calls_alike settings version table meaning me exhausted thread (OnBarrier call) local = refl
 
 -- ---- all rules
 
@@ -439,5 +439,5 @@ rules_agree version settings table meaning ignores range known few = record {
   next = λ me can local kept. next_alike settings version me can local range known few kept;
   issued = λ contact content local. issued_alike settings version contact content local;
   sends_as = λ content place. sent_alike settings.version version content place;
-  does = λ me worn thread call local. calls_alike settings version table meaning me worn thread call local;
+  does = λ me exhausted thread call local. calls_alike settings version table meaning me exhausted thread call local;
 }

@@ -96,7 +96,7 @@ after_asked v me node now ask (asked.Forbidden forbidden) e =
     ap (with_local (respell_node v.spell node)) (v.agree.notes ask.thread forbidden node.local)
 after_asked v me node now ask (asked.BadArg part) e = refl
 after_asked v me node now ask (asked.LockBusy lock) e = refl
-after_asked v me node now ask asked.WornOut e = refl
+after_asked v me node now ask asked.Exhausted e = refl
 after_asked v me node now ask asked.NotYet e = refl
 
 -- a request of a thread leaves the same

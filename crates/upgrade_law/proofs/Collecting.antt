@@ -273,7 +273,7 @@ ended_alike v sound area group now node thread dest polled (end_answers.Mismatch
 ended_alike v sound area group now node thread dest polled end_answers.NotReady low stood = refl
 ended_alike v sound area group now node thread dest polled end_answers.NotStarted low stood = refl
 ended_alike v sound area group now node thread dest polled (end_answers.BadArg argument) low stood = refl
-ended_alike v sound area group now node thread dest polled (end_answers.WornOut other) low stood = refl
+ended_alike v sound area group now node thread dest polled (end_answers.Exhausted other) low stood = refl
 ended_alike v sound area group now node thread dest polled (end_answers.Forbidden forbidden) low stood = refl
 ended_alike v sound area group now node thread dest polled end_answers.NoMemory low stood = refl
 
@@ -285,7 +285,7 @@ behind_alike v area group now node thread dest (end_answers.Mismatch other) = re
 behind_alike v area group now node thread dest end_answers.NotReady = refl
 behind_alike v area group now node thread dest end_answers.NotStarted = refl
 behind_alike v area group now node thread dest (end_answers.BadArg argument) = refl
-behind_alike v area group now node thread dest (end_answers.WornOut other) = refl
+behind_alike v area group now node thread dest (end_answers.Exhausted other) = refl
 behind_alike v area group now node thread dest (end_answers.Forbidden forbidden) = refl
 behind_alike v area group now node thread dest end_answers.NoMemory = refl
 

@@ -13,7 +13,7 @@ use Rattle.node_record.specs.Requests.{is_open, as_back}
 use Rattle.node_record.specs.Executed.{greatest}
 use Rattle.node_record.specs.Behaviour.{Contact, asks_well, replies_well}
 use Rattle.node_record.specs.Invariant.{request_message, reply_message}
-use Rattle.node_record.specs.Step.{Verdict, Repeated, Passed, Runs, Missed, Returns, verdict, answer_by}
+use Rattle.node_record.specs.Step.{Verdict, Duplicated, Passed, Runs, Missed, Returns, verdict, answer_by}
 use Rattle.node_record.specs.Step.{after_delivery, first_why, unless_refused, unless_waiting, judged, address_fault}
 use Rattle.node_record.specs.Step.{with_run, with_back, with_sender, reply_slot}
 use Rattle.node_record.specs.NodeStep.{site_of}
@@ -48,7 +48,7 @@ why_request v me from number request =
 -- the verdict on a request that may be delivered
 abbrev on_request : (why : Option Why) (same less : Bool) (lock : Option ℕ) → Verdict
 on_request why same less lock =
-    unless_refused why (if same then Repeated else (if less then Passed else unless_waiting lock Runs))
+    unless_refused why (if same then Duplicated else (if less then Passed else unless_waiting lock Runs))
 
 abbrev request_verdict : Versions → (me : ℕ) → Node EndpointLocal → (from number : ℕ) → Request → Verdict
 request_verdict v me node from number request =

@@ -10,8 +10,8 @@ use Rattle.lists.specs.Put.{put}
 use Rattle.node_record.specs.Record.{Request, Node}
 use Rattle.node_record.specs.Requests.{Due, all_dues, dues, sent_at, next_claim, earliest}
 use Rattle.node_record.specs.Behaviour.{Sending}
-use Rattle.node_record.specs.Step.{TickChoice, Resends, Sends, Rests, choice_of, tick_choice, tick_answer, after_tick}
-use Rattle.node_record.specs.Step.{next_due, can_ask, is_worn_out, after_sending, with_asked, with_local, with_request}
+use Rattle.node_record.specs.Step.{TickChoice, Retransmits, Sends, Rests, choice_of, tick_choice, tick_answer, after_tick}
+use Rattle.node_record.specs.Step.{next_due, can_ask, is_exhausted, after_sending, with_asked, with_local, with_request}
 use Rattle.node_record.specs.Step.{request_slot}
 use Rattle.node_record.specs.NodeStep.{site_of, done}
 use Rattle.endpoint_rules.specs.EndpointLocal.{EndpointLocal, IsEndpointKept}
@@ -39,7 +39,7 @@ can_alike v me node = fun_ext (λ to.
     (rw (same_credits v.settings v.version me to) refl)))
 
 abbrev respell_choice : (Content → Content) → TickChoice → TickChoice
-respell_choice spell (Resends due) = Resends due
+respell_choice spell (Retransmits due) = Retransmits due
 respell_choice spell (Sends sending) = Sends (respell_sending spell sending)
 respell_choice spell Rests = Rests
 
@@ -68,7 +68,7 @@ choice_alike v me node now kept =
 choice_answers : (v : Versions) (node : Node EndpointLocal) (choice : TickChoice)
     → tick_answer v.other.messages (respell_node v.spell node) (respell_choice v.spell choice)
     ≡ tick_answer v.one.messages node choice
-choice_answers v node (Resends due) = refl
+choice_answers v node (Retransmits due) = refl
 choice_answers v node Rests = refl
 choice_answers v node (Sends sending) =
     rw (taken-respelled v.spell (node.asked sending.to))
@@ -101,7 +101,7 @@ sending_leaves v me node now sending =
 choice_leaves : (v : Versions) (me : ℕ) (node : Node EndpointLocal) (now : ℕ) (choice : TickChoice)
     → after_tick (site_of (other_job v) me) (respell_node v.spell node) now (respell_choice v.spell choice)
     ≡ respell_node v.spell (after_tick (site_of (one_job v) me) node now choice)
-choice_leaves v me node now (Resends due) =
+choice_leaves v me node now (Retransmits due) =
     ap (λ (asked : ℕ → List Request). record (respell_node v.spell node) { asked = asked })
     (ap (put (respell_node v.spell node).asked due.peer)
     (change-respelled v.spell (sent_at now) (λ r. refl) (node.asked due.peer) due.number)
@@ -121,12 +121,12 @@ tick_leaves v me node now kept =
 
 -- ---- another call of a thread
 
-worn_alike : (v : Versions) (node : Node EndpointLocal)
-    → is_worn_out (record v.settings { version = v.version }) (respell_node v.spell node) ≡ is_worn_out v.settings node
-worn_alike v node = fun_ext (λ to. rw (length-map (node.asked to) (respell_request v.spell)) refl)
+exhausted_alike : (v : Versions) (node : Node EndpointLocal)
+    → is_exhausted (record v.settings { version = v.version }) (respell_node v.spell node) ≡ is_exhausted v.settings node
+exhausted_alike v node = fun_ext (λ to. rw (length-map (node.asked to) (respell_request v.spell)) refl)
 
 pub done_alike : (v : Versions) (me : ℕ) (node : Node EndpointLocal) (thread : ℕ) (call : OtherCall)
     → done (other_job v) me (respell_node v.spell node) thread call ≡ done (one_job v) me node thread call
 done_alike v me node thread call =
-    ap (λ (worn : ℕ → Bool). v.other.does me worn thread call node.local) (worn_alike v node)
-    ∙ v.agree.does me (is_worn_out v.settings node) thread call node.local
+    ap (λ (exhausted : ℕ → Bool). v.other.does me exhausted thread call node.local) (exhausted_alike v node)
+    ∙ v.agree.does me (is_exhausted v.settings node) thread call node.local

@@ -24,8 +24,8 @@ use Rattle.datagram_grammar.specs.Message.{Message}
 use Rattle.lists.specs.Numbered.{change}
 use Rattle.lists.proofs.Numbered.{numbered_push, numbered-change}
 use Rattle.node_record.specs.Requests.{as_back, sent_at}
-use Rattle.node_record.specs.Step.{Verdict, Refused, Repeated, Passed, Runs, Missed, Returns, Waits, after_delivery}
-use Rattle.node_record.specs.Step.{TickChoice, Resends, Sends, Rests, tick_choice, after_tick, next_due, can_ask}
+use Rattle.node_record.specs.Step.{Verdict, Refused, Duplicated, Passed, Runs, Missed, Returns, Waits, after_delivery}
+use Rattle.node_record.specs.Step.{TickChoice, Retransmits, Sends, Rests, tick_choice, after_tick, next_due, can_ask}
 use Rattle.node_record.specs.Step.{with_asked}
 use Rattle.node_record.specs.Step.{request_answer, after_request, with_request, new_request}
 use Rattle.node_record.specs.NodeStep.{site_of}
@@ -192,7 +192,7 @@ asked_notes v me node now ask asked.Ran e notes = notes
 asked_notes v me node now ask (asked.Forbidden forbidden) e notes = notes
 asked_notes v me node now ask (asked.BadArg part) e notes = notes
 asked_notes v me node now ask (asked.LockBusy lock) e notes = notes
-asked_notes v me node now ask asked.WornOut e notes = notes
+asked_notes v me node now ask asked.Exhausted e notes = notes
 asked_notes v me node now ask asked.NotYet e notes = notes
 
 delivered_notes : (v : Versions) (me : ℕ) (node : Node EndpointLocal) (message : Message) (verdict : Verdict)
@@ -201,7 +201,7 @@ delivered_notes v me node message Runs notes = notes
 delivered_notes v me node message Returns notes =
     changed_notes v.settings node message.from message.number as_back (λ r. refl) notes
 delivered_notes v me node message (Refused reason) notes = notes
-delivered_notes v me node message Repeated notes = notes
+delivered_notes v me node message Duplicated notes = notes
 delivered_notes v me node message Passed notes = notes
 delivered_notes v me node message Missed notes = notes
 delivered_notes v me node message (Waits lock) notes = notes
@@ -210,7 +210,7 @@ ticked_notes : (v : Versions) (me : ℕ) (node : Node EndpointLocal) (now : ℕ)
     → IsEndpointKept v.settings me node.local
     → tick_choice (site_of (one_job v) me) node now ≡ choice → HasNotes v.settings node
     → HasNotes v.settings (after_tick (site_of (one_job v) me) node now choice)
-ticked_notes v me node now (Resends due) kept e notes =
+ticked_notes v me node now (Retransmits due) kept e notes =
     changed_notes v.settings node due.peer due.number (sent_at now) (λ r. refl) notes
 ticked_notes v me node now Rests kept e notes = notes
 ticked_notes v me node now (Sends sending) kept e notes =

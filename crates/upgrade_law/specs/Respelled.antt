@@ -103,8 +103,8 @@ pub record AgreeOn (spell : Content → Content) (settings : Parameters) (one ot
       → other.messages.issued contact (spell content) local ≡ one.messages.issued contact content local
   pub sends_as : (content : Content) (place : SlotRef)
       → other.messages.sends_as (spell content) place ≡ one.messages.sends_as content place
-  pub does : (me : ℕ) (worn : ℕ → Bool) (thread : ℕ) (call : OtherCall) (local : EndpointLocal)
-      → other.does me worn thread call local ≡ one.does me worn thread call local
+  pub does : (me : ℕ) (exhausted : ℕ → Bool) (thread : ℕ) (call : OtherCall) (local : EndpointLocal)
+      → other.does me exhausted thread call local ≡ one.does me exhausted thread call local
 
 -- two jobs that differ in the version of the datagram
 pub record Versions : Type 0 where

@@ -66,7 +66,7 @@ start_collects meaning old new now node thread shape from started.Busy does = λ
 start_collects meaning old new now node thread shape from (started.BadArg argument) does = λ lacks area group most stands.
     does_collect meaning old new area group most (asks now node thread (text.Start shape from)) _
     (does area group most stands)
-start_collects meaning old new now node thread shape from started.WornOut does = λ lacks area group most stands.
+start_collects meaning old new now node thread shape from started.Exhausted does = λ lacks area group most stands.
     does_collect meaning old new area group most (asks now node thread (text.Start shape from)) _
     (does area group most stands)
 start_collects meaning old new now node thread shape from (started.Forbidden rule) does = λ lacks area group most stands.

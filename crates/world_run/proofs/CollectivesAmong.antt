@@ -106,7 +106,7 @@ end_among job area group now node thread dest low =
     by_answer end_answers.NotReady = tt
     by_answer end_answers.NotStarted = tt
     by_answer (end_answers.BadArg argument) = tt
-    by_answer (end_answers.WornOut other) = tt
+    by_answer (end_answers.Exhausted other) = tt
     by_answer (end_answers.Forbidden forbidden) = tt
     by_answer end_answers.NoMemory = tt
 

@@ -267,7 +267,7 @@ same_line j line other e words one h k same =
 ran_says : (d : Delivered) → delivered_words d ≡ codes "ran" ∷ [] → IsRanAnswer d
 ran_says (delivered.Ran at) e = (at, refl)
 ran_says (delivered.Noted at note) e = (at, refl)
-ran_says (delivered.Again at) e = absurd (cc)
+ran_says (delivered.Duplicate at) e = absurd (cc)
 ran_says delivered.Stale e = absurd (cc)
 ran_says (delivered.Returned to slot number) e = absurd (cc)
 ran_says delivered.Late e = absurd (cc)
@@ -278,7 +278,7 @@ ran_says (delivered.Refused reason) e = absurd (cc)
 returned_says : (d : Delivered) → delivered_words d ≡ codes "returned" ∷ [] → IsReturned d
 returned_says (delivered.Ran at) e = absurd (cc)
 returned_says (delivered.Noted at note) e = absurd (cc)
-returned_says (delivered.Again at) e = absurd (cc)
+returned_says (delivered.Duplicate at) e = absurd (cc)
 returned_says delivered.Stale e = absurd (cc)
 returned_says (delivered.Returned to slot number) e = tt
 returned_says delivered.Late e = absurd (cc)

@@ -81,7 +81,7 @@ ended_ok (ended.Mismatch node) is = absurd (cc)
 ended_ok ended.NotReady is = absurd (cc)
 ended_ok ended.NotStarted is = absurd (cc)
 ended_ok (ended.BadArg argument) is = absurd (cc)
-ended_ok (ended.WornOut node) is = absurd (cc)
+ended_ok (ended.Exhausted node) is = absurd (cc)
 ended_ok (ended.Forbidden rule) is = absurd (cc)
 ended_ok ended.NoMemory is = absurd (cc)
 

@@ -20,7 +20,7 @@ use Rattle.node_record.specs.Invariant.{NodeInvariant}
 use Rattle.node_record.specs.NodeStep.{site_of}
 use Rattle.node_record.specs.Record.{Node, Request, Run}
 use Rattle.node_record.specs.Requests.{Due, next_claim}
-use Rattle.node_record.specs.Step.{after_resend, after_sending, after_tick, can_ask, choice_of, is_worn_out, next_due}
+use Rattle.node_record.specs.Step.{after_resend, after_sending, after_tick, can_ask, choice_of, is_exhausted, next_due}
 use Rattle.node_record.specs.Step.{request_slot, tick_answer}
 use Rattle.node_record.specs.Under.{under}
 use Rattle.am_core.specs.ClientRules.{rules}
@@ -87,7 +87,7 @@ asked_names endpoint asked.Ran = tt
 asked_names endpoint (asked.BadArg part) = tt
 asked_names endpoint (asked.Forbidden rule) = tt
 asked_names endpoint (asked.LockBusy lock) = tt
-asked_names endpoint asked.WornOut = tt
+asked_names endpoint asked.Exhausted = tt
 asked_names endpoint asked.NotYet = tt
 
 -- the answer of a node
@@ -217,7 +217,7 @@ event_names meaning old records most now (Does node thread call) endpoint answer
       settings = old.settings;
       me = node;
       thread = thread;
-      worn = is_worn_out old.settings (records node);
+      exhausted = is_exhausted old.settings (records node);
     }) call (records node).local
     (range_there old.settings node (records node).local.core endpoint _
     (node_holds old records most node stood among).core.kept stands settings))

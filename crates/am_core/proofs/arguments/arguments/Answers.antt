@@ -2,7 +2,7 @@ use Rattle.std.proofs.Common.{ℕ, ◌≡◌, ◌∙◌, sym, subst, arith, rule
 use Rattle.std.proofs.lemmas.Int.{to_z-of_z}
 use Rattle.std.proofs.lemmas.Option.{slice_get_within}
 use Rattle.datagram_grammar.specs.Reading.{viewed_message}
-use Rattle.am_core.proofs.Floors.{copied_more}
+use Rattle.am_core.proofs.HandlerContexts.{copied_more}
 use Rattle.am_core.proofs.arguments.arguments.Goals as goal
 use Rattle.lists.proofs.Places.{slice_get_short}
 

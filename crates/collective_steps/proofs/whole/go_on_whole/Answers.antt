@@ -15,7 +15,7 @@ returns-in-Some-clause-tried g c = λ node stands.
 pub returns-clause-tried : goal.returns-clause-tried
 returns-clause-tried g c = λ node stands.
     went_as _ _ _ _ _ _ _ _ _ _ _ _ _ _ c.went_on.ensures c.sent_by-sent.ensures c.is_quiet-quiet.ensures
-    c.is_unworn-unworn.ensures
+    c.is_unexhausted-unexhausted.ensures
     (later_tried (g.H.Handlers.meaning c.args.handlers.now) c.args.endpoint.now c.step-answer.new.endpoint
     c.end-ended.new.endpoint c.args.at c.args.collectives.now c.step-answer.new.collectives c.end-ended.new.collectives
     c.args.dest c.step-answer.result.0 c.step-answer.result.1 c.end-ended.result

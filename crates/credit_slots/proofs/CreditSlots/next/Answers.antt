@@ -4,7 +4,7 @@ use Rattle.std.specs.Prelude.{slice_get, position, IfSome}
 use Rattle.slot_table.specs.TableState.{slots_of}
 use Rattle.credit_slots.specs.SlotsState.{Vacant, is_vacant, PeerState, SlotsState}
 use Rattle.credit_slots.specs.SlotsState.{CanClaim, Refuses}
-use Rattle.credit_slots.specs.declared.NoClaim.TheVariants.{WornOut, NotYet}
+use Rattle.credit_slots.specs.declared.NoClaim.TheVariants.{Exhausted, NotYet}
 use Rattle.std.proofs.lemmas.List.Quantifiers.{position-Some}
 use Rattle.lists.proofs.Indexes.{read-at}
 use Rattle.credit_slots.proofs.Viewed.{peer-is}
@@ -36,7 +36,7 @@ returns-then-given-self-clause-refused c =
     ∙ peer-is fields.last given table to number kept.nodes at in
     let last : fields.last ≡ seen.last = ap (λ (u : SlotsState). u.last) view in
     let low : seen.last ≤ number = omega (arith, c.if-given-self.true, last) in
-    subst (λ (o : Option PeerState). IfSome o (λ place. Refuses place seen.last WornOut)) (sym peer) low
+    subst (λ (o : Option PeerState). IfSome o (λ place. Refuses place seen.last Exhausted)) (sym peer) low
 
 pub first_vacant-requires : goal.first_vacant-requires
 first_vacant-requires c =

@@ -1,5 +1,5 @@
 use Rattle.std.proofs.Common.{◌+◌, ◌-◌, ◌*◌, ◌%◌, ◌^◌, ◌<◌, lit<, sym, subst, ◌∙◌, arith}
-use Rattle.put_get.specs.declared.operation.Some3.TheVariants as implicit
+use Rattle.put_get.specs.declared.operation.ImplicitKinds.TheVariants as implicit
 use Rattle.job_text.specs.declared.job.ScheduledCall.TheVariants as call
 use Rattle.job_text.specs.declared.job.ScheduledEvent.TheVariants as scheduled
 use Rattle.put_get.specs.declared.operation.Transfer.TheVariants as transfer

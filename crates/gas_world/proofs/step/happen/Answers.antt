@@ -2,7 +2,7 @@ use Rattle.std.proofs.Common.{rules, ◌≡◌, ◌<◌, get_or, length, sym, su
 use Rattle.std.specs.Prelude.{Bool}
 use Rattle.std.proofs.lemmas.Option.{slice_get-get_or}
 use Rattle.gas_endpoint.specs.EndpointState.{EndpointState}
-use Rattle.gas_world.specs.Scenes.{IsBetween}
+use Rattle.gas_world.specs.EventScopes.{IsBetween}
 use Rattle.gas_world.specs.declared.event.WorldEvent.{WorldEvent}
 use Rattle.gas_world.proofs.Sendings.{tick_happens}
 use Rattle.gas_world.proofs.step.happen.Goals as goal
@@ -13,9 +13,9 @@ returns-in-Tick g c =
     let was : EndpointState = get_or c.args.endpoints.now node c.index-endpoints-node-in-Tick.result in
     let low : node < length c.args.endpoints.now =
     subst (λ (e : WorldEvent). IsBetween (length c.args.endpoints.now) e) c.in-Tick.is c.requires.between in
-    tick_happens (g.H.Handlers.meaning c.args.happening.handlers.now)
+    tick_happens (g.H.Handlers.meaning c.args.context.handlers.now)
     (record { endpoints = c.args.endpoints.now; exchanges = c.args.exchanges.now; most = c.args.most.now })
-    c.args.happening.now node c.args.happening.event.now c.args.happening.target c.fall-in-Tick.result was
+    c.args.context.now node c.args.context.event.now c.args.context.target c.fall-in-Tick.result was
     (record { endpoint = c.fall-in-Tick.new.self.endpoint.now; exchanges = _; most = _ })
     c.in-Tick.is (slice_get-get_or c.args.endpoints.now node c.index-endpoints-node-in-Tick.result low)
     c.fall-in-Tick.ensures.same c.requires.target

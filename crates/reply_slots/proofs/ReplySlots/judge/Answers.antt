@@ -4,7 +4,7 @@ use Rattle.std.specs.Option.{option_map, unwrap_or}
 use Rattle.lists.specs.Cut.{count_at}
 use Rattle.slot_table.specs.TableState.{number_of}
 use Rattle.reply_slots.specs.RepliesState.{ReplyState, RepliesState, slot_at, last_number, Judges}
-use Rattle.reply_slots.specs.declared.Judged.TheVariants.{New, Again, Stale}
+use Rattle.reply_slots.specs.declared.Judged.TheVariants.{New, Duplicate, Stale}
 use Rattle.reply_slots.specs.Views.{reply_of}
 use Rattle.reply_slots.proofs.Viewed.{slot-is, in-range, last-is}
 use Rattle.reply_slots.proofs.ReplySlots.judge.Goals as goal
@@ -47,7 +47,7 @@ returns-then-number-last-2 c =
     c.unwrap_or-last.ensures
     ∙ (ap (λ (o : Option ℕ). unwrap_or o 0) (c.number.ensures ∙ ap (option_and_then number_of) there.1)
     ∙ sym (last-is there.0)) in
-    subst (λ (o : Option ReplyState). IfSome o (λ s. Judges s c.args.number Again)) (sym at) (c.if-number-last-2.true
+    subst (λ (o : Option ReplyState). IfSome o (λ s. Judges s c.args.number Duplicate)) (sym at) (c.if-number-last-2.true
     ∙ last)
 
 pub returns-else-number-last-2 : goal.returns-else-number-last-2

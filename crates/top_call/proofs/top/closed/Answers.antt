@@ -14,7 +14,7 @@ returns g c = record {
     link = c.args.gathering.link;
     spawner = c.args.gathering.spawner;
     clock = c.args.gathering.clock;
-    gate = c.args.gathering.gate;
+    waiter = c.args.gathering.waiter;
   })
       c.into_inner.ensures;
 }

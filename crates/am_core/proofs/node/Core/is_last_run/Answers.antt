@@ -3,10 +3,10 @@ use Rattle.reply_slots.specs.declared.Judged.TheVariants as judged
 use Rattle.am_core.proofs.Knowing.{last_found}
 use Rattle.am_core.proofs.node.Core.is_last_run.Goals as goal
 
-pub returns-in-Again : goal.returns-in-Again
-returns-in-Again c =
-    last_found c.args.self.now _ c.args.from c.args.slot c.args.number judged.Again c.judge.result c.self.view_is
-    c.in-Again.is (subst (λ nodes. c.args.from < nodes) c.nodes.ensures.nodes c.if-from-nodes.false)
+pub returns-in-Duplicate : goal.returns-in-Duplicate
+returns-in-Duplicate c =
+    last_found c.args.self.now _ c.args.from c.args.slot c.args.number judged.Duplicate c.judge.result c.self.view_is
+    c.in-Duplicate.is (subst (λ nodes. c.args.from < nodes) c.nodes.ensures.nodes c.if-from-nodes.false)
     c.if-from-self.false
     (subst (λ slots. c.args.slot < slots) c.slots_of.ensures c.if-slot-slots_of.false) c.judge.ensures
 

@@ -6,7 +6,7 @@ use Rattle.am_core.specs.AskedFor.{asking_of}
 use Rattle.am_core.specs.ClientRules.{IsFine, busy_lock, said_in}
 use Rattle.am_core.specs.CoreState.{CoreState}
 use Rattle.am_core.specs.CoreStep.{with_own_run}
-use Rattle.am_core.specs.FloorRuns.{FloorRun, RunsOwn, Touched}
+use Rattle.am_core.specs.HandlerContextRuns.{HandlerContextRun, RunsOwn, Touched}
 use Rattle.am_core.proofs.OwnRuns.{asked_inside, fine_client, own_found, own_run_is, with_touched}
 use Rattle.am_core.proofs.OwnBuffers.{sole_written}
 use Rattle.am_core.proofs.node.Core.run_here.Goals as goal
@@ -71,7 +71,7 @@ returns g c =
     c.self.view_is
     (own_run_is meaning inside (said_in inside.segment asking) after
     (g.met.H.Handlers.is_lawful c.args.handlers.now) (fine_client inside.segment asking fine)
-    (subst (λ (run : FloorRun). RunsOwn meaning run after)
+    (subst (λ (run : HandlerContextRun). RunsOwn meaning run after)
     (own_found meaning inside asking c.listed_for-listed.result c.lend_own-shown.result
     c.lend_own-shown.new.segment c.lend_own-shown.new.buffer (take c.lend_own-shown.result c.part.result.now)
     c.place_asked.result fine c.listed_for-listed.ensures c.lend_own-shown.ensures.landed

@@ -1,22 +1,22 @@
 use Rattle.std.proofs.Common.{Option, None, Some, sym, subst, ℕ}
 use Rattle.node_record.specs.declared.answer.SlotRef.{SlotRef}
 use Rattle.node_record.specs.NodeStep.{Ticks, OfTick}
-use Rattle.am_core.specs.CoreContracts.{CoreSteps, resends}
-use Rattle.am_core.specs.CoreStep.{Resends}
+use Rattle.am_core.specs.CoreContracts.{CoreSteps, retransmits}
+use Rattle.am_core.specs.CoreStep.{Retransmits}
 use Rattle.am_core.proofs.Ticking.{ticks_step}
 use Rattle.am_core.proofs.node.Core.tick.Goals as goal
 
 pub returns-in_err-peer : goal.returns-in_err-peer
 returns-in_err-peer c = λ meaning.
     subst (λ (a : Option SlotRef). CoreSteps meaning c.args.self.now
-    (record { now = c.args.now; event = Ticks; answer = OfTick (resends a) }) c.resend.new.self)
+    (record { now = c.args.now; event = Ticks; answer = OfTick (retransmits a) }) c.resend.new.self)
     (sym c.from_residual.ensures)
     (ticks_step meaning c.args.self.now c.args.now None c.resend.new.self
-    (subst (λ (o : Option (ℕ × ℕ)). Resends c.args.self.now c.args.now o c.resend.new.self) c.in_err-peer.was
+    (subst (λ (o : Option (ℕ × ℕ)). Retransmits c.args.self.now c.args.now o c.resend.new.self) c.in_err-peer.was
     c.resend.ensures))
 
 pub returns : goal.returns
 returns c = λ meaning.
     ticks_step meaning c.args.self.now c.args.now (Some (c.in_ok-peer.peer, c.in_ok-peer.slot)) c.resend.new.self
-    (subst (λ (o : Option (ℕ × ℕ)). Resends c.args.self.now c.args.now o c.resend.new.self) c.in_ok-peer.was
+    (subst (λ (o : Option (ℕ × ℕ)). Retransmits c.args.self.now c.args.now o c.resend.new.self) c.in_ok-peer.was
     c.resend.ensures)

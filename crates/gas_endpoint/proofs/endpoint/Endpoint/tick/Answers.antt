@@ -21,7 +21,7 @@ use Rattle.gas_endpoint.proofs.endpoint.Endpoint.tick.Goals.{After-send_note, Af
 
 resent : (c : In-Some) (meaning : Meaning) → IsLawfulMeaning meaning
     → NodeSteps meaning (endpoint_of c.self.inside.core c.self.inside.extended)
-    (transition c.args.now Ticks (answers.Ticked (ticked.Resend c.in-Some.at)))
+    (transition c.args.now Ticks (answers.Ticked (ticked.Retransmission c.in-Some.at)))
     (endpoint_of c.tick.new.self c.self.inside.extended)
 resent c =
     resend_steps c.self.inside.core c.tick.new.self c.self.inside.extended c.args.now c.in-Some.at c.in-Some.ensures
@@ -29,13 +29,13 @@ resent c =
 pub invariant_of-self : goal.invariant_of-self
 invariant_of-self c =
     step_whole c.self.inside.core c.tick.new.self c.self.inside.extended c.self.inside.extended c.args.now Ticks
-    (answers.Ticked (ticked.Resend c.in-Some.at)) c.self.invariant (same_extended c.self.inside.extended)
+    (answers.Ticked (ticked.Retransmission c.in-Some.at)) c.self.invariant (same_extended c.self.inside.extended)
     (resent (goal.at.invariant_of-self c).In-Some nothing_runs nothing_lawful)
 
 pub returns-in-Some : goal.returns-in-Some
 returns-in-Some c meaning lawful =
     subst (λ (e : EndpointState). NodeSteps meaning e
-    (transition c.args.now Ticks (answers.Ticked (ticked.Resend c.in-Some.at)))
+    (transition c.args.now Ticks (answers.Ticked (ticked.Retransmission c.in-Some.at)))
     (endpoint_of c.tick.new.self c.self.inside.extended)) c.self.view_is
     (resent (goal.at.returns-in-Some c).In-Some meaning lawful)
 

@@ -3,5 +3,5 @@ use Rattle.gas_endpoint.proofs.extended.Extended.sync.Goals as goal
 
 pub returns : goal.returns
 returns c =
-    sync_does c.args.core.now c.args.self.now c.try_sync.new.self c.worn-worn.result c.args.thread c.args.handle
-    c.try_sync.result c.worn-worn.ensures c.try_sync.ensures.answer c.try_sync.ensures.stands c.try_sync.ensures.room
+    sync_does c.args.core.now c.args.self.now c.try_sync.new.self c.exhausted-exhausted.result c.args.thread c.args.handle
+    c.try_sync.result c.exhausted-exhausted.ensures c.try_sync.ensures.answer c.try_sync.ensures.stands c.try_sync.ensures.room

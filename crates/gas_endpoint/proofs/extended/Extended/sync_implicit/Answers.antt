@@ -4,6 +4,6 @@ use Rattle.gas_endpoint.proofs.extended.Extended.sync_implicit.Goals as goal
 
 pub returns : goal.returns
 returns c =
-    implicit_does c.args.core.now c.args.self.now c.try_sync_implicit.new.self c.worn-worn.result c.args.thread
-    c.args.which c.try_sync_implicit.result c.worn-worn.ensures (sym c.is_begun.ensures ∙ c.if-is_begun.false)
+    implicit_does c.args.core.now c.args.self.now c.try_sync_implicit.new.self c.exhausted-exhausted.result c.args.thread
+    c.args.which c.try_sync_implicit.result c.exhausted-exhausted.ensures (sym c.is_begun.ensures ∙ c.if-is_begun.false)
     c.try_sync_implicit.ensures.answer c.try_sync_implicit.ensures.stands c.try_sync_implicit.ensures.room

@@ -6,8 +6,8 @@ use Rattle.gas_world.specs.WorldState.{WorldState}
 use Rattle.gas_world.specs.Aims.{AimsAt, FallsAt, MayFall}
 use Rattle.gas_world.specs.declared.world.Aim.{Aim}
 use Rattle.gas_endpoint.specs.EndpointState.{EndpointState}
-use Rattle.gas_world.specs.Scenes.{Scene, SceneSteps, IsHeld, IsCallable, IsPlanned, ChangesOne}
-use Rattle.gas_world.proofs.Scenes.{sized_after, pair_place, changes_kept}
+use Rattle.gas_world.specs.EventScopes.{EventScope, EventScopeSteps, IsHeld, IsCallable, IsPlanned, ChangesOne}
+use Rattle.gas_world.proofs.EventScopes.{sized_after, pair_place, changes_kept}
 use Rattle.gas_world.proofs.Aimed.{Happened, recorded, spot_held, founded_after, unaimed_steps, aim_among, aims_node}
 use Rattle.gas_world.proofs.Aimed.{callable, planned}
 use Rattle.gas_world.proofs.world.World.step_as_recorded.Given.{Over}
@@ -83,19 +83,19 @@ inside_of g c = record {
   most = c.self.inside.most.items;
 }
 
--- the scene on which the event fell, before and after it
-abbrev was : (g : Over) → goal.After-self-3-1 g → Scene
+-- the scope on which the event fell, before and after it
+abbrev was : (g : Over) → goal.After-self-3-1 g → EventScope
 was g c = record {
   endpoint = c.happen.ensures.was;
   exchanges = c.index_mut.result.now;
   most = c.index_mut-2.result.now;
 }
 
-abbrev is : (g : Over) → goal.After-self-3-1 g → Scene
+abbrev is : (g : Over) → goal.After-self-3-1 g → EventScope
 is g c =
     record { endpoint = c.happen.ensures.is; exchanges = c.happen.new.exchanges; most = c.happen.new.most }
 
--- what happened to the scene
+-- what happened to the scope
 abbrev happened : (g : Over) (c : goal.After-self-3-1 g)
     → Happened (g.H.Handlers.meaning c.args.handlers.now) (inside_of g c) (was g c)
     (transition c.args.now c.args.event.now c.happen.result) (is g c) c.in-Some.aim c.from-node.result
@@ -110,7 +110,7 @@ happened g c = record {
     exchanges_were = c.index_mut.ensures.value;
     most_was = c.index_mut-2.ensures.value;
   };
-  steps = subst (λ (l : List EndpointState). SceneSteps (g.H.Handlers.meaning c.args.handlers.now) l (was g c)
+  steps = subst (λ (l : List EndpointState). EventScopeSteps (g.H.Handlers.meaning c.args.handlers.now) l (was g c)
       (transition c.args.now c.args.event.now c.happen.result) (is g c)) c.deref_mut.ensures.value
       c.happen.ensures.steps;
 }

@@ -10,5 +10,5 @@ returns-clause-stands c = λ nodes me kept stood.
     let before = subst (λ state. Stands nodes me state kept) (sym c.self.view_is) stood in
     rw c.no_part-self-inside.ensures
     (stands_try nodes me (fields_view inside) kept c.in-Some.own
-    (record { id = c.args.id; flags = c.args.flags; worn = c.args.worn }) before (omega arith)
+    (record { id = c.args.id; flags = c.args.flags; exhausted = c.args.exhausted }) before (omega arith)
     c.in-Some.is (grind (arith, c.has_all.ensures, c.if-not-has_all.false)))

@@ -1,8 +1,8 @@
 use Rattle.std.proofs.Common.{Some, None, not, sym, ap, ◌∙◌, subst, refl}
-use Rattle.put_get.specs.Syncs.{flag_at, worn_or}
-use Rattle.put_get.specs.Stands.{IsFirstWorn}
+use Rattle.put_get.specs.Syncs.{flag_at, exhausted_or}
+use Rattle.put_get.specs.Stands.{IsFirstExhausted}
 use Rattle.put_get.proofs.Members.{complete_is}
-use Rattle.put_get.proofs.Worn.{worn_is}
+use Rattle.put_get.proofs.Exhausted.{exhausted_is}
 use Rattle.put_get.proofs.Gone.{stands_gone}
 use Rattle.put_get.proofs.transfers.Transfers.sync_marked.Goals as goal
 
@@ -21,15 +21,15 @@ pub returns-in-Some-clause-answer : goal.returns-in-Some-clause-answer
 returns-in-Some-clause-answer c operations choice test S M A =
     rw (complete_is c.args.self.now.table operations choice test S.keeps A
     ∙ ap not (sym (c.has.ensures test M) ∙ c.if-not-has.false))
-    (ap worn_or (worn_is (flag_at c.args.worn.now) c.args.self.now.table operations choice test
+    (ap exhausted_or (exhausted_is (flag_at c.args.exhausted.now) c.args.self.now.table operations choice test
     (Some c.in-Some.node) S.keeps A
-    (subst (IsFirstWorn (flag_at c.args.worn.now) test c.args.self.now.table) c.in-Some.is
-    (c.first_worn.ensures test M))))
+    (subst (IsFirstExhausted (flag_at c.args.exhausted.now) test c.args.self.now.table) c.in-Some.is
+    (c.first_exhausted.ensures test M))))
 
 pub returns-in-None-clause-answer : goal.returns-in-None-clause-answer
 returns-in-None-clause-answer c operations choice test S M A =
     rw (complete_is c.args.self.now.table operations choice test S.keeps A
     ∙ ap not (sym (c.has.ensures test M) ∙ c.if-not-has.false))
-    (ap worn_or (worn_is (flag_at c.args.worn.now) c.args.self.now.table operations choice test None S.keeps A
-    (subst (IsFirstWorn (flag_at c.args.worn.now) test c.args.self.now.table) c.in-None.is
-    (c.first_worn.ensures test M))))
+    (ap exhausted_or (exhausted_is (flag_at c.args.exhausted.now) c.args.self.now.table operations choice test None S.keeps A
+    (subst (IsFirstExhausted (flag_at c.args.exhausted.now) test c.args.self.now.table) c.in-None.is
+    (c.first_exhausted.ensures test M))))

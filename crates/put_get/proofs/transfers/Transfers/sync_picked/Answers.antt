@@ -1,10 +1,10 @@
 use Rattle.std.proofs.Common.{false, Some, None, not, sym, ap, ◌∙◌, subst, refl}
-use Rattle.put_get.specs.Syncs.{flag_at, worn_or}
+use Rattle.put_get.specs.Syncs.{flag_at, exhausted_or}
 use Rattle.put_get.specs.Table.{AreMarks, picked}
-use Rattle.put_get.specs.Stands.{IsFirstWorn}
+use Rattle.put_get.specs.Stands.{IsFirstExhausted}
 use Rattle.put_get.proofs.Marks.{no_marks, only}
 use Rattle.put_get.proofs.Members.{complete_is}
-use Rattle.put_get.proofs.Worn.{worn_is}
+use Rattle.put_get.proofs.Exhausted.{exhausted_is}
 use Rattle.put_get.proofs.Gone.{stands_gone}
 use Rattle.put_get.proofs.transfers.Transfers.sync_picked.Goals as goal
 
@@ -30,15 +30,15 @@ pub returns-in-Some-clause-answer : goal.returns-in-Some-clause-answer
 returns-in-Some-clause-answer c operations choice S A =
     rw (complete_is c.args.self.now.table operations choice (picked c.args.pick) S.keeps A
     ∙ ap not (sym (c.any_passes.ensures) ∙ c.if-not-any_passes.false))
-    (ap worn_or (worn_is (flag_at c.args.worn.now) c.args.self.now.table operations choice (picked c.args.pick)
+    (ap exhausted_or (exhausted_is (flag_at c.args.exhausted.now) c.args.self.now.table operations choice (picked c.args.pick)
     (Some c.in-Some.node) S.keeps A
-    (subst (IsFirstWorn (flag_at c.args.worn.now) (picked c.args.pick) c.args.self.now.table) c.in-Some.is
-    (c.first_worn_of.ensures))))
+    (subst (IsFirstExhausted (flag_at c.args.exhausted.now) (picked c.args.pick) c.args.self.now.table) c.in-Some.is
+    (c.first_exhausted_of.ensures))))
 
 pub returns-in-None-clause-answer : goal.returns-in-None-clause-answer
 returns-in-None-clause-answer c operations choice S A =
     rw (complete_is c.args.self.now.table operations choice (picked c.args.pick) S.keeps A
     ∙ ap not (sym (c.any_passes.ensures) ∙ c.if-not-any_passes.false))
-    (ap worn_or (worn_is (flag_at c.args.worn.now) c.args.self.now.table operations choice (picked c.args.pick) None S.keeps A
-    (subst (IsFirstWorn (flag_at c.args.worn.now) (picked c.args.pick) c.args.self.now.table) c.in-None.is
-    (c.first_worn_of.ensures))))
+    (ap exhausted_or (exhausted_is (flag_at c.args.exhausted.now) c.args.self.now.table operations choice (picked c.args.pick) None S.keeps A
+    (subst (IsFirstExhausted (flag_at c.args.exhausted.now) (picked c.args.pick) c.args.self.now.table) c.in-None.is
+    (c.first_exhausted_of.ensures))))

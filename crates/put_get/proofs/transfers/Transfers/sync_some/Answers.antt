@@ -1,9 +1,9 @@
 use Rattle.std.proofs.Common.{◌||◌, Some, None, false, refl, sym, ap, ap₂, ◌∙◌, subst}
-use Rattle.put_get.specs.Syncs.{flag_at, worn_or, whole_of, members_of}
-use Rattle.put_get.specs.Stands.{IsFirstWorn, whole_in, member_of_any}
+use Rattle.put_get.specs.Syncs.{flag_at, exhausted_or, whole_of, members_of}
+use Rattle.put_get.specs.Stands.{IsFirstExhausted, whole_in, member_of_any}
 use Rattle.put_get.proofs.Marks.{no_marks, only}
 use Rattle.put_get.proofs.Lists.{any_agrees}
-use Rattle.put_get.proofs.Worn.{worn_is}
+use Rattle.put_get.proofs.Exhausted.{exhausted_is}
 use Rattle.put_get.proofs.Gone.{stands_gone}
 use Rattle.put_get.proofs.Whole.{any_whole_is, whole_agrees, all_whole}
 use Rattle.put_get.proofs.transfers.Transfers.sync_some.Goals as goal
@@ -36,9 +36,9 @@ returns-in-Some-clause-answer c operations S =
     ∙ ap₂ (λ invalid whole. invalid || whole) c.all_invalid.ensures
     (c.any_whole.ensures ∙ sym (any_whole_is table operations handles S.keeps)) in
     rw (sym go ∙ c.if-either.false)
-    (ap worn_or (worn_is (flag_at c.args.worn.now) table operations (members_of handles operations) test
+    (ap exhausted_or (exhausted_is (flag_at c.args.exhausted.now) table operations (members_of handles operations) test
     (Some c.in-Some.node) S.keeps (any_agrees table operations handles S.keeps)
-    (subst (IsFirstWorn (flag_at c.args.worn.now) test table) c.in-Some.is (c.first_worn.ensures test M))))
+    (subst (IsFirstExhausted (flag_at c.args.exhausted.now) test table) c.in-Some.is (c.first_exhausted.ensures test M))))
 
 pub returns-in-None-clause-answer : goal.returns-in-None-clause-answer
 returns-in-None-clause-answer c operations S =
@@ -50,6 +50,6 @@ returns-in-None-clause-answer c operations S =
     ∙ ap₂ (λ invalid whole. invalid || whole) c.all_invalid.ensures
     (c.any_whole.ensures ∙ sym (any_whole_is table operations handles S.keeps)) in
     rw (sym go ∙ c.if-either.false)
-    (ap worn_or (worn_is (flag_at c.args.worn.now) table operations (members_of handles operations) test None S.keeps
+    (ap exhausted_or (exhausted_is (flag_at c.args.exhausted.now) table operations (members_of handles operations) test None S.keeps
     (any_agrees table operations handles S.keeps)
-    (subst (IsFirstWorn (flag_at c.args.worn.now) test table) c.in-None.is (c.first_worn.ensures test M))))
+    (subst (IsFirstExhausted (flag_at c.args.exhausted.now) test table) c.in-None.is (c.first_exhausted.ensures test M))))

@@ -15,7 +15,7 @@ returns-in-Some-clause-answer c operations S =
     let A = members_agree table operations handle S.keeps in
     rw (ne_eqb handle 0 c.if-handle-eq0.false)
     (ap (λ found. unless_fault found
-    (sync_answer (flag_at c.args.worn.now) (chosen (members handle operations) 1 operations)))
+    (sync_answer (flag_at c.args.exhausted.now) (chosen (members handle operations) 1 operations)))
     (sym c.in-Some.is ∙ c.fault.ensures operations (members handle operations) (member_in table handle) S M A))
 
 pub returns-in-Some-clause-stands : goal.returns-in-Some-clause-stands
@@ -40,7 +40,7 @@ returns-in-None-clause-answer c operations S =
     rw (ne_eqb handle 0 c.if-handle-eq0.false)
     (c.sync_marked.ensures.answer operations (members handle operations) (member_in table handle) S M A
     ∙ ap (λ found. unless_fault found
-    (sync_answer (flag_at c.args.worn.now) (chosen (members handle operations) 1 operations)))
+    (sync_answer (flag_at c.args.exhausted.now) (chosen (members handle operations) 1 operations)))
     (sym c.in-None.is ∙ c.fault.ensures operations (members handle operations) (member_in table handle) S M A))
 
 pub returns-in-None-clause-stands : goal.returns-in-None-clause-stands
