@@ -276,13 +276,13 @@ def among_all(events, phases):
 
 
 def long_request(number):
-    """A Long out of the own segment, to the same place of the target's."""
+    """A Long out of the local segment, to the same place of the target's."""
     offset = number % PLACES * PAYLOAD
     return f"long 1 128 {offset}+{PAYLOAD} {offset}"
 
 
 def medium_request(number):
-    """A Medium out of the own segment."""
+    """A Medium out of the local segment."""
     return f"medium 1 128 {number % PLACES * PAYLOAD}+{PAYLOAD}"
 
 

@@ -78,10 +78,10 @@ typedef struct {
     uint64_t args_at;     /* where the first of them stands: 4 bytes each, big-endian */
     uint64_t payload_at;  /* where the payload stands */
     uint64_t payload_len; /* how many bytes it has */
-    uint64_t place;       /* a Long's place: its offset in the own segment */
+    uint64_t place;       /* a Long's place: its offset in the local segment */
 } gasnet_c_coming;
 
-/* A request. Where `own` is set its payload are the `source_len` bytes of the own segment from `source` on; else it is
+/* A request. Where `own` is set its payload are the `source_len` bytes of the local segment from `source` on; else it is
  * `payload`. Pointers are right whatever is read of them. */
 typedef struct {
     gasnet_c_args args;     /* at most 16 */
@@ -111,7 +111,7 @@ typedef struct {
     gasnet_c_bytes left;
 } gasnet_c_run;
 
-/* A transfer of `len` bytes between the own segment, from `local` on, and that of node `to`, from `remote` on. */
+/* A transfer of `len` bytes between the local segment, from `local` on, and that of node `to`, from `remote` on. */
 typedef struct {
     uint64_t remote, local, len;
     uint32_t kind; /* 0: a put; 1: a get; else a memset, whose `local` isn't read */
@@ -124,11 +124,11 @@ typedef struct {
 typedef struct {
     uint64_t offset; /* where the word stands in that segment: a multiple of 8 */
     uint64_t a, b;   /* its operands; only a compare-and-swap reads b */
-    uint64_t local;  /* where the 16 bytes of the reply go in the own segment, a multiple of 8: what the word was, and the
+    uint64_t local;  /* where the 16 bytes of the reply go in the local segment, a multiple of 8: what the word was, and the
                         tag, 8 bytes each, little-endian */
     uint64_t tag;    /* a number that comes back behind the word */
     uint32_t op;     /* what it does: GASNET_C_OP_GET to GASNET_C_OP_MAX */
-    uint16_t to;     /* the node whose word it is; the own one too */
+    uint16_t to;     /* the node whose word it is; the local one too */
 } gasnet_c_operation;
 
 /* The operations, by number: what the word becomes. */
@@ -194,7 +194,7 @@ enum {
 /* The answers, by number. */
 enum {
     GASNET_C_ACCEPTED = 1,  /* a request has a slot, and is to be sent */
-    GASNET_C_RAN_HERE = 2,  /* a request to the own node: its run, and its reply's, are recorded */
+    GASNET_C_RAN_HERE = 2,  /* a request to the local node: its run, and its reply's, are recorded */
     GASNET_C_NOT_YET = 3,   /* all credits of the pair are out */
     GASNET_C_WORN_OUT = 4,  /* the numbers of the pair are used up */
     GASNET_C_BAD = 5,       /* an argument is bad, or the call is out of turn; nothing happened */
@@ -251,13 +251,13 @@ gasnet_c_told gasnet_c_deliver(gasnet_c_node *node, uint64_t now, const uint8_t 
 gasnet_c_told gasnet_c_request(gasnet_c_node *node, uint64_t now, const gasnet_c_ask *ask, uint8_t *buffer,
                                size_t room);
 
-/* A request to the own node, which sends nothing: C ran its handler before this call, and then its reply's where it
+/* A request to the local node, which sends nothing: C ran its handler before this call, and then its reply's where it
  * asked for one, and made no other call in between. `run` is what the request's handler did, and `reply_left` are the
  * bytes at the place of a Long reply. Both are as they stand when both handlers are done. RAN_HERE, BAD. */
 gasnet_c_told gasnet_c_request_own(gasnet_c_node *node, uint64_t now, const gasnet_c_ask *ask, const gasnet_c_run *run,
                                    const uint8_t *reply_left, size_t reply_left_len);
 
-/* Asks an operation on a word of a node. ACCEPTED; RAN_HERE where the node is the own one, and it is done; NOT_YET,
+/* Asks an operation on a word of a node. ACCEPTED; RAN_HERE where the node is the local one, and it is done; NOT_YET,
  * WORN_OUT; BAD where no operation has the number, the node isn't there, or a place isn't inside a segment or isn't a
  * multiple of 8. The word and the tag stand at `local` when the request is RETURNED, or when it is RAN_HERE. */
 gasnet_c_told gasnet_c_atomic(gasnet_c_node *node, uint64_t now, const gasnet_c_operation *what, uint8_t *buffer,
@@ -268,7 +268,7 @@ gasnet_c_told gasnet_c_atomic(gasnet_c_node *node, uint64_t now, const gasnet_c_
 gasnet_c_told gasnet_c_serve(gasnet_c_node *node, uint64_t now, const uint8_t *bytes, size_t len, uint8_t *buffer,
                              size_t room);
 
-/* Begins a transfer. HANDLE, DONE (no bytes, or the own node), TOO_MANY, BAD. Its chunks are sent by ticks. */
+/* Begins a transfer. HANDLE, DONE (no bytes, or the local node), TOO_MANY, BAD. Its chunks are sent by ticks. */
 gasnet_c_told gasnet_c_begin(gasnet_c_node *node, uint64_t now, const gasnet_c_move *what);
 
 /* Tries to synchronise the operation or region with this handle. OK (and the handle is used up; of handle 0 always),
@@ -312,7 +312,7 @@ gasnet_c_told gasnet_c_coll_start(gasnet_c_node *node, gasnet_c_collectives *col
 gasnet_c_told gasnet_c_coll_step(gasnet_c_node *node, gasnet_c_collectives *collectives, uint64_t now, uint8_t *buffer,
                                  size_t room);
 
-/* Tries to end it, with the result at `dest` in the own segment. OK; MISMATCH, and it is ended without a result, since
+/* Tries to end it, with the result at `dest` in the local segment. OK; MISMATCH, and it is ended without a result, since
  * the node `to`, the first of these, started another one; NOT_READY; WORN_OUT, by the node `to`; BAD where none is
  * started, or the result passes the end of the segment, shares a byte with the area, or for a reduction isn't at a
  * multiple of 8. */

@@ -145,7 +145,7 @@ static int judge(const struct gasnetl_job *job, gasnet_node_t node, const struct
     if (message->nbytes > GASNET_C_PAYLOAD)
         return gasnetl_refuse(GASNET_ERR_BAD_ARG, "a message of %zu bytes: the most is %d", message->nbytes, GASNET_C_PAYLOAD);
     if (message->nbytes && (!message->source || gasnetl_straddles(job, message->source, message->nbytes)))
-        return gasnetl_refuse(GASNET_ERR_BAD_ARG, "a message whose payload is at %p: that is NULL, or only in part in the own segment", message->source);
+        return gasnetl_refuse(GASNET_ERR_BAD_ARG, "a message whose payload is at %p: that is NULL, or only in part in the local segment", message->source);
     if (message->category == LONG && !gasnetl_far(job, node, message->dest, message->nbytes, offset))
         return gasnetl_refuse(GASNET_ERR_BAD_ARG, "a Long message to %p of node %u: that isn't in its segment", message->dest, node);
     return GASNET_OK;
@@ -180,14 +180,14 @@ int gasnetl_reply(gasnet_token_t token, const struct gasnetl_message *message) {
 
 /* ---- Requests. */
 
-/* Makes the run of a message to the own node: its payload stands where the handler is to see it. */
+/* Makes the run of a message to the local node: its payload stands where the handler is to see it. */
 static struct gasnetl_run run_here(struct gasnetl_job *job, gasnet_handler_t handler, uint32_t category, uint64_t offset, gasnet_c_bytes payload, gasnet_c_args args) {
     void *place = category == LONG ? job->segment.base + offset : job->messages.medium;
     memcpy(place, payload.at, payload.len);
     return (struct gasnetl_run){ handler, category, place, payload.len, (unsigned)args.len, args.at };
 }
 
-/* The handlers of a request to the own node run: its own, and then that of its reply. What they did is recorded. */
+/* The handlers of a request to the local node run: its own, and then that of its reply. What they did is recorded. */
 static void request_here(struct gasnetl_job *job, gasnet_c_ask *ask, const struct gasnetl_message *message) {
     struct gasnetl_messages *own = &job->messages;
     struct gasnetl_token token, reply_token;
@@ -209,7 +209,7 @@ static void request_here(struct gasnetl_job *job, gasnet_c_ask *ask, const struc
     token.done.left = what_is_left(&run, payload, own->left);
     const gasnet_c_told told = gasnet_c_request_own(&job->node, job->progress.time, ask, &token.done, reply_left.at, reply_left.len);
     if (told.code != GASNET_C_RAN_HERE)
-        gasnetl_stop(GASNETL_BROKEN, "a request to the own node was answered %u", told.code);
+        gasnetl_stop(GASNETL_BROKEN, "a request to the local node was answered %u", told.code);
 }
 
 static gasnet_c_told ask_once(struct gasnetl_job *job, const gasnet_c_ask *ask) {

@@ -22,7 +22,7 @@ void gasnetl_atomics_start(struct gasnetl_atomics *atomics, const struct gasnetl
     memset(atomics->owner, 0xff, sizeof atomics->owner);
 }
 
-/* Where a block stands in the own segment. */
+/* Where a block stands in the local segment. */
 static uint64_t place_of(const struct gasnetl_job *job, uint16_t index) {
     return job->segment.stage + GASNETL_STAGE + (uint64_t)index * GASNETL_BLOCK;
 }
@@ -265,11 +265,11 @@ static gasnet_c_told ask(struct gasnetl_job *job, struct gasnetl_block *block) {
     return told;
 }
 
-/* Does an operation on a word of the own node, which has been asked for. */
+/* Does an operation on a word of the local node, which has been asked for. */
 static void do_here(struct gasnetl_job *job, uint16_t index, gasnet_c_told told) {
     do {
         if (told.code != GASNET_C_RAN_HERE)
-            gasnetl_stop(GASNETL_BROKEN, "an operation of the own node was answered %u", told.code);
+            gasnetl_stop(GASNETL_BROKEN, "an operation of the local node was answered %u", told.code);
         if (!is_direct(&job->atomics.blocks[index]))
             begin_swapping(&job->atomics, index);
         index = bring(job, index, job->me);

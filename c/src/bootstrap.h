@@ -11,7 +11,7 @@ struct gasnetl_start {
     uint16_t nodes, me;
     uint64_t job;      /* the same number on all nodes, another one for another job */
     unsigned neighbours; /* how many nodes this host has; 0 where that isn't known */
-    int socket;        /* of the own address, or -1 */
+    int socket;        /* of the local address, or -1 */
     bool by_pmix;
 };
 

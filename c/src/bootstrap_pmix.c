@@ -91,7 +91,7 @@ static bool put_text(const char *key, char *text) {
     return !fails("publish an address", PMIx_Put(PMIX_GLOBAL, key, &value));
 }
 
-/* Publishes the own address, and node 0 the job's number, and waits until all have. */
+/* Publishes the local address, and node 0 the job's number, and waits until all have. */
 static bool publish(struct gasnetl_start *start, char *address) {
     char job[24];
     pmix_info_t collects;

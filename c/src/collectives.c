@@ -10,7 +10,7 @@
 enum { WORD = 8 };
 #define SIGN ((uint64_t)1 << 63)
 
-/* ---- Places in the own segment. */
+/* ---- Places in the local segment. */
 
 static uint64_t area_at(const struct gasnetl_job *job) { return job->segment.stage + GASNETL_STAGE + GASNETL_BLOCKS_OWN; }
 

@@ -2,7 +2,7 @@
  *
  * The endpoint has one collective at a time, of at most GASNETL_COLLECTIVE_ROOM bytes a node. So what clients begin is
  * queued, and cut into pieces, each of which is a collective of the endpoint. Each poll takes the first one as far as it
- * goes. The bytes that a piece gives, and its result, stand in the layer's part of the own segment, behind the area. */
+ * goes. The bytes that a piece gives, and its result, stand in the layer's part of the local segment, behind the area. */
 #ifndef GASNETL_COLLECTIVES_H
 #define GASNETL_COLLECTIVES_H
 

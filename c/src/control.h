@@ -12,7 +12,7 @@
 struct gasnetl_job;
 
 struct gasnetl_control {
-    bool has_size, has_base;               /* the own segment's size is fixed; it is placed */
+    bool has_size, has_base;               /* the local segment's size is fixed; it is placed */
     bool knows_size[GASNET_MAXNODES], knows_base[GASNET_MAXNODES];
     bool has_left[GASNET_MAXNODES];        /* the peer said that it ends */
     bool knows_we_left[GASNET_MAXNODES];   /* the peer said that it heard that we end */
@@ -25,7 +25,7 @@ bool gasnetl_control_is(const uint8_t *bytes, size_t length);
 /* Takes such a datagram of this node. Where it says that the whole job ends, this process does. */
 void gasnetl_control_take(struct gasnetl_job *job, uint16_t from, const uint8_t *bytes);
 
-/* Tells all nodes the own segment's size, and waits until all theirs are known; then the same of the places. A peer that
+/* Tells all nodes the local segment's size, and waits until all theirs are known; then the same of the places. A peer that
  * doesn't come ends the job. */
 void gasnetl_exchange_sizes(struct gasnetl_job *job);
 void gasnetl_exchange_bases(struct gasnetl_job *job);

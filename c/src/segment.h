@@ -1,4 +1,4 @@
-/* The segments: where each node's lies, and what of the own one is the client's. */
+/* The segments: where each node's lies, and what of the local one is the client's. */
 #ifndef GASNETL_SEGMENT_H
 #define GASNETL_SEGMENT_H
 
@@ -11,21 +11,21 @@
 struct gasnetl_job;
 
 struct gasnetl_segment {
-    uint8_t *base;       /* the own one: the client's part, and from `stage` on the layer's */
+    uint8_t *base;       /* the local one: the client's part, and from `stage` on the layer's */
     uintptr_t size;      /* of the client's part */
     uint64_t stage;      /* the same offset on all nodes: behind the greatest client's part */
     uint8_t *bases[GASNET_MAXNODES];
     uintptr_t sizes[GASNET_MAXNODES];
 };
 
-/* Has fresh pages of zeros for the own segment, which cost nothing before they are used. They stay until the process ends,
+/* Has fresh pages of zeros for the local segment, which cost nothing before they are used. They stay until the process ends,
  * since a thread may use them until then. False where the system has none. */
 bool gasnetl_segment_open(struct gasnetl_segment *segment, uint64_t length);
 
 /* Where these bytes lie in a node's segment, whose client's part has all of them. False where it hasn't. */
 bool gasnetl_far(const struct gasnetl_job *job, gasnet_node_t node, const void *at, size_t nbytes, uint64_t *offset);
 
-/* Whether some of these bytes lie in the own segment, but not all in its client's part. The library takes no pointer there. */
+/* Whether some of these bytes lie in the local segment, but not all in its client's part. The library takes no pointer there. */
 bool gasnetl_straddles(const struct gasnetl_job *job, const void *at, size_t nbytes);
 
 #endif

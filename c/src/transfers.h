@@ -1,7 +1,7 @@
 /* Puts, gets and memsets to other nodes.
  *
  * A transfer is cut into pieces, and each piece is begun as one operation of the endpoint, which sends it in chunks. The
- * endpoint moves bytes between segments alone. So a piece whose near side isn't in the client's part of the own segment
+ * endpoint moves bytes between segments alone. So a piece whose near side isn't in the client's part of the local segment
  * has a place behind that part, the stage: a put is copied there as it begins, a get is copied out as it is complete.
  *
  * The endpoint's tick names the node and the slot of each chunk that it sends, and a delivery those of each that is back.
@@ -38,7 +38,7 @@ struct gasnetl_move {
     enum gasnetl_kind kind;
     gasnet_node_t node;
     uint8_t byte;    /* of a memset */
-    bool direct;     /* the near side is in the client's part of the own segment, and may be read until the sync */
+    bool direct;     /* the near side is in the client's part of the local segment, and may be read until the sync */
     uint64_t remote; /* the offset of the far side in its segment */
     uint8_t *near;   /* NULL of a memset */
     size_t nbytes;

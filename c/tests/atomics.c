@@ -1,4 +1,4 @@
-/* Operations on words: the sum of what all nodes add, a lock, each operation, the own node, many at once, implicit ones
+/* Operations on words: the sum of what all nodes add, a lock, each operation, the local node, many at once, implicit ones
  * and access regions, while puts and messages of the same nodes are under way. */
 #define GASNET_SEQ 1
 #include "check.h"

@@ -38,7 +38,7 @@ int main(int argc, char **argv) {
     /* One notify with MISMATCH is one for all. */
     CHECK(pass(9, me == nodes - 1 ? GASNET_BARRIERFLAG_MISMATCH : 0) == GASNET_ERR_BARRIER_MISMATCH);
     CHECK(pass(10, 0) == GASNET_OK);
-    /* A wait with another identifier than the own notify's. */
+    /* A wait with another identifier than the local notify's. */
     gasnet_barrier_notify(11, 0);
     CHECK(wait_for(12, 0) == GASNET_ERR_BARRIER_MISMATCH);
     CHECK(pass(0, GASNET_BARRIERFLAG_ANONYMOUS) == GASNET_OK);

@@ -138,7 +138,7 @@ static void test_each(int root) {
         }
 }
 
-/* Odd lengths, and both sides in the own segment. */
+/* Odd lengths, and both sides in the local segment. */
 static void test_segment(void) {
     for (size_t length = 1; length < 20; length++) {
         run(&(struct one){ .kind = GATHER, .root = nodes - 1, .when = 7, .length = length, .from = at(me, 0), .to = at(me, SEGMENT / 2) });

@@ -1,5 +1,5 @@
 /* Active messages: each category with 0 to 16 arguments, payloads of 0, 1 and the most bytes, replies of each category,
- * to each node, the own one too. */
+ * to each node, the local one too. */
 #define GASNET_SEQ 1
 #include "check.h"
 
@@ -144,7 +144,7 @@ static void test_sizes(int node, size_t nbytes) {
     barrier();
 }
 
-/* A payload may come from the own segment. */
+/* A payload may come from the local segment. */
 static void test_from_segment(int node) {
     unsigned char *own = at(me, SEGMENT - 3 * PLACE);
     backs = 0;

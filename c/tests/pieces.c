@@ -1,4 +1,4 @@
-/* Puts and gets of many pieces: vector, indexed and strided, in three ways, to the next node and to the own one. What came
+/* Puts and gets of many pieces: vector, indexed and strided, in three ways, to the next node and to the local one. What came
  * is compared with the bytes that the definitions name, one by one. */
 #define GASNET_SEQ 1
 #include "check.h"

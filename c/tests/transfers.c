@@ -1,5 +1,5 @@
 /* Puts, gets and memsets: blocking, with handles, implicit, in access regions, and of values; with the near side inside
- * and outside the segment, to the next node and to the own one, and many at once. */
+ * and outside the segment, to the next node and to the local one, and many at once. */
 #define GASNET_SEQ 1
 #include "check.h"
 

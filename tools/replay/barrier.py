@@ -51,14 +51,14 @@ class Barrier:
         self.notifies.append((identifier, flags))
         return "ok"
 
-    def attempt(self, identifier, flags, worn):
-        """A try of the present phase; `worn` says of a node that no number is left for it."""
+    def attempt(self, identifier, flags, exhausted):
+        """A try of the present phase; `exhausted` says of a node that no number is left for it."""
         own = self.own(self.ended)
         if flags > 3 or not own:
             return "bad-flags" if flags > 3 else "no-notify"
         part = self.known(self.ended)
         if part.mask != (1 << self.job.nodes) - 1:
-            stuck = [to for to in self.due(self.ended) if worn(to)]
+            stuck = [to for to in self.due(self.ended) if exhausted(to)]
             return f"worn-out {min(stuck)}" if stuck else "not-ready"
         self.ended += 1
         other = own[1] != flags or not (flags & ANONYMOUS or own[0] == identifier)

@@ -76,7 +76,7 @@ class Collectives:
         self.base, self.room = node.job.collect
         self.started = self.ended = 0
         self.shape = None
-        self.sent, self.worn = set(), set()
+        self.sent, self.exhausted = set(), set()
 
     # ---- the area
 
@@ -124,7 +124,7 @@ class Collectives:
             self.shape = before
             return answer
         self.started += 1
-        self.sent, self.worn = set(), set()
+        self.sent, self.exhausted = set(), set()
         return "ok"
 
     def start_fault(self, shape, source):
@@ -149,7 +149,7 @@ class Collectives:
                 return f"sent {to}", did.sent
             if did.answer.startswith("forbidden"):
                 return did.answer, None
-            (self.worn.add if did.answer == "worn-out" else self.worn.discard)(to)
+            (self.exhausted.add if did.answer == "worn-out" else self.exhausted.discard)(to)
         return "nothing", None
 
     def attempt(self, thread, place):
@@ -162,8 +162,8 @@ class Collectives:
         if forbidden:
             return forbidden
         if not self.is_ready():
-            worn = [node for node in self.others if node in self.worn - self.sent]
-            return f"worn-out {worn[0]}" if worn else "not-ready"
+            exhausted = [node for node in self.others if node in self.exhausted - self.sent]
+            return f"worn-out {exhausted[0]}" if exhausted else "not-ready"
         return self.end(place)
 
     def is_bad(self, place):

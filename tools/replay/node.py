@@ -67,11 +67,11 @@ class Node:
     def open_to(self, peer):
         return self.open.get(peer, {})
 
-    def worn(self, to):
+    def exhausted(self, to):
         return len(self.asked.get(to, ())) >= self.job.last
 
     def can_ask(self, to):
-        return to != self.me and not self.worn(to) and len(self.open_to(to)) < self.job.credits_of(self.me, to)
+        return to != self.me and not self.exhausted(to) and len(self.open_to(to)) < self.job.credits_of(self.me, to)
 
     def accept(self, now, to, content):
         taken = {request.message.slot for request in self.open_to(to).values()}
@@ -110,7 +110,7 @@ class Node:
         if asked.to == self.me:
             return self.ask_itself(content)
         if not self.can_ask(asked.to):
-            return Did("worn-out" if self.worn(asked.to) else "not-yet")
+            return Did("worn-out" if self.exhausted(asked.to) else "not-yet")
         message = self.accept(now, asked.to, content)
         return Did(f"accepted {asked.to} {message.slot} {message.number}", message)
 
@@ -260,7 +260,7 @@ class Node:
     def on_barrier(self, name, identifier, flags):
         if name == "notify":
             return self.barrier.notify(identifier, flags)
-        return self.barrier.attempt(identifier, flags, self.worn)
+        return self.barrier.attempt(identifier, flags, self.exhausted)
 
     def on_transfers(self, thread, words):
         name, numbers = words[0], words[1:]
@@ -337,13 +337,13 @@ class Node:
         if name == "try-nbi":
             if thread in transfers.regions:
                 return "in-region"
-            return transfers.sync_operations(transfers.implicit(thread, words[0]), self.worn)
+            return transfers.sync_operations(transfers.implicit(thread, words[0]), self.exhausted)
         registers = list(map(int, words))
         if name == "issued":
             return transfers.issued(*registers)
         if name == "try-some":
-            return transfers.sync_some(thread, registers, self.worn)
-        answer = transfers.sync(thread, [transfers.handle(register) for register in registers], self.worn)
+            return transfers.sync_some(thread, registers, self.exhausted)
+        answer = transfers.sync(thread, [transfers.handle(register) for register in registers], self.exhausted)
         if name == "try-all" and answer == "ok":
             transfers.invalidate(registers)
         return answer

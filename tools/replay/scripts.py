@@ -69,7 +69,7 @@ class Script:
             return Tried("ok" if answer == "done" else answer)
         transfers = self.node.transfers
         answer = self.node.client.forbidden(self.thread, "sync")
-        answer = answer or transfers.sync(self.thread, [number_of(self.began)], self.node.worn)
+        answer = answer or transfers.sync(self.thread, [number_of(self.began)], self.node.exhausted)
         return Tried(None if answer == "not-ready" else answer)
 
     def attempt_put(self, now, call):

@@ -101,13 +101,13 @@ class Transfers:
                 return "not-yours"
         return None
 
-    def unready(self, operations, worn):
-        nodes = [one.transfer.to for one in operations if one.has_next and worn(one.transfer.to)]
+    def unready(self, operations, exhausted):
+        nodes = [one.transfer.to for one in operations if one.has_next and exhausted(one.transfer.to)]
         return f"worn-out {min(nodes)}" if nodes else "not-ready"
 
-    def sync_operations(self, operations, worn):
+    def sync_operations(self, operations, exhausted):
         if not all(one.is_complete for one in operations):
-            return self.unready(operations, worn)
+            return self.unready(operations, exhausted)
         self.leave(operations)
         return "ok"
 
@@ -118,17 +118,17 @@ class Transfers:
     def members_of(self, handles):
         return [one for handle in handles if handle for one in self.members(handle)]
 
-    def sync(self, thread, handles, worn):
-        return self.fault_of(thread, handles) or self.sync_operations(self.members_of(handles), worn)
+    def sync(self, thread, handles, exhausted):
+        return self.fault_of(thread, handles) or self.sync_operations(self.members_of(handles), exhausted)
 
-    def sync_some(self, thread, registers, worn):
+    def sync_some(self, thread, registers, exhausted):
         handles = [self.handle(register) for register in registers]
         fault = self.fault_of(thread, handles)
         if fault:
             return fault
         whole = [handle for handle in handles if handle and all(one.is_complete for one in self.members(handle))]
         if any(handles) and not whole:
-            return self.unready(self.members_of(handles), worn)
+            return self.unready(self.members_of(handles), exhausted)
         self.leave(self.members_of(whole))
         self.invalidate([register for register, handle in zip(registers, handles) if handle in whole])
         return "ok"

@@ -64,7 +64,7 @@ struct exchange {
     char *part;   /* where they were, and where the result is to be */
     char *shared; /* where what becomes of them is: apart, if they are long */
     char *room;   /* as long, for what comes, if they are long; else null */
-    bool is_shown; /* both are in the own segment, so others get what they need from there */
+    bool is_shown; /* both are in the local segment, so others get what they need from there */
     struct range due; /* what of the result isn't there yet */
     uint32_t answers; /* the steps whose answers are due, as bits */
 };
@@ -74,7 +74,7 @@ static bool is_long(const struct exchange *exchange) {
     return members > 1 && exchange->count >= members && exchange->count * exchange->combiner->type.size >= LONG;
 }
 
-/* Takes memory for a long part, of the own segment where that has some. */
+/* Takes memory for a long part, of the local segment where that has some. */
 static void share(struct exchange *exchange) {
     size_t length = exchange->count * exchange->combiner->type.size;
     if (!is_long(exchange) || length < SHARED)
