@@ -1,4 +1,4 @@
--- What the payload of an own request or of its reply becomes: a Long's stands in the segment, a Medium's at the front
+-- What the payload of an own request or of its reply becomes. A Long's stands in the segment, a Medium's at the front
 -- of a buffer.
 use Rattle.std.specs.Prelude.{ℕ, ◌≡◌, ◌≤◌, take, List, length, Option, Some, None, if◌then◌else◌}
 use Rattle.datagram_grammar.specs.Content.{Content, code, is_long}

@@ -1,5 +1,5 @@
--- The library's own messages, which carry transfers and notes of the barrier from node to node: what each says, when it
--- is refused, and what its run gives.
+-- The library's own messages, which carry transfers and notes of the barrier from node to node. Of each: what it says,
+-- when it is refused, and what its run gives.
 -- Origin: GASNet 1.8.1, core API: no client registers a handler with an index below 128; extended API: transfers of
 -- memory, memset, split-phase barriers. The handlers and their arguments are this project's profile.
 use Rattle.std.specs.Prelude.{ℕ, ℤ, pos, negsuc, ◌+◌, ◌-◌, ◌<◌, ◌≤◌, ◌==◌, Bool, true, false, not, ◌||◌, nat_le, nat_lt}

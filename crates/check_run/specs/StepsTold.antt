@@ -1,5 +1,5 @@
--- What the lines of the steps of a run of traces tell: which step of which thread ended, by which calls of the run, and
--- how these were answered there.
+-- What the lines of the steps of a run of traces tell. Of each: which step of which thread ended, by which calls of the
+-- run, and how these were answered there.
 -- Origin: this project's profile. What an `ok` of a transfer and of the barrier means is that of GASNet 1.8.1.
 use Rattle.std.specs.Prelude.{◌≡◌, ◌<◌, ◌⊎◌, ℕ, ℤ, zero, suc, ◌==◌, ◌&&◌, if◌then◌else◌, List, [], ◌∷◌, ◌++◌, Option}
 use Rattle.std.specs.Prelude.{Some, None, ◌+◌, is_some, length, slice_get, take}

@@ -1,5 +1,5 @@
--- The nodes of a job that run collectives: their records, how far each is, and what it gave to each phase; and what
--- each event of these leaves.
+-- The nodes of a job that run collectives: their records, how far each is, and what it gave to each phase. What each
+-- event of these leaves.
 -- Origin: this project's profile, over GASNet 1.8.1, core API, active messages.
 use Rattle.std.specs.Prelude.{ℕ, zero, suc, ◌≡◌, ◌≢◌, ◌+◌, ◌<◌, ◌≤◌, ◌==◌, if◌then◌else◌, true, false, List, [], ◌∷◌, ◌++◌}
 use Rattle.std.specs.Prelude.{Option, None, Some, fold}

@@ -1,5 +1,5 @@
--- What a batch asks of the node that it is for: how a message says it, and what may be wrong with it (this project's
--- profile).
+-- What a batch asks of the node that it is for. A message says it in one way, and what may be wrong with it is listed
+-- (this project's profile).
 use Rattle.std.specs.Prelude.{ℕ, zero, suc, ℤ, ◌+◌, ◌*◌, ◌/◌, ◌%◌, ◌==◌, ◌&&◌, nat_lt, nat_le, not, Bool}
 use Rattle.std.specs.Prelude.{if◌then◌else◌, List, [], ◌∷◌, ◌++◌, length, take, drop, Option, None, Some, option_map}
 use Rattle.std.specs.List.{flat_map, list_all}

@@ -1,5 +1,5 @@
--- How far a node is with its collectives, and what its calls ask of the node: the calls that they make, in order, and
--- what they are answered.
+-- How far a node is with its collectives, and what its calls ask of the node. That is the calls that they make, in
+-- order, and what these are answered.
 -- Origin: this project's profile, over GASNet 1.8.1, core API, active messages.
 use Rattle.std.specs.Prelude.{ℕ, zero, suc, ◌+◌, ◌-◌, ◌%◌, ◌^◌, ◌==◌, ◌&&◌, ◌||◌, nat_lt, nat_le, not, Bool}
 use Rattle.std.specs.Prelude.{true, false, if◌then◌else◌, List, [], ◌∷◌, length, Option, None, Some}

@@ -35,7 +35,7 @@ use Rattle.endpoint_rules.specs.EndpointRules.{transition, Records}
 use Rattle.gas_world.specs.Exchanges.{with_ran, with_returned}
 use Rattle.gas_endpoint.specs.EndpointState.{EndpointState}
 use Rattle.gas_world.specs.WorldState.{WorldState}
-use Rattle.gas_world.specs.EventScopes.{EventScope, ran_list, returned_list, request_letter, reply_letter}
+use Rattle.gas_world.specs.EventScopes.{EventScope, ran_list, returned_list, request_envelope, reply_envelope}
 use Rattle.gas_world.specs.EventScopes.{RequestFalls, RequestRuns, RequestRepeats, repeated}
 use Rattle.gas_world.specs.EventScopes.{ReplyFalls, ReplyReturns, ReplyIsLate}
 use Rattle.gas_world.specs.Stands.{StandsForPair, Stands}
@@ -150,7 +150,7 @@ first_steps : (meaning : Meaning) (v z : WorldState) (now i j k : ℕ) (x : Requ
     → i < v.settings.nodes → j < v.settings.nodes → i ≢ j → Falls v z j (i * v.settings.nodes + j) old new
     → slice_get v.endpoints i ≡ Some sender → numbered ((w i).asked j) k ≡ Some x
     → run_of k ((w j).ran i) ≡ None
-    → RequestRuns meaning (record { sender = sender; slot = x.slot }) old (transition now (request_letter i j k) answer)
+    → RequestRuns meaning (record { sender = sender; slot = x.slot }) old (transition now (request_envelope i j k) answer)
     new
     → Stepped meaning v now (RequestComes i j k) (world_answers.Node answer) z w most
 first_steps meaning v z now i j k x sender answer old new w most lawful S i_in j_in apart F lent sent none R =
@@ -195,7 +195,7 @@ again_steps : (meaning : Meaning) (v z : WorldState) (now i j k : ℕ) (x : Requ
     (old new : EventScope) (w : Records) (most : ℕ → ℕ) → IsLawfulMeaning meaning → Stands v w most
     → i < v.settings.nodes → j < v.settings.nodes → i ≢ j → Falls v z j (i * v.settings.nodes + j) old new
     → numbered ((w i).asked j) k ≡ Some x → run_of k ((w j).ran i) ≡ Some t
-    → RequestRepeats x.slot old (transition now (request_letter i j k) answer) new
+    → RequestRepeats x.slot old (transition now (request_envelope i j k) answer) new
     → Stepped meaning v now (RequestComes i j k) (world_answers.Node answer) z w most
 again_steps meaning v z now i j k x t answer old new w most lawful S i_in j_in apart F sent ran R =
     let s = v.settings in
@@ -222,11 +222,11 @@ again_steps meaning v z now i j k x t answer old new w most lawful S i_in j_in a
 pub request_steps : (meaning : Meaning) (v z : WorldState) (now i j k : ℕ) (sender : EndpointState) (a : WorldAnswer)
     (old new : EventScope) → IsLawfulMeaning meaning → i < v.settings.nodes → j < v.settings.nodes → i ≢ j
     → Falls v z j (i * v.settings.nodes + j) old new → slice_get v.endpoints i ≡ Some sender
-    → RequestFalls meaning sender old (transition now (request_letter i j k) a) new
+    → RequestFalls meaning sender old (transition now (request_envelope i j k) a) new
     → Steps meaning v (transition now (RequestComes i j k) a) z
 request_steps meaning v z now i j k sender (world_answers.Node answer) old new lawful i_in j_in apart F lent R =
     λ w most S.
-    let step = transition now (request_letter i j k) answer in
+    let step = transition now (request_envelope i j k) answer in
     let it = sent_is old.exchanges.list ((w i).asked j) ((w j).ran i) k R.exchange
     (scope_pair v z w most j i j old new S F i_in j_in) R.sent in
     elim (cases_Bool R.exchange.ran) [
@@ -305,7 +305,7 @@ take_steps : (meaning : Meaning) (v z : WorldState) (now i j k : ℕ) (x : Reque
     → i < v.settings.nodes → j < v.settings.nodes → i ≢ j → Falls v z i (i * v.settings.nodes + j) old new
     → slice_get v.endpoints j ≡ Some sender → numbered ((w i).asked j) k ≡ Some x → x.back ≡ false
     → run_of k ((w j).ran i) ≡ Some r
-    → ReplyReturns meaning (record { sender = sender; slot = x.slot }) old (transition now (reply_letter i j k) answer)
+    → ReplyReturns meaning (record { sender = sender; slot = x.slot }) old (transition now (reply_envelope i j k) answer)
     new
     → Stepped meaning v now (ReplyComes i j k) (world_answers.Node answer) z w most
 take_steps meaning v z now i j k x r sender answer old new w most lawful S i_in j_in apart F lent sent out ran R =
@@ -352,11 +352,11 @@ late_steps meaning v z now i j k x r answer old new w most lawful S i_in j_in F 
 pub reply_steps : (meaning : Meaning) (v z : WorldState) (now i j k : ℕ) (sender : EndpointState) (a : WorldAnswer)
     (old new : EventScope) → IsLawfulMeaning meaning → i < v.settings.nodes → j < v.settings.nodes → i ≢ j
     → Falls v z i (i * v.settings.nodes + j) old new → slice_get v.endpoints j ≡ Some sender
-    → ReplyFalls meaning sender old (transition now (reply_letter i j k) a) new
+    → ReplyFalls meaning sender old (transition now (reply_envelope i j k) a) new
     → Steps meaning v (transition now (ReplyComes i j k) a) z
 reply_steps meaning v z now i j k sender (world_answers.Node answer) old new lawful i_in j_in apart F lent R =
     λ w most S.
-    let step = transition now (reply_letter i j k) answer in
+    let step = transition now (reply_envelope i j k) answer in
     let it = sent_is old.exchanges.list ((w i).asked j) ((w j).ran i) k R.exchange
     (scope_pair v z w most i i j old new S F i_in j_in) R.sent in
     let r = did_run (run_of k ((w j).ran i)) (sym R.ran ∙ it.stands.ran) in

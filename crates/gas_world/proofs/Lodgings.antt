@@ -11,7 +11,7 @@ use Rattle.gas_world.specs.ExchangesState.{ExchangesState}
 use Rattle.gas_endpoint.specs.EndpointState.{EndpointState}
 use Rattle.gas_world.specs.WorldState.{WorldState}
 use Rattle.gas_world.specs.EventScopes.{HoldsMessage, HoldsRequest, HoldsReply, IsHeld, IsBetween}
-use Rattle.gas_world.specs.EventScopes.{request_letter, reply_letter}
+use Rattle.gas_world.specs.EventScopes.{request_envelope, reply_envelope}
 use Rattle.gas_world.specs.Stands.{Stands, StandsForPair}
 use Rattle.gas_world.specs.declared.exchanges.Exchange.{Exchange}
 use Rattle.gas_world.specs.Aims.{FallsAt}
@@ -39,7 +39,7 @@ pair_there v w most i j exchanges S i_in j_in at =
 pub request_held : (v : WorldState) (w : Records) (most : ℕ → ℕ) (i j k : ℕ) (exchanges : ExchangesState)
     (sender : EndpointState) → Stands v w most → i < v.settings.nodes → j < v.settings.nodes → i ≢ j
     → slice_get v.exchanges (i * v.settings.nodes + j) ≡ Some exchanges → slice_get v.endpoints i ≡ Some sender
-    → HoldsRequest exchanges.list sender (request_letter i j k)
+    → HoldsRequest exchanges.list sender (request_envelope i j k)
 request_held v w most i j k exchanges sender S i_in j_in apart pair lent = λ exchange at out.
     let s = v.settings in
     let it = sent_is exchanges.list ((w i).asked j) ((w j).ran i) k exchange
@@ -56,7 +56,7 @@ pub reply_held : (meaning : Meaning) (v : WorldState) (w : Records) (most : ℕ 
     (exchanges : ExchangesState) (sender : EndpointState) → IsLawfulMeaning meaning → Stands v w most
     → i < v.settings.nodes → j < v.settings.nodes
     → slice_get v.exchanges (i * v.settings.nodes + j) ≡ Some exchanges → slice_get v.endpoints j ≡ Some sender
-    → HoldsReply exchanges.list sender (reply_letter i j k)
+    → HoldsReply exchanges.list sender (reply_envelope i j k)
 reply_held meaning v w most i j k exchanges sender lawful S i_in j_in pair lent = λ exchange at did out.
     let s = v.settings in
     let it = sent_is exchanges.list ((w i).asked j) ((w j).ran i) k exchange

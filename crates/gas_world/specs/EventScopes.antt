@@ -287,11 +287,11 @@ pub record Meets (meaning : Meaning) (endpoints : List EndpointState) (old : Eve
   pub falls : EnvelopeFalls meaning sender old step new
 
 -- a request of the pair, and the reply to one
-abbrev pub request_letter : (from to number : ℕ) → Envelope
-request_letter from to number = record { side = side.Request; sender = from; receiver = to; number = number }
+abbrev pub request_envelope : (from to number : ℕ) → Envelope
+request_envelope from to number = record { side = side.Request; sender = from; receiver = to; number = number }
 
-abbrev pub reply_letter : (from to number : ℕ) → Envelope
-reply_letter from to number = record { side = side.Reply; sender = to; receiver = from; number = number }
+abbrev pub reply_envelope : (from to number : ℕ) → Envelope
+reply_envelope from to number = record { side = side.Reply; sender = to; receiver = from; number = number }
 
 -- an event does this to the scope on which it falls, among these endpoints
 abbrev pub EventScopeSteps : Meaning → List EndpointState → EventScope → Transition WorldEvent WorldAnswer → EventScope → Type 0
@@ -299,9 +299,9 @@ EventScopeSteps meaning endpoints old step new = elim step.event [
   | world_event.Call node thread call ↦
       CallFalls meaning old (is_to_other node call) (transition step.now (event.Call thread call) step.answer) new
   | world_event.Request from to number ↦
-      Meets meaning endpoints old (transition step.now (request_letter from to number) step.answer) new
+      Meets meaning endpoints old (transition step.now (request_envelope from to number) step.answer) new
   | world_event.Reply from to number ↦
-      Meets meaning endpoints old (transition step.now (reply_letter from to number) step.answer) new
+      Meets meaning endpoints old (transition step.now (reply_envelope from to number) step.answer) new
   | world_event.Tick node ↦ TickFalls meaning old (transition step.now event.Tick step.answer) new
 ]
 
@@ -343,9 +343,9 @@ IsCallable endpoints (world_event.Tick node) = Unit {0}
 abbrev pub IsHeld : List EndpointState → List Exchange → WorldEvent → Type 0
 IsHeld endpoints exchanges (world_event.Call node thread call) = Unit {0}
 IsHeld endpoints exchanges (world_event.Request from to number) =
-    HoldsAmong endpoints exchanges (request_letter from to number)
+    HoldsAmong endpoints exchanges (request_envelope from to number)
 IsHeld endpoints exchanges (world_event.Reply from to number) =
-    HoldsAmong endpoints exchanges (reply_letter from to number)
+    HoldsAmong endpoints exchanges (reply_envelope from to number)
 IsHeld endpoints exchanges (world_event.Tick node) = Unit {0}
 
 -- the endpoints, with the exchanges of a pair and the greatest number that a node held

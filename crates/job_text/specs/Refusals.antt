@@ -1,4 +1,6 @@
--- What a refusal means, apart from the reader.
+-- What a refusal means beside the reader: of the lines before a bad one, and of the bad one. Whether a line is one of
+-- words, has a form, repeats what stood before or finds no room is said by the reader's own tests (`is_text`,
+-- `item_form`, `has_pair`, `has_thread`, `is_full`).
 use Rattle.std.specs.Prelude.{◌≡◌, ◌≢◌, ◌⊎◌, ℕ, zero, suc, ◌+◌, ◌-◌, ◌<◌, ◌≤◌, List, [], ◌∷◌, ◌++◌, length, map, codes}
 use Rattle.std.specs.Prelude.{Some, None, is_some, true, false, ◌==◌, ◌||◌, if◌then◌else◌, Result, Ok, Err}
 use Rattle.job_text.specs.Reasons.{is_text}

@@ -1,4 +1,5 @@
--- The requests that a node asked of one peer: their slots and numbers, and which of them is due.
+-- The requests that a node asked of one peer: their slots and numbers, and which of them is due,
+-- by the record.
 -- Origin: GASNet 1.8.1, core API, active messages. Credits, slots, numbers and resending are this project's profile.
 use Rattle.std.specs.Prelude.{ℕ, zero, suc, ◌+◌, ◌==◌, nat_le, nat_lt, Bool, true, false, not, ◌&&◌, ◌||◌}
 use Rattle.std.specs.Prelude.{if◌then◌else◌, List, [], ◌∷◌, ◌++◌, Option, None, Some, length}

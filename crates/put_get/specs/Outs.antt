@@ -1,4 +1,4 @@
--- The chunks that are out: that were issued and aren't back.
+-- The chunks that are open: issued, and not back.
 use Rattle.std.specs.Prelude.{ℕ, suc, ◌==◌, not, ◌&&◌, if◌then◌else◌, List, [], ◌∷◌, ◌++◌, map}
 use Rattle.put_get.specs.Operation.{Operation, Sent, target}
 
