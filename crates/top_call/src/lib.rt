@@ -34,8 +34,8 @@
 //!     their struck traces are no run (`AreNoRun`); 12 names the smallest rank of a node that ended otherwise, and the
 //!     status in its output.
 //!     3 comes only where no job with outputs has the bytes read as its text, and its line and word are the first bad
-//!     line and the first reason that applies to it, in the job's text with what that means, behind it by the reader
-//!     alone (`TakesNone`), or `0 size` for more than 67,108,864 bytes; 4 as above.
+//!     line and the first reason that applies to it, with what that means apart from the reader
+//!     (`InputMeans`), of that line and reason alone (`only`), or `0 size` for more than 67,108,864 bytes; 4 as above.
 //!   - `launch PORT` (`LaunchMeans`): with 0, 1 and 11 the bytes read are the text of a job, as of `world`, that has a
 //!     port for each node, and of the outputs that children gave all holds that `check` says of those it read. Where
 //!     the spawner tells its calls, and told no finish of these ranks before, it told, behind what it told before, a

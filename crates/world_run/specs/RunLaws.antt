@@ -128,9 +128,9 @@ try_at j place time node thread dest good there = record {
   dest = dest;
 }
 
--- Where a line that tries to end a collective is told `ok`, all nodes have started that phase with one shape, and the
--- bytes at `dest` are the node's result. In the lines before it nothing but collectives wrote into their areas, and nobody
--- else asked for their handler
+-- Say that in the lines before one that tries to end a collective nothing but collectives wrote into their areas, and
+-- nobody else asked for their handler. Where that line is told `ok`, all nodes have started that phase with one shape,
+-- and the bytes at `dest` are the node's result
 abbrev pub ResultsHold : JobState → Type 0
 ResultsHold j =
     (place node thread dest : ℕ)
