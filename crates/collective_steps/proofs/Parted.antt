@@ -289,7 +289,7 @@ step_ended at node it dest told end last next new C G is =
       next_is = ap Some C.next_is;
     })
 
--- no node is known to be exhausted out
+-- no node is known to be exhausted
 none_exhausted : (it : CollectivesState) → exhausted_node it.area it.me (progress_of it) ≡ None → NoneExhausted it it.area.nodes
 none_exhausted it none node low =
     let high : node < 0 + it.area.nodes = omega (arith, low) in
@@ -302,7 +302,7 @@ unexhausted_is it = go (exhausted_node it.area it.me (progress_of it))
     go None e = refl
     go (Some node) e = absurd (true≢false (sym e))
 
--- a try that isn't ready leaves the collectives, and knows no node to be exhausted out
+-- a try that isn't ready leaves the collectives, and knows no node to be exhausted
 record IsUnready (it next : CollectivesState) : Type 0 where
   pub same : next ≡ it
   pub none : exhausted_node it.area it.me (progress_of it) ≡ None

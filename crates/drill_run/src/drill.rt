@@ -84,7 +84,8 @@ fn run_event(
     ensures table { world.new.table ≡ world.old.table }
     ensures few { (most : ℕ) → AreAtMost most counts.old → AreAtMost (most + 1) counts.new }
     ensures runs { OnOk result (CountsEvent (job_by script.now world.old)
-        (timed now (event_of event.now)) (stage world.old counts.old) (stage world.new counts.new)) }
+        (timed now (event_of event.now)) (stage world.old counts.old)
+        (stage world.new counts.new)) }
 {
     match world.step(script.handlers(), now, event) {
         WorldAnswer::NoMemory => Err(AllocError),
@@ -110,7 +111,8 @@ fn run_short(
     ensures table { world.new.table ≡ world.old.table }
     ensures few { (most : ℕ) → AreAtMost most counts.old → AreAtMost (most + 1) counts.new }
     ensures runs { OnOk result (CountsLines (job_by script.now world.old)
-        (deed_lines now Deed.Short round) (stage world.old counts.old) (stage world.new counts.new)) }
+        (deed_lines now Deed.Short round) (stage world.old counts.old)
+        (stage world.new counts.new)) }
 {
     let args = [(round.rest % 1000) as i32];
     let event = WorldEvent::Call {

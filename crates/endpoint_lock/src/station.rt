@@ -126,9 +126,11 @@ impl<M: Machine, L: Link, C: Clock, K: Recorder> Station<M, L, C, K> {
         requires { 1 ≤ patience }
         ensures made { MatchResult result
             (λ station. station ≡ opened (opened_with machine link clock recorder patience))
-            (λ unmade. unmade ≡ record { machine = machine; link = link; clock = clock; recorder = recorder }) }
+            (λ unmade. unmade
+            ≡ record { machine = machine; link = link; clock = clock; recorder = recorder }) }
         ensures facts { IfOk result (λ station.
-            Facts M.Machine L.Link C.Clock K.Recorder (opened_with machine link clock recorder patience) [] station) }
+            Facts M.Machine L.Link C.Clock K.Recorder
+            (opened_with machine link clock recorder patience) [] station) }
     {
         let Ok(inbox) = Inbox::new(alloc) else {
             return Err(Unmade {

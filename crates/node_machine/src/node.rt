@@ -178,7 +178,8 @@ impl<'a> NodeMachine<'a> {
     /// The endpoint alone.
     pub fn into_endpoint(self) -> Endpoint
         ensures is { result ≡ self.entry.endpoint }
-        ensures node { IsNodeOf self.entry.job.settings (registered (handlers_of self.entry.job)).table
+        ensures node { IsNodeOf self.entry.job.settings
+            (registered (handlers_of self.entry.job)).table
             result.core.me result }
     {
         let NodeMachine { endpoint, .. } = self;

@@ -116,8 +116,10 @@ pub fn take_turn<H: Handlers>(
           thread = turn.entry.thread;
           now = turn.entry.now;
           got = option_copied turn.entry.got;
-        }) result
-        (record { endpoint = endpoint.new; collectives = collectives.new }, progress_of cursor.new) }
+        }) result (
+          record { endpoint = endpoint.new; collectives = collectives.new },
+          progress_of cursor.new,
+        ) }
     ensures there { AreThere endpoint.new collectives.new }
 {
     let sent = before_try(endpoint, handlers, turn.now, turn.polls, turn.got);

@@ -63,7 +63,8 @@ fn run_bound<
     G: Waiter + Sync,
 >(rt: &R, alloc: Global, node: Node<M, L, C>, recorder: D, waiter: &G) -> Ended<M, L, C, D>
     requires { 1 ≤ node.patience }
-    ensures { Leaves M.Machine L.Link C.Clock D.Recorder (opening_over node.link recorder node) result }
+    ensures { Leaves M.Machine L.Link C.Clock D.Recorder (opening_over node.link recorder node)
+        result }
 {
     let Node {
         place: _,

@@ -11,8 +11,8 @@ use Rattle.node_call.specs.Seen.{devices_seen}
 use Rattle.node_script.specs.Lines.{Word}
 use Rattle.top_call.specs.Commands.{IsAsked, code_of}
 use Rattle.top_call.specs.HowEnds.{Means}
-use Rattle.top_call.specs.Outsides.{Call, Course, Spawning, call_of, course_in, course_of, given_by, input, seen}
-use Rattle.top_call.specs.Outsides.{spawning_in, spawning_of, took_in}
+use Rattle.top_call.specs.Outsides.{Call, Course, Spawning, call_of, course_in, course_with, given_by, reading_over}
+use Rattle.top_call.specs.Outsides.{seen, spawning_in, spawning_of, took_in}
 use Rattle.top_call.specs.TopCall.{IsSaid}
 use Rattle.top_call.specs.TopParts.{Closes, Ends, EndsAs, EndsBy, Keeps, StandsOver, with_sink}
 use Rattle.top_call.specs.declared.ending.Ended.{Ended}
@@ -41,7 +41,7 @@ module _ {S K L P C G : Type 0} (sources : SourceGhosts S) (sinks : SinkGhosts K
   abbrev pub RanOver : (first last : Outside S (Gathering K) L P C G) → Ended → Type 0
   RanOver first last ended =
       EndsAs asked
-      (course_of (input sources.left sources.faults first.source) (input sources.left sources.faults last.source)
+      (course_with (reading_over sources.left sources.faults first.source last.source)
       (devices_seen links clocks first.link first.clock) (devices_seen links clocks last.link last.clock))
       (spawning_of (spawner_seen spawners first.spawner) (spawner_seen spawners last.spawner))
       (outbox sinks.taken sinks.faults first.sink) (outbox sinks.taken sinks.faults last.sink) ended

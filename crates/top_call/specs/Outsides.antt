@@ -73,6 +73,10 @@ pub record Reading : Type 0 where
 abbrev pub reading_of : (before after : Input) → Reading
 reading_of before after = record { before = before; after = after }
 
+-- that of a source of any kind
+abbrev pub reading_over : {S : Type 0} → (left : S → Option (List ℕ)) → (faults : S → ℕ) → (before after : S) → Reading
+reading_over left faults before after = reading_of (input left faults before) (input left faults after)
+
 -- that of a call
 abbrev pub read_in : Call → Reading
 read_in call = reading_of call.before.source call.after.source
@@ -85,9 +89,6 @@ pub record Course : Type 0 where
 
 abbrev pub course_with : Reading → (before after : DevicesSeen) → Course
 course_with reading before after = record { reading = reading; before = before; after = after }
-
-abbrev pub course_of : (old new : Input) → (before after : DevicesSeen) → Course
-course_of old new before after = course_with (reading_of old new) before after
 
 -- that of a call
 abbrev pub course_in : Call → Course

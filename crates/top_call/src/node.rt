@@ -6,7 +6,7 @@ ghost use Rattle.job_text.specs.JobText.{IsJob};
 ghost use Rattle.node_call.specs.Seen.{devices_seen};
 ghost use Rattle.top_call.specs.JobReads.{GivesJob};
 ghost use Rattle.top_call.specs.NodeCommand.{NodeEnds, has_place};
-ghost use Rattle.top_call.specs.Outsides.{Reading, course_of, course_with, input};
+ghost use Rattle.top_call.specs.Outsides.{Reading, course_with, reading_over};
 ghost use Rattle.top_call.specs.HowEnds.{nothing};
 ghost use Rattle.top_call.specs.TopParts.{EndsBy, Says, SaysNode};
 
@@ -175,7 +175,7 @@ pub fn node_command<
     outside: Outside<S, BufferedSink<K>, L, P, C, G>,
 ) -> (Ended, Outside<S, BufferedSink<K>, L, P, C, G>)
     ensures ends { EndsBy (NodeEnds asked.rank asked.port
-        (course_of (input S.left S.faults outside.source) (input S.left S.faults result.1.source)
+        (course_with (reading_over S.left S.faults outside.source result.1.source)
         (devices_seen L.Link C.Clock outside.link outside.clock)
         (devices_seen L.Link C.Clock result.1.link result.1.clock)))
         (outbox K.taken K.faults outside.sink) (outbox K.taken K.faults result.1.sink) result.0 }
