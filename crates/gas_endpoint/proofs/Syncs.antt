@@ -191,7 +191,7 @@ pub record Group : Type 0 where
   pub answer : (exhausted : ℕ → Bool) → (thread : ℕ) → List Handle → List Operation → Synced
   pub choice : List Handle → List Operation → Choice
   pub empties : List Operation → List Handle → List ℕ
-  -- of the nodes that are exhausted out it asks for targets alone
+  -- of the nodes that are exhausted it asks for targets alone
   pub alike : (exhausted other : ℕ → Bool) (thread : ℕ) (handles : List Handle) (operations : List Operation)
       → AllByRecursion (Agree exhausted other) operations
       → answer exhausted thread handles operations ≡ answer other thread handles operations

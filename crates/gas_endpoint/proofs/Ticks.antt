@@ -378,7 +378,7 @@ pub chunk_sends : (core new : CoreState) (extended : Extended) (transfers : Tran
       work = chunk_work next;
       answer = asked.Accepted (target next.transfer) slot number;
     }) new
-    → ((can : ℕ → Bool) (operations : List Operation) (bytes : List ℕ) → TransfersStand extended.transfers operations
+    → ((can : ℕ → Bool) (bytes : List ℕ) (operations : List Operation) → TransfersStand extended.transfers operations
     → next_chunk can 1 operations ≡ Some next → IsFreeSlot operations (target next.transfer) slot
     → TransfersStand transfers (issue (target next.transfer) slot number bytes operations))
     → room_of transfers ≡ room_of extended.transfers
@@ -399,7 +399,7 @@ chunk_sends core new extended transfers now slot number next may found C noted r
       let free = subst (λ q. IsFreeSlot node.local.operations to q) (sym it.0)
       (slot_free core.settings.version to node S.tracks) in
       let can = can_ask (site_of (job_here meaning (endpoint_of core extended)) core.me) node in
-      let stands = noted can node.local.operations bytes S.transfers (found meaning node S) free in
+      let stands = noted can bytes node.local.operations S.transfers (found meaning node S) free in
       let issued = subst (λ q. TransfersStand transfers (issue to q claim.number bytes node.local.operations)) it.0
       (subst (λ n. TransfersStand transfers (issue to slot n bytes node.local.operations)) it.1 stands) in (
         rw other (ap (λ q. ticked.Chunk (request_slot to q)) it.0),

@@ -93,14 +93,14 @@ notify_after kept id flags _ = kept
 pub record Try : Type 0 where
   pub id : ℤ
   pub flags : ℕ
-  pub exhausted : Option ℕ  -- a node that a note of the phase must go to still, for which the numbers are exhausted out
+  pub exhausted : Option ℕ  -- a node that a note of the phase must go to still, for which the numbers are exhausted
 
 -- the try's flags, or its identifier where it is named, aren't those of the notify
 abbrev pub is_other : Notify → (id : ℤ) → (flags : ℕ) → Bool
 is_other notify id flags =
     not (notify.flags == flags) || (not (is_anonymous flags) && not (int_eq notify.id id))
 
--- of a phase that isn't complete, where the numbers of a node may be exhausted out
+-- of a phase that isn't complete, where the numbers of a node may be exhausted
 abbrev pub unready : (exhausted : Option ℕ) → BarrierAnswer
 unready None = tried.NotReady
 unready (Some node) = tried.Exhausted node

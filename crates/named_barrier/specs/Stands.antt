@@ -40,3 +40,8 @@ pub record Stands (nodes me : ℕ) (state : BarrierState) (kept : BarrierRecord)
       → note.phase ≤ suc kept.ended
   pub sent : (place : ℕ) (sent : SentNote) → slice_get kept.sent place ≡ Some sent
       → sent.note.phase ≤ kept.ended
+
+-- this holds of every record that the barrier stands for, with its nodes and the node that it is of
+abbrev pub ForItsBarrierRecord : BarrierState → ((nodes me : ℕ) → BarrierRecord → Type 0) → Type 0
+ForItsBarrierRecord state Holds =
+    (nodes me : ℕ) (kept : BarrierRecord) → Stands nodes me state kept → Holds nodes me kept

@@ -65,6 +65,10 @@ pub record Stands (table : Transfers) (operations : List Operation) : Type 0 whe
 abbrev pub HasOperations : Transfers → Type 0
 HasOperations table = (operations : List Operation) × Stands table operations
 
+-- this holds of all operations of which the table is that
+abbrev pub ForItsOperations : Transfers → (List Operation → Type 0) → Type 0
+ForItsOperations table Holds = (operations : List Operation) → Stands table operations → Holds operations
+
 -- for how many nodes there is a table by slot, and how many slots each of them has
 pub record Room : Type 0 where
   pub nodes : ℕ
@@ -107,7 +111,7 @@ pub record Agrees (choice : Choice) (test : Standing → Bool) : Type 0 where
       → choice number operation ≡ test (kept number operation)
   pub open_only : (number : ℕ) (operation : Operation) → choice number operation ≡ true → operation.synced ≡ false
 
--- the first node that is exhausted out and to which a record has an unissued chunk
+-- the first node that is exhausted and to which a record has an unissued chunk
 abbrev pub IsFirstExhausted : (exhausted : ℕ → Bool) → (Standing → Bool) → List (Option Standing) → Option ℕ → Type 0
 IsFirstExhausted exhausted test places None = (node : ℕ) → exhausted node ≡ true → has test (UnissuedTo node) places ≡ false
 IsFirstExhausted exhausted test places (Some node) =

@@ -5,6 +5,9 @@ ghost use Rattle.put_get.specs.Operation.{target, size, is_get, chunks};
 
 use std::fmt::Debug;
 
+/// The most bytes of a chunk: as many as the payload of a message may have.
+pub const MAX_CHUNK: u64 = 8192;
+
 /// What an operation of the extended API is called by. Number 0 is GASNET_INVALID_HANDLE: it stands for a finished
 /// operation.
 #[derive(Clone, Copy, Debug, PartialEq, Eq)]
@@ -74,7 +77,7 @@ pub enum Synced {
     NotYours,
     /// No operation and no region that stands has the handle's number.
     BadHandle,
-    /// Some chunk can't be issued any more: the numbers to this node are exhausted out. It is the smallest such node
+    /// Some chunk can't be issued any more: the numbers to this node are exhausted. It is the smallest such node
     /// (profile).
     Exhausted(u16),
 }
@@ -131,6 +134,6 @@ impl Transfer {
     pub fn chunks(&self) -> u64
         ensures { result ≡ chunks (size self.now) }
     {
-        self.size().div_ceil(8192)
+        self.size().div_ceil(MAX_CHUNK)
     }
 }
