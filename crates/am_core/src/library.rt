@@ -8,7 +8,10 @@ ghost use Rattle.am_core.specs.Library.{fetch_arguments, fill_arguments, fetch_s
 ghost use Rattle.am_core.specs.Library.{is_beyond};
 ghost use Rattle.am_core.specs.Library.{is_no_fetch, is_no_fill, number_at};
 
-use datagram_grammar::{BarrierNote, high_half, joined, low_half};
+use datagram_grammar::{BarrierNote, MAX_PAYLOAD, high_half, joined, low_half};
+
+/// The most bytes of a part, as an argument tells them.
+const LONGEST: u16 = MAX_PAYLOAD as u16;
 
 /// The handler of a part of a put: a Long request.
 pub(crate) const PUT: u8 = 64;
@@ -149,7 +152,7 @@ pub(crate) fn read_fetch(args: &[i32], segment: u64) -> Option<Fetch>
         return None;
     }
     let remote = number_at(args, 0);
-    let len = u64::from(limited(args[2], 8192)?);
+    let len = u64::from(limited(args[2], LONGEST)?);
     let local = number_at(args, 3);
     if passes(segment, remote, len) || passes(segment, local, len) {
         return None;
@@ -167,7 +170,7 @@ pub(crate) fn read_fill(args: &[i32], segment: u64) -> Option<Fill>
         return None;
     }
     let remote = number_at(args, 0);
-    let len = u64::from(limited(args[2], 8192)?);
+    let len = u64::from(limited(args[2], LONGEST)?);
     let byte = limited(args[3], 255)? as u8;
     if passes(segment, remote, len) {
         return None;

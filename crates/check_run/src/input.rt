@@ -6,13 +6,13 @@ ghost use Rattle.check_run.specs.CheckInputs.{IsInput, IsRefused, IsUnread, Take
 ghost use Rattle.check_run.specs.CheckInputs.{ReadsOutputs, OutputsOf, fault_behind};
 ghost use Rattle.check_run.specs.CheckInputs.{lines_in, wanted_of, why_of};
 
-use gas_outside::{ReadAll, Source, read_all};
+use gas_outside::{MAX_OUTPUT, ReadAll, Source, read_all};
 use gasnet_trace::{Output, TraceFault, TraceWhy, Wanted, read_output};
 use job_text::{Job, JobFault, JobWhy, read_job_front};
 use std::alloc::Global;
 
-/// The most bytes of an input.
-pub const LIMIT: usize = 67_108_864;
+/// The most bytes of an input: as many as the output of a child may have.
+pub const LIMIT: usize = MAX_OUTPUT;
 
 /// A job, and what each of its nodes wrote.
 #[derive(Drop)]

@@ -8,13 +8,10 @@ ghost use Rattle.gas_outside.specs.Link.{IsReceiveFailed};
 ghost use Rattle.gas_outside.specs.Sieve.{Sieving, Plan, Follows, KeepsInner, next_plan, numbered, is_plain};
 ghost use Rattle.gas_outside.specs.Sieve.{rule_for, divides as divides_exactly};
 
-use crate::link::{Link, LinkAnswer, Received};
+use crate::link::{Link, LinkAnswer, MAX_DATAGRAM, Received};
 use crate::sieve_rule::SieveRule;
 use std::alloc::Global;
 use std::marker::Model;
-
-/// The longest datagram that a sieve holds back.
-const ROOM: usize = 8296;
 
 /// A link that loses, repeats and swaps some of the datagrams that it sends by the link behind it.
 ///
@@ -70,7 +67,7 @@ impl<L: Link> Sieve<L> {
           held = None;
         } in MatchResult result (λ sieve. sieve ≡ made) (λ back. back ≡ inner) }
     {
-        match Vec::with_capacity(alloc, ROOM) {
+        match Vec::with_capacity(alloc, MAX_DATAGRAM) {
             Err(_) => Err(inner),
             Ok(buffer) => Ok(Sieve {
                 inner,
@@ -124,7 +121,7 @@ impl<L: Link> Sieve<L> {
             SieveRule::Lose
         } else if divides(self.repeat, self.number) {
             SieveRule::Repeat
-        } else if divides(self.swap, self.number) && len <= ROOM {
+        } else if divides(self.swap, self.number) && len <= MAX_DATAGRAM {
             SieveRule::HoldBack
         } else {
             SieveRule::Pass

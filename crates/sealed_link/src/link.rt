@@ -8,15 +8,12 @@ ghost use Rattle.sealed_link.specs.Seal.{Sealing, sealed, opened, unsealed, hear
 
 use crate::dropped::Dropped;
 use crate::key::{Key, TAG_BYTES};
-use gas_outside::{Link, LinkAnswer, Received};
+use gas_outside::{Link, LinkAnswer, MAX_DATAGRAM, Received};
 use std::alloc::{AllocError, Global};
 use std::marker::Model;
 
-/// The bytes of the longest datagram.
-const LONGEST: usize = 8296;
-
 /// The bytes of the buffer: the longest datagram, its tag, and one byte more.
-const ROOM: usize = 8313;
+const ROOM: usize = MAX_DATAGRAM + TAG_BYTES + 1;
 
 /// How many unsealed datagrams a call of `receive` drops, at most.
 const DROPS: u32 = 64;
@@ -94,7 +91,7 @@ fn open(key: &Key, whole: &[u8], into: &mut [u8]) -> Option<usize>
     ensures opened { option_map (λ len. take len into.new) result ≡ opened key.now whole.now }
     ensures fits { IfSome result (λ len. len ≤ length into.new) }
 {
-    if whole.len() < TAG_BYTES || whole.len() > LONGEST + TAG_BYTES {
+    if whole.len() < TAG_BYTES || whole.len() > MAX_DATAGRAM + TAG_BYTES {
         return None;
     }
     let len = whole.len() - TAG_BYTES;
@@ -148,7 +145,7 @@ impl<L: Link> SealedLink<'_, L> {
             → Rose (L.faults self.old.inner + self.old.refused)
             (L.faults self.new.inner + self.new.refused) }
     {
-        if bytes.len() > LONGEST {
+        if bytes.len() > MAX_DATAGRAM {
             self.refused = self.refused.saturating_add(1);
             return LinkAnswer::Failed;
         }
@@ -197,7 +194,7 @@ impl<L: Link> Link for SealedLink<'_, L> {
 
     /// Receives the first datagram that is sealed under the key.
     fn receive(&mut self, buf: &mut [u8]) -> Received {
-        if buf.len() < LONGEST {
+        if buf.len() < MAX_DATAGRAM {
             return Received::Empty;
         }
         for _ in 0..DROPS {
