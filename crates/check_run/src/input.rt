@@ -10,6 +10,7 @@ use gas_outside::{MAX_OUTPUT, ReadAll, Source, read_all};
 use gasnet_trace::{Output, TraceFault, TraceWhy, Wanted, read_output};
 use job_text::{Job, JobFault, JobWhy, read_job_front};
 use std::alloc::Global;
+use std::fmt;
 
 /// The most bytes of an input: as many as the output of a child may have.
 pub const LIMIT: usize = MAX_OUTPUT;
@@ -37,6 +38,16 @@ pub enum InputFault {
     ReadFault,
     /// Memory ran out.
     NoMemory,
+}
+
+impl fmt::Display for InputFault {
+    fn fmt<W: fmt::Write>(&self, f: &mut fmt::Formatter<W>) -> fmt::Result {
+        match *self {
+            InputFault::Bad { line, why: _ } => write!(f, "line {line} is bad"),
+            InputFault::ReadFault => write!(f, "the source failed"),
+            InputFault::NoMemory => write!(f, "no memory"),
+        }
+    }
 }
 
 /// A reason why a line of an output is bad, as one why a line of an input is.

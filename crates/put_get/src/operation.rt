@@ -3,6 +3,7 @@
 ghost use Rattle.std.specs.Prelude.{◌≡◌};
 ghost use Rattle.put_get.specs.Operation.{target, size, is_get, chunks};
 
+use std::fmt;
 use std::fmt::Debug;
 
 /// The most bytes of a chunk: as many as the payload of a message may have.
@@ -85,6 +86,12 @@ pub enum Synced {
 /// No operation can begin: 256 records stand, or number 2^64 - 1 was given.
 #[derive(Clone, Copy, PartialEq, Eq)]
 pub struct TooMany;
+
+impl fmt::Display for TooMany {
+    fn fmt<W: fmt::Write>(&self, f: &mut fmt::Formatter<W>) -> fmt::Result {
+        write!(f, "the node has as many operations as it can have")
+    }
+}
 
 /// A chunk that is to be issued next: `len` bytes from `start` on in the ranges of the transfer.
 #[derive(Clone, Copy)]
