@@ -6,7 +6,7 @@ ghost use Rattle.datagram_grammar.specs.Notes.{argument, high_half as high_part}
 ghost use Rattle.datagram_grammar.specs.Notes.{low_half as low_part};
 ghost use Rattle.am_core.specs.Library.{fetch_arguments, fill_arguments, fetch_said, fill_said};
 ghost use Rattle.am_core.specs.Library.{is_beyond};
-ghost use Rattle.am_core.specs.Library.{is_no_fetch, is_no_fill, number_at};
+ghost use Rattle.am_core.specs.Library.{is_no_fetch, is_no_fill, argument_number};
 
 use datagram_grammar::{BarrierNote, MAX_PAYLOAD, high_half, joined, low_half};
 
@@ -118,7 +118,7 @@ pub(crate) fn fill_arguments(remote: u64, len: u64, byte: u8) -> [i32; 4]
 /// The number whose upper half is the argument at a place, and its lower half the one behind it.
 fn number_at(args: &[i32], place: usize) -> u64
     requires { place + 2 ≤ length args.now }
-    ensures { result ≡ number_at args.now place }
+    ensures { result ≡ argument_number args.now place }
 {
     joined(args[place], args[place + 1])
 }

@@ -33,7 +33,7 @@ use Rattle.gas_collectives.specs.declared.answers.StepAnswer.{StepAnswer}
 use Rattle.gas_endpoint.specs.EndpointState.{EndpointState, EndpointStands}
 use Rattle.node_caller.specs.Sites.{Site, ThreadCall as CallerCall, answer_at, node_in_the_end, node_then}
 use Rattle.node_runs.specs.Actions.{Part}
-use Rattle.node_runs.specs.Outgoing.{slot_of, StaysWell}
+use Rattle.node_runs.specs.Outgoing.{slot_of_packet, StaysWell}
 use Rattle.node_runs.specs.Scripts.{ThreadCall, TryContext}
 use Rattle.node_runs.specs.Turn.{node_run, node_sends}
 use Rattle.node_runs.specs.declared.script_answer.ScriptAnswer.{ScriptAnswer}
@@ -251,12 +251,12 @@ goes_both at node first second slots A B =
           ∙ ap (λ (es : List RecordEvent). node_run (job_at at) at.me at.now es node)
           (sym (events_both at first second)))));
       slots_are = A.slots_are
-          ∙ (sym (append-nil (map slot_of sent))
-          ∙ (ap (λ (more : List SlotRef). map slot_of sent ++ more) later.slots_are
-          ∙ (sym (map-append slot_of sent
+          ∙ (sym (append-nil (map slot_of_packet sent))
+          ∙ (ap (λ (more : List SlotRef). map slot_of_packet sent ++ more) later.slots_are
+          ∙ (sym (map-append slot_of_packet sent
           (node_sends (job_at at) at.me at.now (events_by at second) ran))
-          ∙ (ap (map slot_of) (sym (sends_both at (events_by at first) (events_by at second) node))
-          ∙ ap (λ (es : List RecordEvent). map slot_of (node_sends (job_at at) at.me at.now es node))
+          ∙ (ap (map slot_of_packet) (sym (sends_both at (events_by at first) (events_by at second) node))
+          ∙ ap (λ (es : List RecordEvent). map slot_of_packet (node_sends (job_at at) at.me at.now es node))
           (sym (events_both at first second))))));
       well = subst (λ (es : List RecordEvent).
           StaysWell (job_at at) (IsEndpointKept at.settings) at.me at.now es node)

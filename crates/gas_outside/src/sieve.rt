@@ -5,7 +5,7 @@ ghost use Rattle.std.specs.Prelude.{option_to_list, if◌then◌else◌};
 ghost use Rattle.gas_outside.specs.Faults.{Rose};
 ghost use Rattle.gas_outside.specs.Link.{BoundTold, SentTold, ReceivedTold, WaitingTold, IsFailed};
 ghost use Rattle.gas_outside.specs.Link.{IsReceiveFailed};
-ghost use Rattle.gas_outside.specs.Sieve.{Sieving, Plan, Follows, KeepsInner, next_plan, numbered, is_plain};
+ghost use Rattle.gas_outside.specs.Sieve.{Sieving, Plan, Follows, KeepsInner, next_plan, numbered, is_plain_sieve};
 ghost use Rattle.gas_outside.specs.Sieve.{rule_for, divides as divides_exactly};
 
 use crate::link::{Link, LinkAnswer, MAX_DATAGRAM, Received};
@@ -184,11 +184,11 @@ fn divides(step: u32, number: u64) -> bool
 
 impl<L: Link> Link for Sieve<L> {
     ghost use Rattle.std.specs.Prelude.{if◌then◌else◌, None};
-    ghost use Rattle.gas_outside.specs.Sieve.{is_plain};
+    ghost use Rattle.gas_outside.specs.Sieve.{is_plain_sieve};
 
     ghost bound = { λ s. L.bound s.inner };
 
-    ghost sent = { λ s. if is_plain s then L.sent s.inner else None };
+    ghost sent = { λ s. if is_plain_sieve s then L.sent s.inner else None };
 
     ghost received = { λ s. L.received s.inner };
 
@@ -200,8 +200,8 @@ impl<L: Link> Link for Sieve<L> {
     fn bind(&mut self, rank: u16, nodes: u16, port: u16) -> LinkAnswer
         ensures bound { BoundTold result (rank, nodes, port) (L.bound self.old.inner)
             (L.bound self.new.inner) }
-        ensures sent { (if is_plain self.new then L.sent self.new.inner else None)
-            ≡ (if is_plain self.old then L.sent self.old.inner else None) }
+        ensures sent { (if is_plain_sieve self.new then L.sent self.new.inner else None)
+            ≡ (if is_plain_sieve self.old then L.sent self.old.inner else None) }
         ensures unsent { L.sent self.new.inner ≡ L.sent self.old.inner }
         ensures received { L.received self.new.inner ≡ L.received self.old.inner }
         ensures waiting { L.waiting self.new.inner ≡ L.waiting self.old.inner }
@@ -216,8 +216,8 @@ impl<L: Link> Link for Sieve<L> {
     /// Sends a datagram by the rule for its number, as `hand` does.
     fn send(&mut self, to: u16, bytes: &[u8]) -> LinkAnswer
         ensures sent { SentTold result (to, bytes.now)
-            (if is_plain self.old then L.sent self.old.inner else None)
-            (if is_plain self.new then L.sent self.new.inner else None) }
+            (if is_plain_sieve self.old then L.sent self.old.inner else None)
+            (if is_plain_sieve self.new then L.sent self.new.inner else None) }
         ensures bound { L.bound self.new.inner ≡ L.bound self.old.inner }
         ensures received { L.received self.new.inner ≡ L.received self.old.inner }
         ensures waiting { L.waiting self.new.inner ≡ L.waiting self.old.inner }
@@ -237,8 +237,8 @@ impl<L: Link> Link for Sieve<L> {
         ensures waiting { WaitingTold result buf.new (L.waiting self.old.inner)
             (L.waiting self.new.inner) }
         ensures bound { L.bound self.new.inner ≡ L.bound self.old.inner }
-        ensures sent { (if is_plain self.new then L.sent self.new.inner else None)
-            ≡ (if is_plain self.old then L.sent self.old.inner else None) }
+        ensures sent { (if is_plain_sieve self.new then L.sent self.new.inner else None)
+            ≡ (if is_plain_sieve self.old then L.sent self.old.inner else None) }
         ensures unsent { L.sent self.new.inner ≡ L.sent self.old.inner }
         ensures later { L.faults self.old.inner ≤ L.faults self.new.inner }
         ensures cause { IsReceiveFailed result

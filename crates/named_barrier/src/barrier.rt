@@ -1,10 +1,10 @@
 //! One node's barrier.
 
 ghost use Rattle.std.specs.Prelude.{◌≡◌, ℕ, ◌<◌, ◌≤◌, None, IsTrue, IsSome, IfOk, IsOk};
-ghost use Rattle.named_barrier.specs.Record.{opened, has_notified_nothing, notify_answer, notify_after};
+ghost use Rattle.named_barrier.specs.Record.{opened_record, has_notified_nothing, notify_answer, notify_after};
 ghost use Rattle.named_barrier.specs.Record.{try_answer, try_after, hear, note_to, owes, send};
 ghost use Rattle.named_barrier.specs.BarrierState.{last_due, now_due, note_at};
-ghost use Rattle.named_barrier.specs.Stands.{Stands, ForItsBarrierRecord};
+ghost use Rattle.named_barrier.specs.Stands.{BarrierStands, ForItsBarrierRecord};
 
 use crate::answer::{BarrierAnswer, Notified};
 use crate::known::{Known, Notify, is_other, join, no_part, note_of, own_part, part_of};
@@ -53,7 +53,7 @@ impl Barrier {
     pub fn new(nodes: u16, me: u16) -> Result<Barrier, AllocError>
         requires few { nodes ≤ 256 }
         requires in_range { me < nodes }
-        ensures stands { IfOk result (λ barrier. Stands nodes me barrier opened) }
+        ensures stands { IfOk result (λ barrier. BarrierStands nodes me barrier opened_record) }
         ensures nodes { IfOk result (λ barrier. barrier.nodes ≡ nodes) }
         ensures never { IsOk result }
     {
@@ -81,7 +81,7 @@ impl Barrier {
         ensures answer { ForItsBarrierRecord self.old (λ nodes me kept.
             result ≡ notify_answer kept id flags) }
         ensures stands { ForItsBarrierRecord self.old (λ nodes me kept.
-            Stands nodes me self.new (notify_after kept id flags (notify_answer kept id flags))) }
+            BarrierStands nodes me self.new (notify_after kept id flags (notify_answer kept id flags))) }
         ensures nodes { self.new.nodes ≡ self.old.nodes }
     {
         if flags > 3 {
@@ -116,7 +116,7 @@ impl Barrier {
             result ≡ try_answer nodes me kept
             (record { id = id; flags = flags; exhausted = exhausted })) }
         ensures stands { ForItsBarrierRecord self.old (λ nodes me kept.
-            Stands nodes me self.new (try_after kept (try_answer nodes me kept (record {
+            BarrierStands nodes me self.new (try_after kept (try_answer nodes me kept (record {
               id = id;
               flags = flags;
               exhausted = exhausted;
@@ -156,7 +156,7 @@ impl Barrier {
     /// notify; any other one is old and changes nothing.
     pub fn heard(&mut self, note: &BarrierNote)
         ensures stands { ForItsBarrierRecord self.old (λ nodes me kept.
-            Stands nodes me self.new (hear kept note.now)) }
+            BarrierStands nodes me self.new (hear kept note.now)) }
         ensures nodes { self.new.nodes ≡ self.old.nodes }
     {
         if note.phase == self.phase {
@@ -247,7 +247,7 @@ impl Barrier {
         requires in_range { to < self.old.nodes }
         requires due { IsSome (note_at self.old to) }
         ensures stands { ForItsBarrierRecord self.old (λ nodes me kept.
-            Stands nodes me self.new (send kept to (note_to nodes me kept to))) }
+            BarrierStands nodes me self.new (send kept to (note_to nodes me kept to))) }
         ensures nodes { self.new.nodes ≡ self.old.nodes }
     {
         if self.last_due(to).is_some() {
