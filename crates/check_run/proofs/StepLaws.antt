@@ -336,7 +336,7 @@ synchronises : (job : JobState) (at : StepAt) (transfer : Transfer) (handle : Ha
     (call_event at begun_at (on_transfer_call (Begin None transfer)))
     ≡ OfNode (OfCall (answers.Begun (begun.Handle handle)))
     → let world =
-        records_after job (before ++ call_event at begun_at (on_transfer_call (Begin None transfer)) ∷ events) in
+    records_after job (before ++ call_event at begun_at (on_transfer_call (Begin None transfer)) ∷ events) in
     world_answer (rules_of job) world (call_event at now (on_transfer_call (SyncHandle handle)))
     ≡ OfNode (OfCall (answers.Synced synced.Ok))
     → Synchronises (rules_of job) world (call_event at now (on_transfer_call (SyncHandle handle))) at.rank handle.serial

@@ -25,7 +25,7 @@ use Rattle.check_run.specs.declared.node_replay.NodeReplay.{NodeReplay}
 abbrev pub one_if_open : Parameters → (me : ℕ) → Node EndpointLocal → (peer slot : ℕ) → ℕ
 one_if_open settings me node peer slot =
     if is_some
-        (number_in_slot settings me node (record { side = side.Request; peer = peer; slot = slot })) then 1 else 0
+    (number_in_slot settings me node (record { side = side.Request; peer = peer; slot = slot })) then 1 else 0
 
 -- how many requests to this peer aren't back, of those in the slots below this one
 unfoldable pub open_below : Parameters → (me : ℕ) → Node EndpointLocal → (peer slot : ℕ) → ℕ

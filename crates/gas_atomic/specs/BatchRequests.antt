@@ -89,7 +89,7 @@ abbrev pub request_said : List ℤ → (payload : List ℕ) → Option BatchRequ
 request_said args payload =
     if length args == 4
     then option_map (λ ops. record { local = number_of_halves args 0; tag = number_of_halves args 2; ops = ops })
-        (ops_said payload)
+    (ops_said payload)
     else None
 
 -- ---- what may be wrong

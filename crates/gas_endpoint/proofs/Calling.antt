@@ -157,7 +157,7 @@ forbidden_steps core new extended thread kind forbidden call is C meaning lawful
         (sym judged) in
         let left = subst (λ (j : Result (Unit {0}) Forbidden).
         CoreStands new (with_local (under core_of node) (judged_local own thread j node.local.core)))
-            (sym judged) it.1 in (
+        (sym judged) it.1 in (
           ap (λ (o : Answer × EndpointLocal). o.0) (sym does),
           subst (λ (o : Answer × EndpointLocal). EndpointKeeps (endpoint_of new extended) (with_local node o.1))
               (sym does)

@@ -113,7 +113,7 @@ full_index old between levels level deeper remote local len index why is below a
     let parts = joined_parts list index level.count below in
     let here = full (pairs ++ joined_lists list index) (adds pairs were) in
     let all :
-        ((pairs ++ joined_lists list index) ++ list index) ++ parts.0 ≡ pairs ++ level_pairs levels remote local len
+    ((pairs ++ joined_lists list index) ++ list index) ++ parts.0 ≡ pairs ++ level_pairs levels remote local len
     = ap (λ ps. ps ++ parts.0) (append_assoc pairs (joined_lists list index) (list index))
     ∙ append_assoc pairs (joined_lists list index ++ list index) parts.0 ∙ ap (λ ps. pairs ++ ps) (sym parts.1)
     ∙ ap (λ ls. pairs ++ level_pairs ls remote local len) (sym is) in

@@ -64,7 +64,7 @@ walks_far old all far far_len remotes near near_len locals new first len later r
   rest =
       let empty : bytes_from far far_len ≡ [] = ap (bytes_from far) none in
       ap₂ (λ f l. walks.done ++ paired (bytes_from f l ++ range_bytes later)
-          (bytes_from near near_len ++ range_bytes locals))
+      (bytes_from near near_len ++ range_bytes locals))
       one two
       ∙ ap₂ (λ bs rs. walks.done ++ paired (bs ++ range_bytes rs) (bytes_from near near_len ++ range_bytes locals))
       (sym empty) (sym are)
@@ -82,7 +82,7 @@ walks_near old all far far_len remotes near near_len locals new first len later 
   rest =
       let empty : bytes_from near near_len ≡ [] = ap (bytes_from near) none in
       ap₂ (λ f l. walks.done ++ paired (bytes_from far far_len ++ range_bytes remotes)
-          (bytes_from f l ++ range_bytes later))
+      (bytes_from f l ++ range_bytes later))
       one two
       ∙ ap₂ (λ bs rs. walks.done ++ paired (bytes_from far far_len ++ range_bytes remotes) (bs ++ range_bytes rs))
       (sym empty) (sym are)

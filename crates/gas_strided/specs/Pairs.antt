@@ -31,7 +31,7 @@ abbrev pub level_pairs : List Level → (remote local len : ℕ) → List Pair
 level_pairs [] remote local len = pairs_from remote local len
 level_pairs (level ∷ deeper) remote local len =
     joined_lists
-        (λ index. level_pairs deeper (remote + index * level.remote) (local + index * level.local) len) level.count
+    (λ index. level_pairs deeper (remote + index * level.remote) (local + index * level.local) len) level.count
 
 -- how many vectors of indexes there are
 abbrev pub vectors : List Level → ℕ

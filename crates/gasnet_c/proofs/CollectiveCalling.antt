@@ -16,7 +16,7 @@ pub starts_kind : (now : ℕ) (what : Collective) (one : CollectiveKind) (old ne
     → StartsFor now what old told new
 starts_kind now what one old new told is starts =
     subst (λ (found : Option CollectiveKind). StartsOf now (option_map (start_asked_by what) found) old told new) is
-        starts
+    starts
 
 -- none has it
 pub starts_none : (now : ℕ) (what : Collective) (old : Held) (told : Told) → None ≡ collective_kind_of what.kind

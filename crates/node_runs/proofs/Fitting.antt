@@ -174,6 +174,6 @@ reply_fits settings table meaning contact content local job source fits well cor
           let after = with_writes local (landing content) in
           let gives = outcome_gives settings table meaning role.Reply contact content after job runs landed in
           let run =
-              outcome (handlers_of settings table meaning) role.Reply contact content (start_from settings after) in
+          outcome (handlers_of settings table meaning) role.Reply contact content (start_from settings after) in
           rw other (left_fits role.Reply run after gives.cells gives.writes landed)
     ]

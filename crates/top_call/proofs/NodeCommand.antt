@@ -318,7 +318,7 @@ is_no_node source left rank port job holds read none =
     let same = one_job holds.holds.bytes left holds.holds.job job holds.holds.text
     (subst (λ (before : Option (List ℕ)). ReadsJob before left job) holds.holds.told read) in
     absurd (true≢false
-        (sym holds.place ∙ (ap (λ (j : JobState). has_node_place rank port j.settings.nodes) same ∙ none)))
+    (sym holds.place ∙ (ap (λ (j : JobState). has_node_place rank port j.settings.nodes) same ∙ none)))
 
 pub node_completes : (call : Call) (rank port : ℕ) (end : End)
     → EndMeans (NodeEnds rank port (course_in call)) (took_in call) call.given end

@@ -60,4 +60,4 @@ pub kept_all : (number place : ℕ) (datagrams : List (ℕ × List ℕ)) (now fi
     → now ≡ first ++ numbered_sends number (take (place + 1) datagrams)
 kept_all number place datagrams now first none so_far =
     so_far ∙ ap (λ (all : List (ℕ × List ℕ)). first ++ numbered_sends number all)
-        (sym (taken_past datagrams place none))
+    (sym (taken_past datagrams place none))

@@ -20,7 +20,7 @@ abbrev pub sent_from : {State : Type 0} → Steps State → State → (number : 
 sent_from steps state number [] = []
 sent_from steps state number (entry ∷ entries) =
     numbered_sends number (given_by steps state entry) ++ sent_from steps (after_entry steps state entry)
-        (number + 1) entries
+    (number + 1) entries
 
 -- ---- a replay
 

@@ -65,6 +65,6 @@ pub halfway_all : (job : WorldJob) (it : GroupState) (from : Stand) (all : List 
     → StandsAfter job it.world (schedule_events job all from.nodes) from.nodes.group.records from.most
 halfway_all job it from all h =
     subst (λ (most : ℕ → ℕ). WorldStands it.world
-        (run job (schedule_events job all from.nodes) from.nodes.group.records)
+    (run job (schedule_events job all from.nodes) from.nodes.group.records)
     most) h.most_ends
     (subst (λ (records : Records). WorldStands it.world records h.now.most) h.ends h.stands.world)

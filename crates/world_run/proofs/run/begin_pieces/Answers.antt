@@ -47,7 +47,7 @@ returns-clause-moves g c = λ records most stands.
     let moved = subst (λ (after : WorldWhole). WorldStands c.begin.new.caller.world.now after.records after.most)
     (in_a_run whole calls) made in
     left_stands {last = c.begin.new.caller.world.now} (search rules)
-        (subst (λ (answer : Vis). WorldStands c.begin.new.caller.world.now
+    (subst (λ (answer : Vis). WorldStands c.begin.new.caller.world.now
     (run (job_at site) (call_events site.now site.node (calls_made asked answer)) records)
     (most_after (job_at site) (call_events site.now site.node (calls_made asked answer)) records most)) answered moved)
   where

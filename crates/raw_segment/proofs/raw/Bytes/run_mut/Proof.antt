@@ -100,7 +100,7 @@ module _ {M : Type 1} {𝓤 : Ura M} (𝓛 : Logic 𝓤) (h : Bytes) (b o m p : 
       flt_i ! (length zs) (2 ^ 63) (subst (λ (k : ℕ). k < 2 ^ 63) (sym long) small) $ fjoin ! $
       move ! (1 ∷ []) $ fsplit ! $ move ! (0 ∷ 2 ∷ 1 ∷ []) $ fjoin ! $ move ! (1 ∷ 0 ∷ []) $ fjoin ! $
       fpack ! (List Val)
-          (λ us. fsep (cell_at full_share R.mir us b o) (R.own_val (with_written_run h i n ws) us)) word $ done !
+      (λ us. fsep (cell_at full_share R.mir us b o) (R.own_val (with_written_run h i n ws) us)) word $ done !
 
 pub run_mut_spec : {M : Type 1} → statement M
 run_mut_spec 𝓤 𝓛 𝓜 𝓡 wired =
