@@ -9,9 +9,9 @@ use Rattle.node_record.specs.Requests.{unreturned}
 use Rattle.node_record.proofs.Holding.{held_few, no_slots}
 use Rattle.am_core.specs.CoreState.{CoreState}
 use Rattle.am_core.specs.Kept.{Local}
-use Rattle.am_core.specs.Stands.{Stands}
+use Rattle.am_core.specs.Stands.{CoreStands}
 
-pub holds_few : (core : CoreState) (node : Node Local) → Stands core node
+pub holds_few : (core : CoreState) (node : Node Local) → CoreStands core node
     → held core.settings core.me node ≤ greatest_holding core.settings core.me
 holds_few core node stands =
     let credits = credits_of core.settings core.me core.me in

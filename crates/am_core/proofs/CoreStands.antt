@@ -42,10 +42,10 @@ use Rattle.raw_segment.proofs.Images.{all_fit_none, all_fit-append, image-append
 use Rattle.hsl_locks.specs.declared.answer.Held.{Held}
 use Rattle.hsl_locks.specs.declared.answer.Owner.TheVariants as owner
 use Rattle.hsl_locks.specs.Locks.{holds}
-use Rattle.am_core.specs.HandlerRuns.{left_by}
+use Rattle.am_core.specs.HandlerRuns.{left_by_run}
 use Rattle.node_record.specs.Invariant.{IsOrderly, NodeInvariant}
 use Rattle.am_core.specs.CoreState.{CoreState}
-use Rattle.am_core.specs.Stands.{Stands, slot_state, reply_state}
+use Rattle.am_core.specs.Stands.{CoreStands, slot_state, reply_state}
 use Rattle.am_core.specs.CoreStep.{IsOpening, Accepts, ContentFor, with_outcome}
 use Rattle.node_record.specs.Transition.{Transition}
 use Rattle.node_record.specs.Requests.{Claim}
@@ -85,7 +85,7 @@ none_new e peer slot asked A N h = elim (cases_lt peer e.settings.nodes) [
 
 -- a new core stands for a record that is empty, by its own settings
 opens_at : (e : CoreState) → AreInRange e.settings → e.me < e.settings.nodes → IsOpening e.settings e.me e.table e
-    → Stands e (opening_node nothing_done)
+    → CoreStands e (opening_node nothing_done)
 opens_at e range me_in O = record {
   range = range;
   me_in = me_in;
@@ -119,7 +119,7 @@ opens_at e range me_in O = record {
 
 -- a new core stands for a record that is empty
 pub core_opens : (s : Parameters) (me : ℕ) (table : List (Option Entry)) (e : CoreState) → AreInRange s → me < s.nodes
-    → IsOpening s me table e → Stands e (opening_node nothing_done)
+    → IsOpening s me table e → CoreStands e (opening_node nothing_done)
 core_opens s me table e range low O =
     opens_at e (subst AreInRange (sym O.settings) range) (rw (O.settings, O.me_is) low)
     (subst (λ t. IsOpening t e.me e.table e) (sym O.settings)
@@ -128,10 +128,10 @@ core_opens s me table e range low O =
 -- ---- segment, locks, cells and log
 
 -- all of what a core keeps beside its slots is set
-pub local_stands : (e new : CoreState) (r : Node Local) (l : Local) → Stands e r
+pub local_stands : (e new : CoreState) (r : Node Local) (l : Local) → CoreStands e r
     → new ≡ record e { segment = new.segment; locks = new.locks; cells = new.cells; log = new.log }
     → IsKept e.settings e.me l → new.segment ≡ segment_of e.settings l → new.locks ≡ l.locks
-    → new.cells ≡ l.cells → new.log ≡ log_of l.violations → Stands new (with_local r l)
+    → new.cells ≡ l.cells → new.log ≡ log_of l.violations → CoreStands new (with_local r l)
 local_stands e new r l S is kept same_segment same_locks same_cells same_log =
     rw is (record {
       range = S.range;
@@ -149,17 +149,17 @@ local_stands e new r l S is kept same_segment same_locks same_cells same_log =
     })
 
 -- a core whose cells are set stands for the record with those cells
-pub cells_stand : (e : CoreState) (r : Node Local) (cells : _) → Stands e r
-    → Stands (record e { cells = cells }) (with_local r (record r.local { cells = cells }))
+pub cells_stand : (e : CoreState) (r : Node Local) (cells : _) → CoreStands e r
+    → CoreStands (record e { cells = cells }) (with_local r (record r.local { cells = cells }))
 cells_stand e r cells S =
     let kept = S.invariant_.kept in
     local_stands e (record e { cells = cells }) r (record r.local { cells = cells }) S refl
     (record { writes = kept.writes; locks = kept.locks }) S.segment_is S.locks_are refl S.log_is
 
 -- a core whose segment was written to stands for the record with those writes
-pub segment_stand : (e : CoreState) (r : Node Local) (writes : List Write) → Stands e r
+pub segment_stand : (e : CoreState) (r : Node Local) (writes : List Write) → CoreStands e r
     → AllFit e.settings.segment writes
-    → Stands (record e { segment = written_by e.segment writes }) (with_local r (with_writes r.local writes))
+    → CoreStands (record e { segment = written_by e.segment writes }) (with_local r (with_writes r.local writes))
 segment_stand e r writes S fits =
     let kept = S.invariant_.kept in
     let len = e.settings.segment in
@@ -169,9 +169,9 @@ segment_stand e r writes S fits =
     S.locks_are S.cells_are S.log_is
 
 -- a core whose locks are set, and that noted violations
-pub locks_stand : (e : CoreState) (r : Node Local) (held : List Held) (found : List Violation) → Stands e r
+pub locks_stand : (e : CoreState) (r : Node Local) (held : List Held) (found : List Violation) → CoreStands e r
     → holds owner.Handler held ≡ false
-    → Stands (record e { locks = held; log = notes e.log found })
+    → CoreStands (record e { locks = held; log = notes e.log found })
     (with_local r (record r.local { locks = held; violations = r.local.violations ++ found }))
 locks_stand e r held found S none =
     let kept = S.invariant_.kept in
@@ -181,8 +181,8 @@ locks_stand e r held found S none =
     (ap (λ log. notes log found) S.log_is ∙ notes-log_of r.local.violations found)
 
 -- violations are noted
-pub noted_stands : (e : CoreState) (r : Node Local) (found : List Violation) → Stands e r
-    → Stands (record e { log = notes e.log found })
+pub noted_stands : (e : CoreState) (r : Node Local) (found : List Violation) → CoreStands e r
+    → CoreStands (record e { log = notes e.log found })
     (with_local r (record r.local { violations = r.local.violations ++ found }))
 noted_stands e r found S =
     let kept = S.invariant_.kept in
@@ -192,14 +192,14 @@ noted_stands e r found S =
     (ap (λ log. notes log found) S.log_is ∙ notes-log_of r.local.violations found)
 
 -- a handler ran
-pub outcome_stands : (e : CoreState) (r : Node Local) (role : Role) (o : Outcome) → Stands e r
+pub outcome_stands : (e : CoreState) (r : Node Local) (role : Role) (o : Outcome) → CoreStands e r
     → AllFit e.settings.segment o.writes
-    → Stands (with_outcome e role o) (with_local r (left_by role o r.local))
+    → CoreStands (with_outcome e role o) (with_local r (left_by_run role o r.local))
 outcome_stands e r role o S fits =
     let kept = S.invariant_.kept in
     let len = e.settings.segment in
     let found = map (violation role) o.refused in
-    local_stands e (with_outcome e role o) r (left_by role o r.local) S refl
+    local_stands e (with_outcome e role o) r (left_by_run role o r.local) S refl
     (record { writes = all_fit-append len r.local.writes o.writes kept.writes fits; locks = kept.locks })
     (ap (λ (bytes : List ℕ). written_by bytes o.writes) S.segment_is
     ∙ sym (image-append len r.local.writes o.writes))
@@ -208,7 +208,7 @@ outcome_stands e r role o S fits =
 -- ---- a request
 
 -- a refusal for want of numbers is the record's answer
-pub node_exhausted : (to : ℕ) (e : CoreState) (r : Node Local) → Stands e r → to < e.settings.nodes → to ≢ e.me
+pub node_exhausted : (to : ℕ) (e : CoreState) (r : Node Local) → CoreStands e r → to < e.settings.nodes → to ≢ e.me
     → IfSome (slice_get e.requests.peers to) (λ p. Refuses p e.requests.last claims.Exhausted)
     → claim_answer (limits_of e.settings e.me to) to (r.asked to) ≡ asked.Exhausted
 node_exhausted to e r S low other h =
@@ -217,7 +217,7 @@ node_exhausted to e r S low other h =
     (subst (λ o. IfSome o (λ q. Refuses q e.requests.last claims.Exhausted)) p.1 h)
 
 -- a refusal for want of a slot is the record's answer
-pub node_not_yet : (to : ℕ) (e : CoreState) (r : Node Local) → Stands e r → to < e.settings.nodes → to ≢ e.me
+pub node_not_yet : (to : ℕ) (e : CoreState) (r : Node Local) → CoreStands e r → to < e.settings.nodes → to ≢ e.me
     → IfSome (slice_get e.requests.peers to) (λ p. Refuses p e.requests.last claims.NotYet)
     → claim_answer (limits_of e.settings e.me to) to (r.asked to) ≡ asked.NotYet
 node_not_yet to e r S low other h =
@@ -237,11 +237,11 @@ claiming now to content slot number = record {
 pub record NodeAccepts (e : CoreState) (to : ℕ) (r : Node Local) (c : Content) (now slot number : ℕ)
     (new : CoreState) : Type 0 where
   pub takes : (p : PeerState) × Takes e.settings e.me to p (r.asked to) slot number
-  pub stands : Stands new (with_request r now to slot c)
+  pub stands : CoreStands new (with_request r now to slot c)
 
 -- of the requests of the peer, one is accepted
 pub invariant_accepts : (e : CoreState) (to now slot number : ℕ) (r : Node Local) (p : PeerState) (c : Content)
-    → Stands e r → to ≢ e.me → Takes e.settings e.me to p (r.asked to) slot number
+    → CoreStands e r → to ≢ e.me → Takes e.settings e.me to p (r.asked to) slot number
     → IsMessage (addressed (address_in e.settings e.me to slot number) c)
     → NodeInvariant e.settings (IsKept e.settings) e.me (with_request r now to slot c)
 invariant_accepts e to now slot number r p c S other T spelled =
@@ -265,7 +265,7 @@ invariant_accepts e to now slot number r p c S other T spelled =
 
 -- a request that is accepted is the record's step
 pub node_accepts : (to now slot number : ℕ) (e : CoreState) (r : Node Local) (c : Content) (new : CoreState)
-    → Stands e r → to < e.settings.nodes → to ≢ e.me
+    → CoreStands e r → to < e.settings.nodes → to ≢ e.me
     → Accepts e (claiming now to c slot number) new
     → NodeAccepts e to r c now slot number new
 node_accepts to now slot number e r c new S low other A =
@@ -316,7 +316,7 @@ node_accepts to now slot number e r c new S low other A =
 -- ---- a reply
 
 -- the slot of a request to a peer
-pub request_found : (peer slot : ℕ) (e : CoreState) (r : Node Local) → Stands e r → peer < e.settings.nodes
+pub request_found : (peer slot : ℕ) (e : CoreState) (r : Node Local) → CoreStands e r → peer < e.settings.nodes
     → peer ≢ e.me → slot < credits_of e.settings e.me peer
     → slot_at e.requests peer slot ≡ Some (slot_state e.settings e.me peer (open_in slot (r.asked peer)))
 request_found peer slot e r S low other below =
@@ -324,7 +324,8 @@ request_found peer slot e r S low other below =
     ap (option_and_then (λ (q : PeerState). slice_get q.slots slot)) p.1 ∙ p.2.slots slot below
 
 -- the slot of a peer's request
-pub reply_found : (peer slot : ℕ) (e : CoreState) (r : Node Local) → Stands e r → peer < e.settings.nodes → peer ≢ e.me
+pub reply_found : (peer slot : ℕ) (e : CoreState) (r : Node Local) → CoreStands e r → peer < e.settings.nodes
+    → peer ≢ e.me
     → slot < credits_of e.settings peer e.me
     → reply_at e.replies peer slot ≡ Some (reply_state e.settings e.me peer (last_run slot (r.ran peer)))
 reply_found peer slot e r S low other below =
@@ -332,7 +333,7 @@ reply_found peer slot e r S low other below =
     ap (option_and_then (λ (q : List ReplyState). slice_get q slot)) p.1 ∙ p.2.slots slot below
 
 -- a slot that is taken with a number has that request open in the record
-pub node_taken : (from slot number : ℕ) (e : CoreState) (r : Node Local) → Stands e r → from < e.settings.nodes
+pub node_taken : (from slot number : ℕ) (e : CoreState) (r : Node Local) → CoreStands e r → from < e.settings.nodes
     → from ≢ e.me → slot < credits_of e.settings e.me from → IsTakenAt e.requests from slot number
     → is_open slot (numbered (r.asked from) number) ≡ true
 node_taken from slot number e r S low other below h =
@@ -340,7 +341,7 @@ node_taken from slot number e r S low other below h =
     (subst (λ o. IsSomeAnd o (IsTakenWith number)) (request_found from slot e r S low other below) h)
 
 -- a slot that isn't taken with a number hasn't that request open in the record
-pub node_not_taken : (from slot number : ℕ) (e : CoreState) (r : Node Local) → Stands e r → from < e.settings.nodes
+pub node_not_taken : (from slot number : ℕ) (e : CoreState) (r : Node Local) → CoreStands e r → from < e.settings.nodes
     → from ≢ e.me → slot < credits_of e.settings e.me from → (IsTakenAt e.requests from slot number → ⊥)
     → is_open slot (numbered (r.asked from) number) ≡ false
 node_not_taken from slot number e r S low other below h =
@@ -352,7 +353,7 @@ node_not_taken from slot number e r S low other below h =
     ]
 
 -- a request of the peer comes back
-pub invariant_back : (e : CoreState) (from number : ℕ) (r : Node Local) → Stands e r
+pub invariant_back : (e : CoreState) (from number : ℕ) (r : Node Local) → CoreStands e r
     → NodeInvariant e.settings (IsKept e.settings) e.me (with_back r from number r.local)
 invariant_back e from number r S =
     asked_keeps e.settings (IsKept e.settings) e.me from r (with_back r from number r.local)
@@ -370,11 +371,11 @@ invariant_back e from number r S =
     change_none (suc p) xs h = rw h refl
 
 -- a credit that comes back is the record's step
-pub node_returns : (from slot number : ℕ) (e : CoreState) (r : Node Local) (new : CoreState) → Stands e r
+pub node_returns : (from slot number : ℕ) (e : CoreState) (r : Node Local) (new : CoreState) → CoreStands e r
     → from < e.settings.nodes → from ≢ e.me → slot < credits_of e.settings e.me from
     → is_open slot (numbered (r.asked from) number) ≡ true
     → new ≡ record e { requests = with_slot e.requests from slot Vacant }
-    → Stands new (with_back r from number r.local)
+    → CoreStands new (with_back r from number r.local)
 node_returns from slot number e r new S low other below t is =
     let s = e.settings in
     let O = S.invariant_.orderly from in
@@ -429,7 +430,7 @@ judges_last state number last Duplicate e h = h ∙ e
 judges_last state number last Stale e h = omega arith
 
 -- the number stands to the greatest one run in the slot as it was judged
-pub node_judged : (from slot number : ℕ) (e : CoreState) (r : Node Local) (j : Judged) → Stands e r
+pub node_judged : (from slot number : ℕ) (e : CoreState) (r : Node Local) (j : Judged) → CoreStands e r
     → from < e.settings.nodes → from ≢ e.me → slot < credits_of e.settings from e.me
     → JudgesAt e.replies from slot number j → Judges (Kept (greatest slot (r.ran from)) []) number j
 node_judged from slot number e r j S low other below h =
@@ -443,14 +444,14 @@ contact_of e peer slot number = record { me = e.me; peer = peer; slot = slot; nu
 
 -- a request that ran is the record's step
 pub node_runs : (from slot number : ℕ) (e : CoreState) (r : Node Local) (c reply : Content) (new : CoreState)
-    → Stands e r → from < e.settings.nodes → from ≢ e.me → slot < credits_of e.settings from e.me
+    → CoreStands e r → from < e.settings.nodes → from ≢ e.me → slot < credits_of e.settings from e.me
     → greatest slot (r.ran from) < number
     → IsMessage (addressed (address_in e.settings e.me from slot number) reply)
     → new ≡ record e {
       replies = with_reply e.replies from slot number
           (spelling (addressed (address_in e.settings e.me from slot number) reply));
     }
-    → Stands new (with_run r (contact_of e from slot number) c (r.local, reply))
+    → CoreStands new (with_run r (contact_of e from slot number) c (r.local, reply))
 node_runs from slot number e r c reply new S low other below above spelled is =
     let s = e.settings in
     let p = S.replies from low other in
@@ -497,7 +498,7 @@ node_runs from slot number e r c reply new S low other below above spelled is =
 -- ---- a request that is sent again
 
 -- a request to the peer is sent again
-invariant_sent : (e : CoreState) (to now number : ℕ) (r : Node Local) → Stands e r → to ≢ e.me
+invariant_sent : (e : CoreState) (to now number : ℕ) (r : Node Local) → CoreStands e r → to ≢ e.me
     → NodeInvariant e.settings (IsKept e.settings) e.me
     (record r { asked = put r.asked to (change (sent_at now) (r.asked to) number) })
 invariant_sent e to now number r S other =
@@ -511,10 +512,10 @@ invariant_sent e to now number r S other =
     (sym (sent_content it.2)) (S.invariant_.asked to k it.0 it.1))
 
 -- a request that is sent again is the record's step
-pub node_sent : (to slot now number : ℕ) (x : Request) (e : CoreState) (r : Node Local) → Stands e r
+pub node_sent : (to slot now number : ℕ) (x : Request) (e : CoreState) (r : Node Local) → CoreStands e r
     → to < e.settings.nodes → to ≢ e.me → slot < credits_of e.settings e.me to → numbered (r.asked to) number ≡ Some x
     → x.back ≡ false → x.slot ≡ slot → open_in slot (r.asked to) ≡ Some (number, x)
-    → Stands (record e { requests = with_slot_changed e.requests to slot (sent_again now) })
+    → CoreStands (record e { requests = with_slot_changed e.requests to slot (sent_again now) })
     (record r { asked = put r.asked to (change (sent_at now) (r.asked to) number) })
 node_sent to slot now number x e r S low other below at open_ same found =
     let s = e.settings in

@@ -42,16 +42,16 @@ use Rattle.node_record.specs.Step.{Site, after_request, with_itself, with_local,
 use Rattle.node_record.specs.Step.{unless_forbidden, unless_bad, claim_answer, own_answer, judged_local, ran_here}
 use Rattle.node_record.specs.Step.{with_request}
 use Rattle.node_record.specs.Credits.{limits_of}
-use Rattle.am_core.specs.Kept.{Local, segment_of, start_of, with_writes, with_locks}
+use Rattle.am_core.specs.Kept.{Local, segment_of, start_from, with_writes, with_locks}
 use Rattle.handler_rules.specs.Runs.{Meaning, IsLawfulMeaning}
 use Rattle.am_core.specs.ClientRules.{rules, said_in, content_by, payload_in, asking_fault, busy_lock}
 use Rattle.am_core.specs.ClientRules.{thread_violation, with_violations}
-use Rattle.am_core.specs.HandlerRuns.{left_by, outcome, landing, reply_or_ack, run_request}
+use Rattle.am_core.specs.HandlerRuns.{left_by_run, outcome, landing, reply_or_ack, run_request}
 use Rattle.am_core.specs.HandlerRuns.{run_reply, frame_of_run, client_outcome}
 use Rattle.am_core.specs.CoreState.{CoreState}
 use Rattle.am_core.specs.Library.{Work, work_content}
 use Rattle.am_core.specs.CoreContracts.{IsSameNode, AsksOwn}
-use Rattle.am_core.specs.Stands.{Stands}
+use Rattle.am_core.specs.Stands.{CoreStands}
 use Rattle.am_core.specs.CoreContracts.{Check, Lock, Unlock, Checked, Locked, Unlocked, CoreTold, CoreSteps}
 use Rattle.am_core.specs.CoreStep.{AsksFor, AsksUnlessForbidden, AsksUnlessBad, AsksNode, AsksHere, Claims, claim_of}
 use Rattle.am_core.specs.CoreStep.{after_judgement, asked_fault, judged_at, said_at, start_at, handlers_at}
@@ -89,9 +89,9 @@ asking now ask a = record { now = now; event = ask; answer = a }
 record Requests (meaning : Meaning) (old : CoreState) (now : ℕ) (ask : Ask) (a : AskedAnswer) (new : CoreState) :
     Type 0 where
   same : IsSameNode old new
-  steps : (r : Node Local) → Stands old r
+  steps : (r : Node Local) → CoreStands old r
       → (a ≡ request_answer (site_at meaning old) r ask)
-      × Stands new (after_request (site_at meaning old) r now ask a)
+      × CoreStands new (after_request (site_at meaning old) r now ask a)
 
 -- ---- the same node
 
@@ -102,7 +102,7 @@ same_core e new is = rw is (record { settings = refl; me_is = refl; table = refl
 -- ---- calls that the rule table judges
 
 -- the rule table judges by the record as by the core
-pub judged_alike : (e : CoreState) (r : Node Local) (thread : ℕ) (kind : CallKind) → Stands e r
+pub judged_alike : (e : CoreState) (r : Node Local) (thread : ℕ) (kind : CallKind) → CoreStands e r
     → judged_at e thread kind ≡ rule (Thread thread) (holds (owner.Thread thread) r.local.locks) false kind
 judged_alike e r thread kind S =
     ap (λ (held : List Held). rule (Thread thread) (holds (owner.Thread thread) held) false kind) S.locks_are
@@ -115,8 +115,8 @@ same_judged e thread (Err forbidden) new is =
 
 -- what a judgement leaves
 judged_stands : (meaning : Meaning) (e : CoreState) (r : Node Local) (thread : ℕ)
-    (result : Result (Unit {0}) Forbidden) (new : CoreState) → new ≡ after_judgement e thread result → Stands e r
-    → Stands new (with_local r (judged_local (rules_at meaning e) thread result r.local))
+    (result : Result (Unit {0}) Forbidden) (new : CoreState) → new ≡ after_judgement e thread result → CoreStands e r
+    → CoreStands new (with_local r (judged_local (rules_at meaning e) thread result r.local))
 judged_stands meaning e r thread (Ok allowed) new is S = rw is S
 judged_stands meaning e r thread (Err forbidden) new is S =
     rw is (noted_stands e r (map (thread_violation thread) (fault.Rule forbidden ∷ [])) S)
@@ -131,7 +131,7 @@ checks_step meaning e now thread kind result new judged is = record {
   steps = λ r S.
       let told = judged ∙ judged_alike e r thread kind S in (
         ap (λ answer. of_call (Checked answer)) told,
-        subst (λ answer. Stands new (with_local r (judged_local (rules_at meaning e) thread answer r.local))) told
+        subst (λ answer. CoreStands new (with_local r (judged_local (rules_at meaning e) thread answer r.local))) told
             (judged_stands meaning e r thread result new is S),
       );
 }
@@ -139,13 +139,13 @@ checks_step meaning e now thread kind result new judged is = record {
 -- ---- locks
 
 -- no handler holds a lock at the core
-unheld : (e : CoreState) (r : Node Local) → Stands e r → holds owner.Handler e.locks ≡ false
+unheld : (e : CoreState) (r : Node Local) → CoreStands e r → holds owner.Handler e.locks ≡ false
 unheld e r S = ap (holds owner.Handler) S.locks_are ∙ S.invariant_.kept.locks
 
 -- a thread's call on locks, where no handler holds one before or after it
 pub locks_step : (e : CoreState) (r : Node Local) (thread : ℕ) (held : List Held) (faults : List Fault)
-    → Stands e r → holds owner.Handler held ≡ false
-    → Stands (record e { locks = held; log = notes e.log (map (thread_violation thread) faults) })
+    → CoreStands e r → holds owner.Handler held ≡ false
+    → CoreStands (record e { locks = held; log = notes e.log (map (thread_violation thread) faults) })
     (with_local r (with_locks held (with_violations thread faults r.local)))
 locks_step e r thread held faults S none = locks_stand e r held (map (thread_violation thread) faults) S none
 
@@ -162,9 +162,9 @@ lock_step meaning e now thread lock answer new told is = record {
   steps = λ r S.
       let same = told ∙ ap (λ (held : List Held). lock_answer held (owner.Thread thread) lock 0) S.locks_are in (
         ap (λ one. of_call (Locked one)) same,
-        subst (λ one. Stands new (with_local r (with_locks (after_lock r.local.locks (owner.Thread thread) lock 0)
+        subst (λ one. CoreStands new (with_local r (with_locks (after_lock r.local.locks (owner.Thread thread) lock 0)
             (with_violations thread (lock_refusal one) r.local)))) same
-            (subst (λ (held : List Held). Stands new (with_local r
+            (subst (λ (held : List Held). CoreStands new (with_local r
             (with_locks (after_lock held (owner.Thread thread) lock 0)
             (with_violations thread (lock_refusal answer) r.local)))) S.locks_are
             (rw is (locks_step e r thread (after_lock e.locks (owner.Thread thread) lock 0) (lock_refusal answer) S
@@ -186,9 +186,9 @@ unlock_step meaning e now thread lock answer new told is = record {
   steps = λ r S.
       let same = told ∙ ap (λ (held : List Held). unlock_answer held (owner.Thread thread) lock) S.locks_are in (
         ap (λ one. of_call (Unlocked one)) same,
-        subst (λ one. Stands new (with_local r (with_locks (after_unlock r.local.locks (owner.Thread thread) lock)
+        subst (λ one. CoreStands new (with_local r (with_locks (after_unlock r.local.locks (owner.Thread thread) lock)
             (with_violations thread (unlock_refusal one) r.local)))) same
-            (subst (λ (held : List Held). Stands new (with_local r
+            (subst (λ (held : List Held). CoreStands new (with_local r
             (with_locks (after_unlock held (owner.Thread thread) lock)
             (with_violations thread (unlock_refusal answer) r.local)))) S.locks_are
             (rw is (locks_step e r thread (after_unlock e.locks (owner.Thread thread) lock) (unlock_refusal answer) S
@@ -237,14 +237,14 @@ abbrev a_start : List ℤ → List ℕ → List Held → Start
 a_start cells segment locks = record { cells = cells; segment = segment; locks = locks }
 
 -- a handler finds at the core what its record says
-pub same_start : (e : CoreState) (r : Node Local) → Stands e r → start_at e ≡ start_of e.settings r.local
+pub same_start : (e : CoreState) (r : Node Local) → CoreStands e r → start_at e ≡ start_from e.settings r.local
 same_start e r S =
     ap (λ (cells : List ℤ). a_start cells e.segment e.locks) S.cells_are
     ∙ (ap (λ (segment : List ℕ). a_start r.local.cells segment e.locks) S.segment_is
     ∙ ap (λ (locks : List Held). a_start r.local.cells (segment_of e.settings r.local) locks) S.locks_are)
 
 -- the segment of a core that stands is as long as the settings say
-pub segment_sized : (e : CoreState) (r : Node Local) → Stands e r → length e.segment ≡ e.settings.segment
+pub segment_sized : (e : CoreState) (r : Node Local) → CoreStands e r → length e.segment ≡ e.settings.segment
 segment_sized e r S =
     ap (λ (bytes : List ℕ). length bytes) S.segment_is
     ∙ length-image e.settings.segment r.local.writes S.invariant_.kept.writes
@@ -269,17 +269,17 @@ ran_core meaning e which contact c =
 
 -- a message landed and ran
 pub ran_stands : (meaning : Meaning) (e : CoreState) (r : Node Local) (which : Role) (contact : Contact) (c : Content)
-    → IsLawfulMeaning meaning → Stands e r → StaysInside e.settings.segment c
-    → Stands (ran_core meaning e which contact c)
+    → IsLawfulMeaning meaning → CoreStands e r → StaysInside e.settings.segment c
+    → CoreStands (ran_core meaning e which contact c)
     (with_local r (let landed = with_writes r.local (landing c) in
-    left_by which (outcome (handlers_at meaning e) which contact c (start_of e.settings landed)) landed))
+    left_by_run which (outcome (handlers_at meaning e) which contact c (start_from e.settings landed)) landed))
 ran_stands meaning e r which contact c lawful S fits =
     let landed = with_writes r.local (landing c) in
     let L = segment_stand e r (landing c) S fits.landed in
     let here = landed_core e c in
     let run = outcome (handlers_at meaning here) which contact c (start_at here) in
-    subst (λ (start : Start). Stands (with_outcome here which run)
-    (with_local r (left_by which (outcome (handlers_at meaning e) which contact c start) landed)))
+    subst (λ (start : Start). CoreStands (with_outcome here which run)
+    (with_local r (left_by_run which (outcome (handlers_at meaning e) which contact c start) landed)))
     (same_start here (with_local r landed) L)
     (outcome_stands here (with_local r landed) which run L
     (run_fits meaning here which contact c lawful (segment_sized here (with_local r landed) L) fits))
@@ -299,10 +299,10 @@ ran_sized meaning e which contact c lawful sized fits =
 
 -- an Ack changes nothing, each other reply lands and runs
 pub reply_run_stands : (meaning : Meaning) (e : CoreState) (r : Node Local) (contact : Contact) (c : Content)
-    (new : CoreState) → IsLawfulMeaning meaning → Stands e r → StaysInside e.settings.segment c
+    (new : CoreState) → IsLawfulMeaning meaning → CoreStands e r → StaysInside e.settings.segment c
     → (is_ack (code c.kind) ≡ true → new ≡ e)
     → (is_ack (code c.kind) ≡ false → new ≡ with_reply_ran meaning e contact c)
-    → Stands new (with_local r (run_reply (handlers_at meaning e) contact c r.local))
+    → CoreStands new (with_local r (run_reply (handlers_at meaning e) contact c r.local))
 reply_run_stands meaning e r contact c new lawful S fits ack runs = elim (cases_Bool (is_ack (code c.kind))) [
   | inl t ↦ rw (t, ack t) S
   | inr f ↦ rw (f, runs f) (ran_stands meaning e r role.Reply contact c lawful S fits)
@@ -328,8 +328,8 @@ sendable frame (Some x) L content e =
 
 -- the reply of an own request ran, if there was one
 own_reply_stands : (meaning : Meaning) (e : CoreState) (r : Node Local) (o : Option Content) → IsLawfulMeaning meaning
-    → Stands e r → ((content : Content) → o ≡ Some content → IsSendable e.settings content)
-    → Stands (with_own_reply meaning e o)
+    → CoreStands e r → ((content : Content) → o ≡ Some content → IsSendable e.settings content)
+    → CoreStands (with_own_reply meaning e o)
     (with_local r (run_reply (handlers_at meaning e) (with_itself e.me) (reply_or_ack o) r.local))
 own_reply_stands meaning e r None lawful S sent = S
 own_reply_stands meaning e r (Some content) lawful S sent =
@@ -353,8 +353,8 @@ own_sendable meaning e c lawful client =
 
 -- a request to the local node ran, and its reply
 own_run_stands : (meaning : Meaning) (e : CoreState) (r : Node Local) (c : Content) → IsLawfulMeaning meaning
-    → Stands e r → is_library c.handler ≡ false → StaysInside e.settings.segment c
-    → Stands (with_own_run meaning e c)
+    → CoreStands e r → is_library c.handler ≡ false → StaysInside e.settings.segment c
+    → CoreStands (with_own_run meaning e c)
     (with_local r (let out = run_request (handlers_at meaning e) (with_itself e.me) c r.local in
     run_reply (handlers_at meaning e) (with_itself e.me) out.1 out.0))
 own_run_stands meaning e r c lawful S client fits =
@@ -362,12 +362,12 @@ own_run_stands meaning e r c lawful S client fits =
     let L = segment_stand e r (landing c) S fits.landed in
     let here = landed_core e c in
     let run = own_run meaning e c in
-    subst (λ (start : Start). Stands (with_own_run meaning e c)
+    subst (λ (start : Start). CoreStands (with_own_run meaning e c)
     (with_local r (let out = outcome (handlers_at meaning e) role.Request (with_itself e.me) c start in
     run_reply (handlers_at meaning e) (with_itself e.me) (reply_or_ack out.reply)
-    (left_by role.Request out landed)))) (same_start here (with_local r landed) L)
+    (left_by_run role.Request out landed)))) (same_start here (with_local r landed) L)
     (own_reply_stands meaning (with_outcome here role.Request run)
-    (with_local r (left_by role.Request run landed)) run.reply lawful
+    (with_local r (left_by_run role.Request run landed)) run.reply lawful
     (outcome_stands here (with_local r landed) role.Request run L
     (run_fits meaning here role.Request (with_itself e.me) c lawful (segment_sized here (with_local r landed) L) fits))
     (own_sendable meaning e c lawful client))
@@ -389,7 +389,7 @@ passed_answer e r ask =
 -- a request that the table allows
 allowed_answer : (meaning : Meaning) (e : CoreState) (r : Node Local) (ask : Ask)
     (judgement : Result (Unit {0}) Forbidden)
-    → Stands e r → judged_at e ask.thread call.Request ≡ judgement
+    → CoreStands e r → judged_at e ask.thread call.Request ≡ judgement
     → request_answer (site_at meaning e) r ask
     ≡ unless_forbidden judgement (unless_bad (asked_fault e ask) (passed_answer e r ask))
 allowed_answer meaning e r ask judgement S j =
@@ -398,7 +398,7 @@ allowed_answer meaning e r ask judgement S j =
 
 -- what a request is answered, where the table allows it and nothing is wrong with it
 answer_is : (meaning : Meaning) (e : CoreState) (r : Node Local) (ask : Ask) (allowed : Unit {0}) (a : AskedAnswer)
-    → Stands e r → judged_at e ask.thread call.Request ≡ Ok allowed → asked_fault e ask ≡ None
+    → CoreStands e r → judged_at e ask.thread call.Request ≡ Ok allowed → asked_fault e ask ≡ None
     → passed_answer e r ask ≡ a → a ≡ request_answer (site_at meaning e) r ask
 answer_is meaning e r ask allowed a S j f is =
     sym (allowed_answer meaning e r ask (Ok allowed) S j ∙ (ap (λ x. unless_bad x (passed_answer e r ask)) f ∙ is))
@@ -409,7 +409,7 @@ other_answer : (e : CoreState) (r : Node Local) (ask : Ask) (a : AskedAnswer) �
 other_answer e r ask a other is = rw (ne_eqb ask.to e.me other) is
 
 -- of a request to the local node
-own_passed : (e : CoreState) (r : Node Local) (ask : Ask) (lock : Option ℕ) → Stands e r → ask.to ≡ e.me
+own_passed : (e : CoreState) (r : Node Local) (ask : Ask) (lock : Option ℕ) → CoreStands e r → ask.to ≡ e.me
     → busy_lock e.table ask.what.handler e.locks ≡ lock → passed_answer e r ask ≡ own_answer lock
 own_passed e r ask lock S own is =
     rw (eq-eqb ask.to e.me own)
@@ -430,7 +430,8 @@ claims_step meaning e now ask allowed (asked.Accepted peer slot number) new j f 
       node_accepts ask.to now slot number e r (said_at e ask) new S low other h.1 in (
         answer_is meaning e r ask allowed _ S j f (other_answer e r ask _ other
             (N.takes.1.answer ∙ ap (λ p. asked.Accepted p slot number) (sym h.0))),
-        subst (λ (bytes : List ℕ). Stands new (with_request r now ask.to slot (said_in bytes ask.what))) S.segment_is
+        subst (λ (bytes : List ℕ). CoreStands new (with_request r now ask.to slot (said_in bytes ask.what)))
+            S.segment_is
             N.stands,
       );
 }
@@ -505,7 +506,7 @@ own_step meaning e now ask allowed None a new lawful sized j f own busy h =
       same = rw h.1 (own_same meaning e (said_at e ask) lawful sized client fits);
       steps = λ r S. (
         h.0 ∙ answer_is meaning e r ask allowed _ S j f (own_passed e r ask None S own busy),
-        rw (h.0, h.1) (subst (λ (bytes : List ℕ). Stands (with_own_run meaning e (said_at e ask))
+        rw (h.0, h.1) (subst (λ (bytes : List ℕ). CoreStands (with_own_run meaning e (said_at e ask))
             (with_local r (ran_here (rules_at meaning e) e.me (said_in bytes ask.what) r.local))) S.segment_is
             (own_run_stands meaning e r (said_at e ask) lawful S client fits)),
       );
@@ -573,7 +574,7 @@ asks_step meaning e now ask a new h = record {
   same = h.same;
   steps = λ r S. let it = h.steps r S in (
     ap of_request it.0,
-    subst (λ x. Stands new (after_request (site_at meaning e) r now ask x)) it.0 it.1,
+    subst (λ x. CoreStands new (after_request (site_at meaning e) r now ask x)) it.0 it.1,
   );
 }
 
@@ -600,7 +601,8 @@ own_ask_step e now to work (asked.Accepted peer slot number) new low other h = r
       let N = node_accepts to now slot number e r (work_content e.settings.version e.segment work) new S low other h.1
       in (
         sym (N.takes.1.answer ∙ ap (λ p. asked.Accepted p slot number) (sym h.0)),
-        subst (λ (bytes : List ℕ). Stands new (with_request r now to slot (work_content e.settings.version bytes work)))
+        subst (λ (bytes : List ℕ). CoreStands new
+            (with_request r now to slot (work_content e.settings.version bytes work)))
             S.segment_is N.stands,
       );
 }

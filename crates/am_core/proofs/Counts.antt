@@ -25,7 +25,7 @@ use Rattle.lists.proofs.Sums.{sum_same}
 use Rattle.am_core.specs.Kept.{Local}
 use Rattle.am_core.specs.CoreState.{CoreState}
 use Rattle.am_core.specs.Sizes.{IsSized}
-use Rattle.am_core.specs.Stands.{Stands, StandsForAsked, StandsForRan, reply_state}
+use Rattle.am_core.specs.Stands.{CoreStands, StandsForAsked, StandsForRan, reply_state}
 use Rattle.am_core.proofs.Claiming.{vacant_taken}
 use Rattle.am_core.proofs.Readings.{hits, hits_all}
 use Rattle.node_record.proofs.Holding.{no_slots}
@@ -149,7 +149,7 @@ none_kept : (p : List ReplyState) → length p ≡ 0 → run_count p ≡ 0
 none_kept p none = ap (λ slots. sum_by (counted_of keeps_run) slots) (nil_from_length p none)
 
 -- the requests that aren't back, of all peers
-asked_count : (e : CoreState) (r : Node Local) → Stands e r → IsSized e.settings e.me e.requests e.replies
+asked_count : (e : CoreState) (r : Node Local) → CoreStands e r → IsSized e.settings e.me e.requests e.replies
     → held_count e.requests ≡ sum_below (λ peer. unreturned (r.asked peer)) e.settings.nodes
 asked_count e r S sized =
     sum_of taken_count (λ peer. unreturned (r.asked peer)) e.requests.peers
@@ -166,12 +166,12 @@ asked_count e r S sized =
     ∙ ap (sum_below (λ peer. unreturned (r.asked peer))) sized.requesters
 
 -- a request that was run has a number
-run_numbered : (e : CoreState) (r : Node Local) (peer place : ℕ) (run : Run) → Stands e r
+run_numbered : (e : CoreState) (r : Node Local) (peer place : ℕ) (run : Run) → CoreStands e r
     → slice_get (r.ran peer) place ≡ Some run → 1 ≤ run.number
 run_numbered e r peer place run S is = (S.invariant_.replied peer place run is).numbered
 
 -- the replies that are kept, of all peers
-ran_count : (e : CoreState) (r : Node Local) → Stands e r → IsSized e.settings e.me e.requests e.replies
+ran_count : (e : CoreState) (r : Node Local) → CoreStands e r → IsSized e.settings e.me e.requests e.replies
     → kept_count e.replies ≡ sum_below (λ peer. slots_run (r.ran peer) (credits_of e.settings peer e.me))
     e.settings.nodes
 ran_count e r S sized =
@@ -190,7 +190,7 @@ ran_count e r S sized =
     ∙ ap (sum_below (λ peer. slots_run (r.ran peer) (credits_of e.settings peer e.me))) sized.responders
 
 -- the slots in use are what the record holds
-pub held_is : (e : CoreState) (r : Node Local) → Stands e r → IsSized e.settings e.me e.requests e.replies
+pub held_is : (e : CoreState) (r : Node Local) → CoreStands e r → IsSized e.settings e.me e.requests e.replies
     → held_count e.requests + kept_count e.replies ≡ held e.settings e.me r
 held_is e r S sized =
     ap₂ (λ m n. m + n) (asked_count e r S sized) (ran_count e r S sized)

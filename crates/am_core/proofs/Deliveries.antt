@@ -29,18 +29,18 @@ use Rattle.node_record.specs.Step.{address_fault, first_why, with_run, with_back
 use Rattle.node_record.specs.Step.{Verdict, Refused as RefusedVerdict, Duplicated, Passed, Runs as RunsVerdict, Missed}
 use Rattle.node_record.specs.Step.{Returns as ReturnsVerdict, verdict, answer_by, with_sender}
 use Rattle.datagram_grammar.specs.Parameters.{credits_of}
-use Rattle.am_core.specs.Kept.{Local, start_of, with_writes}
+use Rattle.am_core.specs.Kept.{Local, start_from, with_writes}
 use Rattle.handler_rules.specs.Runs.{Meaning, IsLawfulMeaning}
 use Rattle.handler_rules.specs.declared.rules.Role.{Role}
 use Rattle.hsl_locks.specs.declared.answer.Held.{Held}
 use Rattle.am_core.specs.WouldDeliver.{WouldAnswer, WouldDeliver, WouldRun}
 use Rattle.am_core.proofs.Landings.{content_fits, StaysInside}
 use Rattle.am_core.specs.ClientRules.{content_refusal, awaited_lock}
-use Rattle.am_core.specs.HandlerRuns.{left_by, landing, outcome, reply_or_ack, run_request}
+use Rattle.am_core.specs.HandlerRuns.{left_by_run, landing, outcome, reply_or_ack, run_request}
 use Rattle.am_core.specs.HandlerRuns.{run_reply}
 use Rattle.am_core.specs.CoreState.{CoreState}
 use Rattle.am_core.specs.CoreContracts.{IsSameNode}
-use Rattle.am_core.specs.Stands.{Stands}
+use Rattle.am_core.specs.Stands.{CoreStands}
 use Rattle.am_core.specs.CoreContracts.{CoreTold, CoreSteps, Delivers}
 use Rattle.am_core.specs.CoreStep.{delivered_outcome, landed_core, lock_at, DeliversMessage}
 use Rattle.am_core.specs.CoreStep.{IsOurs, IsOurRequest, IsOurReply, IsNewRequest, IsOpenReply, Runs, RunsNew}
@@ -81,13 +81,13 @@ taken_verdict r m lock =
     (numbered (r.asked m.from) m.number) lock
 
 -- the record of a core waits for the same lock
-waits_alike : (e : CoreState) (r : Node Local) (m : Message) → Stands e r
+waits_alike : (e : CoreState) (r : Node Local) (m : Message) → CoreStands e r
     → lock_at e m ≡ awaited_lock e.table (content_of m) r.local.locks
 waits_alike e r m S = ap (λ (held : List Held). awaited_lock e.table (content_of m) held) S.locks_are
 
 -- of a request that isn't refused
 request_verdict : (meaning : Meaning) (e : CoreState) (r : Node Local) (m : Message) (v : Verdict) → IsOurRequest e m
-    → Stands e r → judged_answer m.number (greatest m.slot (r.ran m.from)) (lock_at e m) ≡ v
+    → CoreStands e r → judged_answer m.number (greatest m.slot (r.ran m.from)) (lock_at e m) ≡ v
     → verdict (site_at meaning e) r m ≡ v
 unfolding message_refusal
 request_verdict meaning e r m v O S is =
@@ -98,7 +98,7 @@ request_verdict meaning e r m v O S is =
 
 -- of a reply that isn't refused
 reply_verdict : (meaning : Meaning) (e : CoreState) (r : Node Local) (m : Message) (v : Verdict) → IsOurReply e m
-    → Stands e r → taken_back m.slot (numbered (r.asked m.from) m.number) (lock_at e m) ≡ v
+    → CoreStands e r → taken_back m.slot (numbered (r.asked m.from) m.number) (lock_at e m) ≡ v
     → verdict (site_at meaning e) r m ≡ v
 unfolding message_refusal
 reply_verdict meaning e r m v O S is =
@@ -132,21 +132,21 @@ judged_stale m last lock l = grind (arith, nat_tests)
 -- where this becomes of a message: the answer, and what stands
 by_verdict : (meaning : Meaning) (e new : CoreState) (r : Node Local) (m : Message) (v : Verdict) (a : Delivered)
     → verdict (site_at meaning e) r m ≡ v → a ≡ answer_by (rules_at meaning e) m v
-    → Stands new (after_delivery (site_at meaning e) r m v)
-    → (a ≡ deliver_answer (site_at meaning e) r m) × Stands new
+    → CoreStands new (after_delivery (site_at meaning e) r m v)
+    → (a ≡ deliver_answer (site_at meaning e) r m) × CoreStands new
     (after_delivery (site_at meaning e) r m (verdict (site_at meaning e) r m))
 by_verdict meaning e new r m v a is answer stands = (
   answer ∙ ap (answer_by (rules_at meaning e) m) (sym is),
   subst
-      (λ x. Stands new (after_delivery (site_at meaning e) r m x)) (sym is) stands,
+      (λ x. CoreStands new (after_delivery (site_at meaning e) r m x)) (sym is) stands,
 )
 
 -- a message that is delivered: what it is answered, and what it leaves
 pub record MessageStep (meaning : Meaning) (e : CoreState) (m : Message) (a : Delivered) (new : CoreState) : Type 0
   where
     pub same : IsSameNode e new
-    pub steps : (r : Node Local) → Stands e r
-        → (a ≡ deliver_answer (site_at meaning e) r m) × Stands new
+    pub steps : (r : Node Local) → CoreStands e r
+        → (a ≡ deliver_answer (site_at meaning e) r m) × CoreStands new
         (after_delivery (site_at meaning e) r m (verdict (site_at meaning e) r m))
 
 -- a slot of the pair of a request, and of a reply
@@ -163,8 +163,8 @@ reply_slot_in e m O =
 -- a request that is new in its slot landed and ran
 runs_stand : (meaning : Meaning) (e : CoreState) (m : Message) (new : CoreState) (r : Node Local)
     → IsLawfulMeaning meaning → IsOurRequest e m
-    → Runs meaning e m new → Stands e r → greatest m.slot (r.ran m.from) < m.number
-    → Stands new (with_run r (with_sender e.me m) (content_of m)
+    → Runs meaning e m new → CoreStands e r → greatest m.slot (r.ran m.from) < m.number
+    → CoreStands new (with_run r (with_sender e.me m) (content_of m)
     (run_request (handlers_at meaning e) (with_sender e.me m) (content_of m) r.local))
 runs_stand meaning e m new r lawful O R S above =
     let ours = O.known in
@@ -180,11 +180,11 @@ runs_stand meaning e m new r lawful O R S above =
     role.Request at (content_of m) lawful N (message_fits e m O.spelled O.ours) in
     let landed = with_writes r.local (landing (content_of m)) in
     let L = segment_stand e r (landing (content_of m)) S (message_fits e m O.spelled O.ours).landed in
-    rw R.kept (subst (λ reply. Stands (record (ran_core meaning e role.Request at (content_of m)) {
+    rw R.kept (subst (λ reply. CoreStands (record (ran_core meaning e role.Request at (content_of m)) {
       replies = with_reply e.replies m.from m.slot m.number (spelling answer);
     }) (with_run r at (content_of m) (
-      left_by role.Request (outcome (handlers_at meaning e) role.Request at
-          (content_of m) (start_of e.settings landed)) landed,
+      left_by_run role.Request (outcome (handlers_at meaning e) role.Request at
+          (content_of m) (start_from e.settings landed)) landed,
       reply,
     )))
     (ap (λ start. reply_or_ack (outcome (handlers_at meaning e) role.Request at (content_of m) start).reply)
@@ -194,9 +194,9 @@ runs_stand meaning e m new r lawful O R S above =
 returns_stand : (meaning : Meaning) (e : CoreState) (m : Message) (new : CoreState) (r : Node Local)
     → IsLawfulMeaning meaning → IsOurReply e m
     → new ≡ with_reply_run meaning
-    (record e { requests = with_slot e.requests m.from m.slot Vacant }) m → Stands e r
+    (record e { requests = with_slot e.requests m.from m.slot Vacant }) m → CoreStands e r
     → is_open m.slot (numbered (r.asked m.from) m.number) ≡ true
-    → Stands new (with_back r m.from m.number
+    → CoreStands new (with_back r m.from m.number
     (run_reply (handlers_at meaning e) (with_sender e.me m) (content_of m) r.local))
 returns_stand meaning e m new r lawful O is S open_ =
     let ours = O.known in
@@ -385,7 +385,7 @@ answer_by_verdict : (meaning : Meaning) (e : CoreState) (r : Node Local) (m : Me
 answer_by_verdict meaning e r m v a is answer = answer ∙ ap (answer_by (rules_at meaning e) m) (sym is)
 
 -- a new request would run
-run_answered : (meaning : Meaning) (e : CoreState) (m : Message) (a : Delivered) (r : Node Local) → Stands e r
+run_answered : (meaning : Meaning) (e : CoreState) (m : Message) (a : Delivered) (r : Node Local) → CoreStands e r
     → WouldRun e m a → a ≡ deliver_answer (site_at meaning e) r m
 run_answered meaning e m a r S h =
     let O = h.request.ours in
@@ -398,7 +398,7 @@ run_answered meaning e m a r S h =
     h.answer_is
 
 -- it would wait
-wait_answered : (meaning : Meaning) (e : CoreState) (m : Message) (lock : ℕ) (r : Node Local) → Stands e r
+wait_answered : (meaning : Meaning) (e : CoreState) (m : Message) (lock : ℕ) (r : Node Local) → CoreStands e r
     → IsNewRequest e m ⊎ IsOpenReply e m → lock_at e m ≡ Some lock
     → delivered.Deferred lock ≡ deliver_answer (site_at meaning e) r m
 wait_answered meaning e m lock r S (inl request) waits =
@@ -416,7 +416,8 @@ wait_answered meaning e m lock r S (inr reply) waits =
     (reply_verdict meaning e r m _ O S (rw open_ (ap (λ one. unless_waiting one ReturnsVerdict) waits))) refl
 
 -- by the answer
-pub message_answered : (meaning : Meaning) (e : CoreState) (m : Message) (a : Delivered) (r : Node Local) → Stands e r
+pub message_answered : (meaning : Meaning) (e : CoreState) (m : Message) (a : Delivered) (r : Node Local)
+    → CoreStands e r
     → WouldAnswer e m a → a ≡ deliver_answer (site_at meaning e) r m
 message_answered meaning e m (delivered.Ran at) r S h = run_answered meaning e m (delivered.Ran at) r S h
 message_answered meaning e m (delivered.Noted at note) r S h = run_answered meaning e m (delivered.Noted at note) r S h

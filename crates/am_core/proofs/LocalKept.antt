@@ -13,11 +13,11 @@ use Rattle.handler_rules.specs.declared.table.Entry.{Entry}
 use Rattle.handler_rules.specs.Runs.{Meaning, IsLawfulMeaning}
 use Rattle.node_record.specs.Behaviour.{Contact}
 use Rattle.node_record.specs.Step.{judged_local}
-use Rattle.am_core.specs.Kept.{Local, IsKept, start_of, with_writes, nothing_done}
+use Rattle.am_core.specs.Kept.{Local, IsKept, start_from, with_writes, nothing_done}
 use Rattle.am_core.specs.Library.{is_library}
 use Rattle.am_core.proofs.Landings.{StaysInside}
 use Rattle.am_core.specs.HandlerRuns.{client_outcome}
-use Rattle.am_core.specs.HandlerRuns.{NodeHandlers, frame_of_run, landing, left_by, outcome, run_request}
+use Rattle.am_core.specs.HandlerRuns.{NodeHandlers, frame_of_run, landing, left_by_run, outcome, run_request}
 use Rattle.am_core.specs.HandlerRuns.{run_reply}
 use Rattle.am_core.specs.ClientRules.{rules}
 use Rattle.am_core.specs.CoreContracts.{CoreCall, Check, Lock, Unlock, core_does}
@@ -32,11 +32,11 @@ pub ran_kept : (handlers : NodeHandlers) (which : Role) (contact : Contact) (con
     → IsLawfulMeaning handlers.meaning → StaysInside handlers.settings.segment content
     → IsKept handlers.settings contact.me local
     → IsKept handlers.settings contact.me (let landed = with_writes local (landing content) in
-    left_by which (outcome handlers which contact content (start_of handlers.settings landed)) landed)
+    left_by_run which (outcome handlers which contact content (start_from handlers.settings landed)) landed)
 ran_kept handlers which contact content local lawful fits kept =
     let len = handlers.settings.segment in
     let landed = with_writes local (landing content) in
-    let start = start_of handlers.settings landed in
+    let start = start_from handlers.settings landed in
     let run = outcome handlers which contact content start in
     let all = all_fit-append len local.writes (landing content) kept.writes fits.landed in
     let wrote : AllFit len run.writes = elim (cases_Bool (is_library content.handler)) [

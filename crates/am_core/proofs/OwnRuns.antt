@@ -16,7 +16,7 @@ use Rattle.handler_rules.specs.declared.table.Entry.{Entry}
 use Rattle.handler_rules.specs.declared.message.Reply.{Reply}
 use Rattle.handler_rules.specs.Registered.{entry_at, is_for_replies, serves_replies, locks_in_replies, reply_locks}
 use Rattle.handler_rules.specs.Runs.{Frame, IsLawful, IsGood, IsPlaced, reply_bytes, outgoing_reply}
-use Rattle.handler_rules.specs.Desks.{reply_of, reply_after, buffer_after}
+use Rattle.handler_rules.specs.Desks.{reply_from, reply_after, buffer_after}
 use Rattle.am_core.specs.HandlerRuns.{entry_locks, frame_of_run, listed_for, place_of, shown_payload}
 use Rattle.am_core.specs.Landed.{content_at, asked_place, IsLanded}
 use Rattle.node_record.specs.Behaviour.{Asking, Category, Short, Medium, Long, PayloadFrom, Lent, Own}
@@ -26,7 +26,8 @@ use Rattle.hsl_locks.specs.declared.answer.Owner.TheVariants as owner
 use Rattle.hsl_locks.specs.Locks.{holds}
 use Rattle.handler_rules.specs.Runs.{Meaning}
 use Rattle.am_core.specs.declared.context.OwnReply.{OwnReply}
-use Rattle.am_core.specs.HandlerContextRuns.{HandlerContextRun, OwnFrame, Touched, Ran, Leaves, RunsReply, RunsOwn, CanRunOwnReply}
+use Rattle.am_core.specs.HandlerContextRuns.{HandlerContextRun, OwnFrame, Touched, Ran, LeavesTouched, RunsReply}
+use Rattle.am_core.specs.HandlerContextRuns.{RunsOwn, CanRunOwnReply}
 use Rattle.am_core.specs.HandlerContextRuns.{own_reply_run, landed_on, start_on}
 use Rattle.handler_rules.specs.declared.rules.Role.TheVariants as role
 use Rattle.handler_rules.specs.LogState.{Logged, notes}
@@ -104,8 +105,8 @@ pub own_reply_is : (frame : Frame) (sent : Option Content) (reply : Reply) (buff
 own_reply_is frame None reply buffer new_buffer own good is written = absurd (cc)
 own_reply_is frame (Some content) reply buffer new_buffer own good is written =
     let arrival = frame.arrival in
-    let same : reply ≡ reply_of frame.settings arrival content =
-    same_Some reply (reply_of frame.settings arrival content) is in
+    let same : reply ≡ reply_from frame.settings arrival content =
+    same_Some reply (reply_from frame.settings arrival content) is in
     let bytes : reply_bytes frame.settings arrival content ≡ content.payload =
     ap (λ (b : Bool). if b then content.payload
     else spelling (outgoing_reply frame.settings arrival content)) (eq-eqb arrival.source arrival.me own) in
@@ -183,7 +184,7 @@ can_run_own run middle reply buffer new_buffer own to_itself ran reply_is settin
 pub replied_ran : (meaning : Meaning) (run : HandlerContextRun) (middle after : Touched) (reply : Reply)
     (buffer new_buffer : List ℕ) → run.frame.arrival.source ≡ run.frame.arrival.me
     → Ran run middle buffer new_buffer (Some reply)
-    → Leaves (own_reply_run meaning (record {
+    → LeavesTouched (own_reply_run meaning (record {
       settings = run.frame.settings;
       table = run.frame.table;
       me = run.frame.arrival.me;
@@ -202,7 +203,8 @@ replied_ran meaning run middle after reply buffer new_buffer to_itself ran left 
       left = ran.left;
       replied =
           subst (λ (sent : Option Content). RunsReply meaning run sent middle after) (sym it.1)
-          (subst (λ (c : Content). Leaves (own_reply_run meaning own c (landed_on middle c)) after) it.2.content_is
+          (subst (λ (c : Content). LeavesTouched (own_reply_run meaning own c (landed_on middle c)) after)
+          it.2.content_is
           left);
     }
 
@@ -219,7 +221,7 @@ unreplied_ran meaning run after sent buffer new_buffer ran none = record {
     by_reply : (content : Option Content) → sent ≡ reply_after run.frame.settings run.frame.arrival content
         → RunsReply meaning run content after after
     by_reply None is = refl
-    by_reply (Some content) is = absurd (none (reply_of run.frame.settings run.frame.arrival content) is)
+    by_reply (Some content) is = absurd (none (reply_from run.frame.settings run.frame.arrival content) is)
 
 -- ---- a request to the local node
 
@@ -240,7 +242,7 @@ abbrev after_run : HandlerContextRun → Touched
 after_run run = a_touched run.outcome.cells (written_by run.before.segment run.outcome.writes) run.before.locks
     (notes run.before.log (map (violation run.frame.arrival.role) run.outcome.refused))
 
-left_is : (run : HandlerContextRun) (after : Touched) → Leaves run after → after ≡ after_run run
+left_is : (run : HandlerContextRun) (after : Touched) → LeavesTouched run after → after ≡ after_run run
 left_is run after left =
     ap (λ (cells : List ℤ). a_touched cells after.segment after.locks after.log) left.cells_are
     ∙ (ap (λ (segment : List ℕ). a_touched run.outcome.cells segment after.locks after.log) left.segment_is

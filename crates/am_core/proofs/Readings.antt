@@ -4,8 +4,8 @@ use Rattle.std.proofs.Common.{[], ◌∷◌, length, Option, None, Some, refl, s
 use Rattle.std.proofs.Common.{ne_eqb, lt-ltb}
 use Rattle.std.specs.Prelude.{nat_le, nat_lt, option_and_then, count_by, if◌then◌else◌}
 use Rattle.std.specs.Option.{option_map}
-use Rattle.credit_slots.specs.SlotsState.{message_number as request_number, number_at as request_number_at}
-use Rattle.reply_slots.specs.RepliesState.{message_number as reply_number, number_at as reply_number_at}
+use Rattle.credit_slots.specs.SlotsState.{message_number as request_number, sealed_number_at as request_number_at}
+use Rattle.reply_slots.specs.RepliesState.{message_number as reply_number, kept_number_at as reply_number_at}
 use Rattle.std.specs.List.{list_any, slice_get, AllByRecursion, IsDistinct}
 use Rattle.std.proofs.lemmas.Bool.{cases_Bool, cases_eq}
 use Rattle.std.proofs.lemmas.List.Recursion.{is_count_by}
@@ -14,7 +14,7 @@ use Rattle.datagram_grammar.specs.Parameters.{Parameters, credits_of}
 use Rattle.node_record.specs.Credits.{limits_of}
 use Rattle.node_record.specs.Step.{request_slot, reply_slot}
 use Rattle.credit_slots.specs.SlotsState.{SlotState, PeerState, is_vacant, vacant_count, is_exhausted}
-use Rattle.credit_slots.specs.SlotsState.{message_at as request_bytes_at, message_of as request_of}
+use Rattle.credit_slots.specs.SlotsState.{sealed_message_at as request_bytes_at, message_of as request_of}
 use Rattle.reply_slots.specs.RepliesState.{message_at as reply_bytes_at, message_of as reply_of}
 use Rattle.node_record.specs.declared.answer.SlotRef.{SlotRef}
 use Rattle.node_record.specs.declared.answer.Side.{Side}
@@ -25,8 +25,8 @@ use Rattle.node_record.specs.Executed.{last_run}
 use Rattle.am_core.specs.Kept.{Local}
 use Rattle.node_record.specs.Invariant.{IsOrderly}
 use Rattle.am_core.specs.CoreState.{CoreState}
-use Rattle.am_core.specs.Stands.{Stands, StandsForAsked, slot_state, reply_state}
-use Rattle.node_record.specs.SlotMessages.{slots_of, sealed_message, message_at, sealed_number, number_at}
+use Rattle.am_core.specs.Stands.{CoreStands, StandsForAsked, slot_state, reply_state}
+use Rattle.node_record.specs.SlotMessages.{slots_of, sealed_message, message_at, sealed_number, number_in_slot}
 use Rattle.node_record.proofs.Lists.{taken_from, slice_get_in}
 use Rattle.node_record.proofs.Keeping.{taken_apart}
 use Rattle.am_core.proofs.Claiming.{vacant_taken}
@@ -49,7 +49,7 @@ reply_state_of e peer None r slot is = rw is refl
 reply_state_of e peer (Some o) r slot is = rw is refl
 
 -- the message of a request's slot
-pub request_bytes : (e : CoreState) (r : Node Local) (peer slot : ℕ) → Stands e r → peer < e.settings.nodes
+pub request_bytes : (e : CoreState) (r : Node Local) (peer slot : ℕ) → CoreStands e r → peer < e.settings.nodes
     → peer ≢ e.me → slot < credits_of e.settings e.me peer
     → request_bytes_at e.requests peer slot ≡ sealed_message e.settings e.me r (request_slot peer slot)
 request_bytes e r peer slot S low other below =
@@ -57,7 +57,8 @@ request_bytes e r peer slot S low other below =
     ∙ request_state e peer (open_in slot (r.asked peer)) r slot refl
 
 -- the message of a reply's slot
-pub reply_bytes : (e : CoreState) (r : Node Local) (peer slot : ℕ) → Stands e r → peer < e.settings.nodes → peer ≢ e.me
+pub reply_bytes : (e : CoreState) (r : Node Local) (peer slot : ℕ) → CoreStands e r → peer < e.settings.nodes
+    → peer ≢ e.me
     → slot < credits_of e.settings peer e.me
     → reply_bytes_at e.replies peer slot ≡ sealed_message e.settings e.me r (reply_slot peer slot)
 reply_bytes e r peer slot S low other below =
@@ -74,14 +75,14 @@ side_bytes e side.Request peer slot = request_bytes_at e.requests peer slot
 side_bytes e side.Reply peer slot = reply_bytes_at e.replies peer slot
 
 -- the bytes at a slot of another node are the record's message
-side_is : (e : CoreState) (r : Node Local) (which : Side) (peer slot : ℕ) → Stands e r → peer < e.settings.nodes
+side_is : (e : CoreState) (r : Node Local) (which : Side) (peer slot : ℕ) → CoreStands e r → peer < e.settings.nodes
     → peer ≢ e.me → slot < slots_of e.settings e.me which peer
     → side_bytes e which peer slot ≡ sealed_message e.settings e.me r (slot_on which peer slot)
 side_is e r side.Request peer slot S low other below = request_bytes e r peer slot S low other below
 side_is e r side.Reply peer slot S low other below = reply_bytes e r peer slot S low other below
 
 -- a slot of another node has the record's message
-pub message_is : (e : CoreState) (r : Node Local) (at : SlotRef) → Stands e r → at.peer < e.settings.nodes
+pub message_is : (e : CoreState) (r : Node Local) (at : SlotRef) → CoreStands e r → at.peer < e.settings.nodes
     → at.peer ≢ e.me → at.slot < slots_of e.settings e.me at.side at.peer
     → side_bytes e at.side at.peer at.slot ≡ message_at e.settings e.me r at
 message_is e r at S low other below =
@@ -191,7 +192,7 @@ peer_vacant s me peer p xs S O =
     omega (arith, both, passed)
 
 -- the credits that are left
-pub free_is : (e : CoreState) (r : Node Local) (to : ℕ) → Stands e r → to < e.settings.nodes → to ≢ e.me
+pub free_is : (e : CoreState) (r : Node Local) (to : ℕ) → CoreStands e r → to < e.settings.nodes → to ≢ e.me
     → vacant_count e.requests to ≡ credits_of e.settings e.me to - unreturned (r.asked to)
 free_is e r to S low other =
     let p = S.requests to low other in
@@ -199,7 +200,7 @@ free_is e r to S low other =
     ∙ peer_vacant e.settings e.me to p.0 (r.asked to) p.2 (S.invariant_.orderly to)
 
 -- whether the numbers are used up
-pub exhausted_is : (e : CoreState) (r : Node Local) (to : ℕ) → Stands e r → to < e.settings.nodes → to ≢ e.me
+pub exhausted_is : (e : CoreState) (r : Node Local) (to : ℕ) → CoreStands e r → to < e.settings.nodes → to ≢ e.me
     → is_exhausted e.requests to ≡ nat_le e.settings.last (length (r.asked to))
 exhausted_is e r to S low other =
     let p = S.requests to low other in
@@ -209,7 +210,7 @@ exhausted_is e r to S low other =
 -- ---- as the code reads them
 
 -- the bytes of a request's slot are the record's message
-pub request_read : (e : CoreState) (r : Node Local) (at : SlotRef) (found : Option (List ℕ)) → Stands e r
+pub request_read : (e : CoreState) (r : Node Local) (at : SlotRef) (found : Option (List ℕ)) → CoreStands e r
     → at.side ≡ side.Request → at.peer < e.settings.nodes → at.peer ≢ e.me
     → at.slot < slots_of e.settings e.me at.side at.peer → found ≡ request_bytes_at e.requests at.peer at.slot
     → found ≡ message_at e.settings e.me r at
@@ -217,7 +218,7 @@ request_read e r at found S is low other below read =
     read ∙ (ap (λ which. side_bytes e which at.peer at.slot) (sym is) ∙ message_is e r at S low other below)
 
 -- the bytes of a reply's slot are the record's message
-pub reply_read : (e : CoreState) (r : Node Local) (at : SlotRef) (found : Option (List ℕ)) → Stands e r
+pub reply_read : (e : CoreState) (r : Node Local) (at : SlotRef) (found : Option (List ℕ)) → CoreStands e r
     → at.side ≡ side.Reply → at.peer < e.settings.nodes → at.peer ≢ e.me
     → at.slot < slots_of e.settings e.me at.side at.peer → found ≡ reply_bytes_at e.replies at.peer at.slot
     → found ≡ message_at e.settings e.me r at
@@ -244,7 +245,7 @@ side_number e side.Request peer slot = request_number_at e.requests peer slot
 side_number e side.Reply peer slot = reply_number_at e.replies peer slot
 
 -- the number at a slot of another node is that of the record's message
-number_is : (e : CoreState) (r : Node Local) (which : Side) (peer slot : ℕ) → Stands e r → peer < e.settings.nodes
+number_is : (e : CoreState) (r : Node Local) (which : Side) (peer slot : ℕ) → CoreStands e r → peer < e.settings.nodes
     → peer ≢ e.me → slot < slots_of e.settings e.me which peer
     → side_number e which peer slot ≡ sealed_number r (slot_on which peer slot)
 number_is e r side.Request peer slot S low other below =
@@ -255,10 +256,10 @@ number_is e r side.Reply peer slot S low other below =
     ∙ reply_number_of e.settings e.me peer (last_run slot (r.ran peer))
 
 -- as the code reads it
-pub number_read : (e : CoreState) (r : Node Local) (at : SlotRef) (which : Side) (found : Option ℕ) → Stands e r
+pub number_read : (e : CoreState) (r : Node Local) (at : SlotRef) (which : Side) (found : Option ℕ) → CoreStands e r
     → at.side ≡ which → at.peer < e.settings.nodes → at.peer ≢ e.me
     → at.slot < slots_of e.settings e.me at.side at.peer → found ≡ side_number e which at.peer at.slot
-    → found ≡ number_at e.settings e.me r at
+    → found ≡ number_in_slot e.settings e.me r at
 number_read e r at which found S is low other below read =
     read
     ∙ (ap (λ w. side_number e w at.peer at.slot) (sym is) ∙ (number_is e r at.side at.peer at.slot S low other below

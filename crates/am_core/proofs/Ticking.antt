@@ -19,7 +19,7 @@ use Rattle.node_record.specs.Step.{request_slot, next_due, due_slot}
 use Rattle.am_core.specs.Kept.{Local}
 use Rattle.am_core.specs.CoreState.{CoreState}
 use Rattle.handler_rules.specs.Runs.{Meaning}
-use Rattle.am_core.specs.Stands.{Stands, slot_state}
+use Rattle.am_core.specs.Stands.{CoreStands, slot_state}
 use Rattle.node_record.specs.declared.answer.Ticked.{Ticked}
 use Rattle.node_record.specs.NodeStep.{NodeAnswer, OfTick, Ticks}
 use Rattle.node_record.specs.Step.{after_resend, tick_answer, tick_choice, after_tick, choice_of}
@@ -36,7 +36,7 @@ use Rattle.am_core.proofs.CoreStands.{request_found, node_sent}
 -- ---- what is due in the record is due in the core
 
 -- a request of the record that is due is due at its slot
-pub due_found : (e : CoreState) (r : Node Local) (now peer place : ℕ) (x : Request) → Stands e r
+pub due_found : (e : CoreState) (r : Node Local) (now peer place : ℕ) (x : Request) → CoreStands e r
     → peer < e.settings.nodes → slice_get (r.asked peer) place ≡ Some x → x.back ≡ false
     → x.time + e.settings.resend ≤ now → due_at e.requests now e.settings.resend peer x.slot ≡ Some x.time
 due_found e r now peer place x S low at open_ long =
@@ -100,7 +100,7 @@ due_open e r now peer slot time low other below (Some o) is due =
     ]
 
 -- a slot that is due is that of a request of the record that is due
-pub due_is : (e : CoreState) (r : Node Local) (now peer slot time : ℕ) → Stands e r
+pub due_is : (e : CoreState) (r : Node Local) (now peer slot time : ℕ) → CoreStands e r
     → due_at e.requests now e.settings.resend peer slot ≡ Some time → DueThere e r now peer slot time
 due_is e r now peer slot time S due = elim (cases_lt peer e.settings.nodes) [
   | inr past ↦ absurd (no_slot e now peer slot time (S.no_more peer slot (λ low. absurd (omega (arith, low, past))))
@@ -129,7 +129,7 @@ same_due : {time t peer p slot s number n : ℕ} → time ≡ t → peer ≡ p �
 same_due a b c d = rw (a, b, c, d) refl
 
 -- a due request of the record is at a slot that is due
-due_of : (e : CoreState) (r : Node Local) (now : ℕ) (d : Due) → Stands e r
+due_of : (e : CoreState) (r : Node Local) (now : ℕ) (d : Due) → CoreStands e r
     → Among d (all_dues now e.settings.resend r.asked e.settings.nodes)
     → (peer : ℕ) × (peer < e.settings.nodes) × (q : IsDueOf now e.settings.resend peer 1 (r.asked peer) d) ×
     (due_at e.requests now e.settings.resend peer q.x.slot ≡ Some q.x.time)
@@ -139,7 +139,7 @@ due_of e r now d S h =
     (it.0, it.1, q, due_found e r now it.0 q.place q.x S it.1 q.at q.open_ q.long)
 
 -- where no slot is due, no request is
-pub next_none : (e : CoreState) (r : Node Local) (now : ℕ) → Stands e r → NoneIsDue e.requests now e.settings.resend
+pub next_none : (e : CoreState) (r : Node Local) (now : ℕ) → CoreStands e r → NoneIsDue e.requests now e.settings.resend
     → next_due e.settings r now ≡ None
 next_none e r now S none = none_earliest (all_dues now e.settings.resend r.asked e.settings.nodes) (λ d h.
     let it = due_of e r now d S h in
@@ -151,7 +151,7 @@ abbrev pub due_there : (e : CoreState) (r : Node Local) (now peer slot time : �
 due_there e r now peer slot time D = record { time = time; peer = peer; slot = slot; number = suc D.place }
 
 -- the slot that is due first is that of the earliest request that is due
-pub next_is : (e : CoreState) (r : Node Local) (now peer slot : ℕ) → Stands e r
+pub next_is : (e : CoreState) (r : Node Local) (now peer slot : ℕ) → CoreStands e r
     → (F : IsFirstDue e.requests now e.settings.resend peer slot) → (D : DueThere e r now peer slot F.time)
     → next_due e.settings r now ≡ Some (due_there e r now peer slot F.time D)
 next_is e r now peer slot S F D =
@@ -179,8 +179,8 @@ next_is e r now peer slot S F D =
 -- a tick at which nothing new is sent
 record Resent (old : CoreState) (now : ℕ) (a : Option SlotRef) (new : CoreState) : Type 0 where
   same : IsSameNode old new
-  steps : (r : Node Local) → Stands old r
-      → (a ≡ due_slot (next_due old.settings r now)) × Stands new (after_resend r now (next_due old.settings r now))
+  steps : (r : Node Local) → CoreStands old r
+      → (a ≡ due_slot (next_due old.settings r now)) × CoreStands new (after_resend r now (next_due old.settings r now))
 
 -- a tick at which nothing is due
 tick_none : (e : CoreState) (now : ℕ) (new : CoreState) → NoneIsDue e.requests now e.settings.resend → new ≡ e
@@ -223,9 +223,9 @@ of_tick a = OfTick a
 
 -- a node that sends nothing of its own accord answers a tick by what is due, and is left as by a resending
 tick_is : (meaning : Meaning) (e : CoreState) (r : Node Local) (now : ℕ) (due : Option Due) (new : CoreState)
-    → next_due e.settings r now ≡ due → Stands new (after_resend r now due)
+    → next_due e.settings r now ≡ due → CoreStands new (after_resend r now due)
     → (retransmits (due_slot due) ≡ tick_answer (site_at meaning e).behaviour r (tick_choice (site_at meaning e) r now))
-    × Stands new (after_tick (site_at meaning e) r now (tick_choice (site_at meaning e) r now))
+    × CoreStands new (after_tick (site_at meaning e) r now (tick_choice (site_at meaning e) r now))
 tick_is meaning e r now None new is stands =
     let choice : tick_choice (site_at meaning e) r now ≡ Rests = ap (λ due. choice_of due None) is in
     rw choice (refl, stands)

@@ -29,7 +29,7 @@ use Rattle.am_core.specs.Kept.{Local, with_locks, segment_of}
 use Rattle.am_core.specs.Library.{Work, work_content}
 use Rattle.am_core.specs.ClientRules.{rules, with_violations}
 use Rattle.am_core.specs.CoreState.{CoreState}
-use Rattle.am_core.specs.Stands.{Stands}
+use Rattle.am_core.specs.Stands.{CoreStands}
 
 -- ---- a core as a node
 
@@ -90,9 +90,9 @@ pub record CoreSteps
     (meaning : Meaning) (old : CoreState) (step : Transition (NodeEvent CoreCall) (NodeAnswer CoreTold))
     (new : CoreState) : Type 0 where
   pub same : IsSameNode old new
-  pub steps : (node : Node Local) → Stands old node
+  pub steps : (node : Node Local) → CoreStands old node
       → (step.answer ≡ node_answer (core_job meaning old) old.me node step.now step.event)
-      × Stands new (node_after (core_job meaning old) old.me node step.now step.event)
+      × CoreStands new (node_after (core_job meaning old) old.me node step.now step.event)
 
 -- bytes that are delivered: they spell a message of the job's version, which comes, whatever the time; or they are
 -- refused by the first reason, and nothing happened
@@ -123,9 +123,9 @@ after_own_ask settings node step _ = node
 -- the answer is that of the pair, and what is asked is its next request where it was accepted
 pub record AsksOwn (old : CoreState) (step : OwnAsk) (new : CoreState) : Type 0 where
   pub same : IsSameNode old new
-  pub steps : (node : Node Local) → Stands old node
+  pub steps : (node : Node Local) → CoreStands old node
       → (step.answer ≡ claim_answer (limits_of old.settings old.me step.to) step.to (node.asked step.to))
-      × Stands new (after_own_ask old.settings node step step.answer)
+      × CoreStands new (after_own_ask old.settings node step step.answer)
 
 -- ---- ticks
 
@@ -138,4 +138,4 @@ retransmits (Some at) = ticked.Retransmission at
 
 -- this holds of every record for which the core stands
 abbrev pub ForItsRecord : CoreState → (Node Local → Type 0) → Type 0
-ForItsRecord core Holds = (node : Node Local) → Stands core node → Holds node
+ForItsRecord core Holds = (node : Node Local) → CoreStands core node → Holds node

@@ -110,7 +110,7 @@ run_of meaning work before =
     record { frame = frame; outcome = closed frame (meaning work.handler frame (start_on before)); before = before }
 
 -- what the run of a handler left of that: what it wrote, the locks that were held, and the violations that were noted
-pub record Leaves (run : HandlerContextRun) (after : Touched) : Type 0 where
+pub record LeavesTouched (run : HandlerContextRun) (after : Touched) : Type 0 where
   pub cells_are : after.cells ≡ run.outcome.cells
   pub segment_is : after.segment ≡ written_by run.before.segment run.outcome.writes
   pub same_length : length after.segment ≡ length run.before.segment
@@ -153,36 +153,36 @@ RunsReply meaning run (Some content) middle after =
       table = run.frame.table;
       me = run.frame.arrival.me;
     } in
-    Leaves (own_reply_run meaning own content (landed_on middle content)) after
+    LeavesTouched (own_reply_run meaning own content (landed_on middle content)) after
 
 -- the run of an own request left this, and then that of its reply
 pub record RunsOwn (meaning : Meaning) (run : HandlerContextRun) (after : Touched) : Type 0 where
   pub middle : Touched
-  pub left : Leaves run middle
+  pub left : LeavesTouched run middle
   pub replied : RunsReply meaning run run.outcome.reply middle after
 
 -- the run left this, and the reply that it sent, with its bytes in the buffer
 pub record Ran (run : HandlerContextRun) (after : Touched) (buffer new_buffer : List ℕ) (reply : Option Reply) : Type 0 where
-  pub left : Leaves run after
+  pub left : LeavesTouched run after
   pub buffer_is : new_buffer ≡ buffer_after run.frame.settings run.frame.arrival run.outcome.reply buffer
   pub reply_is : reply ≡ reply_after run.frame.settings run.frame.arrival run.outcome.reply
   pub lawful : IsLawful run.frame run.outcome.reply
   pub spelled : IsSpelled run.frame run.outcome.reply
 
 -- the reply of a run, an Ack for none, on its way
-abbrev pub answer_of : HandlerContextRun → Message
-answer_of run = outgoing_reply run.frame.settings run.frame.arrival (reply_or_ack run.outcome.reply)
+abbrev pub reply_of_run : HandlerContextRun → Message
+reply_of_run run = outgoing_reply run.frame.settings run.frame.arrival (reply_or_ack run.outcome.reply)
 
 -- the run of another node's request left this, and the datagram of its reply, or of an Ack, at the front of the buffer
 pub record LeavesReply (run : HandlerContextRun) (after : Touched) (buffer new_buffer : List ℕ) (len : ℕ) : Type 0 where
-  pub left : Leaves run after
-  pub message : IsMessage (answer_of run)
-  pub len_is : len ≡ length (spelling (answer_of run))
-  pub buffer_is : new_buffer ≡ spelling (answer_of run) ++ drop (length (spelling (answer_of run))) buffer
+  pub left : LeavesTouched run after
+  pub message : IsMessage (reply_of_run run)
+  pub len_is : len ≡ length (spelling (reply_of_run run))
+  pub buffer_is : new_buffer ≡ spelling (reply_of_run run) ++ drop (length (spelling (reply_of_run run))) buffer
 
 -- the run of another node's request left this, and its reply, or an Ack, in its slot
 pub record KeepsReply (run : HandlerContextRun) (after : Touched) (replies new_replies : RepliesState) : Type 0 where
-  pub left : Leaves run after
-  pub message : IsMessage (answer_of run)
+  pub left : LeavesTouched run after
+  pub message : IsMessage (reply_of_run run)
   pub replies_are : new_replies ≡ with_reply replies run.frame.arrival.source run.frame.arrival.slot
-      run.frame.arrival.number (spelling (answer_of run))
+      run.frame.arrival.number (spelling (reply_of_run run))

@@ -12,7 +12,7 @@ use Rattle.handler_rules.specs.Registered.{entry_at}
 use Rattle.handler_rules.specs.Runs.{Arrival, Frame, Start, Outcome, Meaning, violation, closed}
 use Rattle.node_record.specs.Behaviour.{Contact}
 use Rattle.am_core.specs.Library.{is_library, library_outcome}
-use Rattle.am_core.specs.Kept.{Local, start_of, with_writes}
+use Rattle.am_core.specs.Kept.{Local, start_from, with_writes}
 
 -- the handlers of a node: the settings, what is registered, and what the handlers do
 pub record NodeHandlers : Type 0 where
@@ -86,8 +86,8 @@ outcome handlers which contact content start =
     else client_outcome handlers which contact content start
 
 -- what a run leaves; the locks of threads stay theirs
-abbrev pub left_by : Role → Outcome → Local → Local
-left_by which run local = record {
+abbrev pub left_by_run : Role → Outcome → Local → Local
+left_by_run which run local = record {
   writes = local.writes ++ run.writes;
   cells = run.cells;
   locks = local.locks;
@@ -103,12 +103,12 @@ reply_or_ack (Some content) = content
 abbrev pub run_request : NodeHandlers → Contact → Content → Local → Local × Content
 run_request handlers contact content local =
     let landed = with_writes local (landing content) in
-    let run = outcome handlers role.Request contact content (start_of handlers.settings landed) in
-    (left_by role.Request run landed, reply_or_ack run.reply)
+    let run = outcome handlers role.Request contact content (start_from handlers.settings landed) in
+    (left_by_run role.Request run landed, reply_or_ack run.reply)
 
 -- a run of a reply of the peer, as a request's; an Ack runs no handler
 abbrev pub run_reply : NodeHandlers → Contact → Content → Local → Local
 run_reply handlers contact content local =
     if is_ack (code content.kind) then local
     else (let landed = with_writes local (landing content) in
-    left_by role.Reply (outcome handlers role.Reply contact content (start_of handlers.settings landed)) landed)
+    left_by_run role.Reply (outcome handlers role.Reply contact content (start_from handlers.settings landed)) landed)

@@ -28,8 +28,8 @@ abbrev pub segment_of : Parameters → Local → List ℕ
 segment_of settings local = image settings.segment local.writes
 
 -- what a handler finds
-abbrev pub start_of : Parameters → Local → Start
-start_of settings local =
+abbrev pub start_from : Parameters → Local → Start
+start_from settings local =
     record { cells = local.cells; segment = segment_of settings local; locks = local.locks }
 
 -- this was written into the segment

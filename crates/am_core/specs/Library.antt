@@ -9,7 +9,8 @@ use Rattle.datagram_grammar.specs.Content.{Content, code, is_ack, short_request,
 use Rattle.datagram_grammar.specs.declared.kind.Kind.{Kind}
 use Rattle.datagram_grammar.specs.declared.kind.Kind.TheVariants as kind
 use Rattle.datagram_grammar.specs.declared.note.BarrierNote.{BarrierNote}
-use Rattle.datagram_grammar.specs.Notes.{IsNote, is_no_note, note_arguments, high_half, low_half, joined, argument}
+use Rattle.datagram_grammar.specs.Notes.{IsNote, is_no_note, note_arguments, high_half, low_half, joined_halves}
+use Rattle.datagram_grammar.specs.Notes.{argument}
 use Rattle.datagram_grammar.specs.Notes.{mask_of}
 use Rattle.raw_segment.specs.Bytes.{part}
 use Rattle.raw_segment.specs.Image.{Write}
@@ -114,23 +115,23 @@ natural (pos number) = number
 natural (negsuc number) = 0
 
 -- the number whose upper half stands at a place, and its lower half behind it
-abbrev pub number_at : List ℤ → (place : ℕ) → ℕ
-number_at args place = joined (argument args place) (argument args (place + 1))
+abbrev pub argument_number : List ℤ → (place : ℕ) → ℕ
+argument_number args place = joined_halves (argument args place) (argument args (place + 1))
 
 -- a get, as the node that is asked reads it: a range of its segment, and where its bytes go in the asker's
 abbrev pub fetch_said : List ℤ → Fetch
 fetch_said args =
-    record { remote = number_at args 0; len = natural (argument args 2); local = number_at args 3 }
+    record { remote = argument_number args 0; len = natural (argument args 2); local = argument_number args 3 }
 
 -- a memset, as the node that is asked reads it: a range of its segment, and the byte that fills it
 abbrev pub fill_said : List ℤ → Fill
 fill_said args =
-    record { remote = number_at args 0; len = natural (argument args 2); byte = natural (argument args 3) }
+    record { remote = argument_number args 0; len = natural (argument args 2); byte = natural (argument args 3) }
 
 -- the note that arguments spell
 abbrev pub note_said : (version : ℕ) → List ℤ → BarrierNote
 note_said version args = record {
-  phase = number_at args 0;
+  phase = argument_number args 0;
   mask = mask_of version args;
   id = argument args (length args - 2);
   flags = natural (argument args (length args - 1));

@@ -37,7 +37,7 @@ pub record StandsForRan (settings : Parameters) (me peer : ℕ) (kept : List Rep
       → slice_get kept slot ≡ Some (reply_state settings me peer (last_run slot runs))
 
 -- what the core keeps is what the record of its node gives
-pub record Stands (core : CoreState) (node : Node Local) : Type 0 where
+pub record CoreStands (core : CoreState) (node : Node Local) : Type 0 where
   pub range : AreInRange core.settings
   pub me_in : core.me < core.settings.nodes
   pub invariant_ : NodeInvariant core.settings (IsKept core.settings) core.me node

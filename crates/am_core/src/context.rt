@@ -6,7 +6,7 @@ ghost use Rattle.handler_rules.specs.declared.rules.Role.TheVariants as role;
 ghost use Rattle.handler_rules.specs.Desks.{arrival_of};
 ghost use Rattle.am_core.specs.HandlerContextRuns.{CanRun, CanAnswer, Ran, LeavesReply, KeepsReply};
 ghost use Rattle.am_core.specs.HandlerContextRuns.{context_run, run_of, own_frame, own_reply_run};
-ghost use Rattle.am_core.specs.HandlerContextRuns.{CanRunOwnReply, IsSameHandlerContext, Leaves, RunsOwn};
+ghost use Rattle.am_core.specs.HandlerContextRuns.{CanRunOwnReply, IsSameHandlerContext, LeavesTouched, RunsOwn};
 ghost use Rattle.am_core.specs.HandlerContextRuns.{landed_on, touched};
 ghost use Rattle.am_core.specs.Landed.{content_at};
 ghost use Rattle.am_core.specs.HandlerRuns.{listed_for};
@@ -166,7 +166,7 @@ impl<'a> HandlerContext<'a> {
         requires { CanRunOwnReply own.now self.old.segment.now self.old.locks.now buffer.now }
         ensures same { IsSameHandlerContext self.old self.new }
         ensures ran { let content = content_at buffer.now own.now.reply in
-            Leaves (own_reply_run (H.meaning handlers.now) (own_frame own.now) content
+            LeavesTouched (own_reply_run (H.meaning handlers.now) (own_frame own.now) content
             (landed_on (touched self.old) content)) (touched self.new) }
     {
         let reply = own.reply;

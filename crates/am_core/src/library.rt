@@ -6,9 +6,12 @@ ghost use Rattle.datagram_grammar.specs.Notes.{argument, high_half as high_part}
 ghost use Rattle.datagram_grammar.specs.Notes.{low_half as low_part};
 ghost use Rattle.am_core.specs.Library.{fetch_arguments, fill_arguments, fetch_said, fill_said};
 ghost use Rattle.am_core.specs.Library.{is_beyond};
-ghost use Rattle.am_core.specs.Library.{is_no_fetch, is_no_fill, number_at};
+ghost use Rattle.am_core.specs.Library.{is_no_fetch, is_no_fill, argument_number};
 
-use datagram_grammar::{BarrierNote, high_half, joined, low_half};
+use datagram_grammar::{BarrierNote, MAX_PAYLOAD, high_half, joined, low_half};
+
+/// The most bytes of a part, as an argument tells them.
+const LONGEST: u16 = MAX_PAYLOAD as u16;
 
 /// The handler of a part of a put: a Long request.
 pub(crate) const PUT: u8 = 64;
@@ -115,7 +118,7 @@ pub(crate) fn fill_arguments(remote: u64, len: u64, byte: u8) -> [i32; 4]
 /// The number whose upper half is the argument at a place, and its lower half the one behind it.
 fn number_at(args: &[i32], place: usize) -> u64
     requires { place + 2 ≤ length args.now }
-    ensures { result ≡ number_at args.now place }
+    ensures { result ≡ argument_number args.now place }
 {
     joined(args[place], args[place + 1])
 }
@@ -149,7 +152,7 @@ pub(crate) fn read_fetch(args: &[i32], segment: u64) -> Option<Fetch>
         return None;
     }
     let remote = number_at(args, 0);
-    let len = u64::from(limited(args[2], 8192)?);
+    let len = u64::from(limited(args[2], LONGEST)?);
     let local = number_at(args, 3);
     if passes(segment, remote, len) || passes(segment, local, len) {
         return None;
@@ -167,7 +170,7 @@ pub(crate) fn read_fill(args: &[i32], segment: u64) -> Option<Fill>
         return None;
     }
     let remote = number_at(args, 0);
-    let len = u64::from(limited(args[2], 8192)?);
+    let len = u64::from(limited(args[2], LONGEST)?);
     let byte = limited(args[3], 255)? as u8;
     if passes(segment, remote, len) {
         return None;

@@ -10,14 +10,14 @@ ghost use Rattle.node_record.specs.Record.{opening_node};
 ghost use Rattle.node_record.specs.Requests.{unreturned};
 ghost use Rattle.node_record.specs.Credits.{greatest_holding};
 ghost use Rattle.node_record.specs.Held.{held};
-ghost use Rattle.node_record.specs.SlotMessages.{message_at, number_at};
+ghost use Rattle.node_record.specs.SlotMessages.{message_at, number_in_slot};
 ghost use Rattle.node_record.specs.NodeStep.{Asks, Does, Ticks, OfRequest, OfCall, OfTick};
 ghost use Rattle.am_core.specs.AskedFor.{ask_of, work_of};
 ghost use Rattle.am_core.specs.Library.{WorkFits};
 ghost use Rattle.am_core.specs.Kept.{nothing_done, segment_of};
 ghost use Rattle.am_core.specs.CoreStep.{judged_at, noting};
 ghost use Rattle.am_core.specs.Sizes.{HasSegment};
-ghost use Rattle.am_core.specs.Stands.{Stands};
+ghost use Rattle.am_core.specs.Stands.{CoreStands};
 ghost use Rattle.am_core.specs.CoreContracts.{CoreSteps, Check, Lock, Unlock, Checked, Locked};
 ghost use Rattle.am_core.specs.CoreContracts.{Unlocked, Delivers};
 ghost use Rattle.am_core.specs.CoreContracts.{AsksOwn, ForItsRecord, retransmits};
@@ -98,7 +98,7 @@ impl Core {
         ensures me_is { IfOk result (λ core. core.me ≡ me) }
         ensures table_is { IfOk result (λ core. core.table ≡ table.now) }
         ensures segment { IfOk result (λ core. HasSegment core) }
-        ensures stands { IfOk result (λ core. Stands core (opening_node nothing_done)) }
+        ensures stands { IfOk result (λ core. CoreStands core (opening_node nothing_done)) }
     {
         let segment = Segment::new(alloc, settings.segment() as usize)?;
         Core::with_segment(alloc, settings, me, table, segment)
@@ -118,7 +118,7 @@ impl Core {
         ensures me_is { IfOk result (λ core. core.me ≡ me) }
         ensures table_is { IfOk result (λ core. core.table ≡ table.now) }
         ensures segment { IfOk result (λ core. HasSegment core) }
-        ensures stands { IfOk result (λ core. Stands core (opening_node nothing_done)) }
+        ensures stands { IfOk result (λ core. CoreStands core (opening_node nothing_done)) }
     {
         let lent = Block::new(alloc, 1)?;
         let desk = Block::new(alloc, 1)?;
@@ -311,7 +311,7 @@ impl Core {
     /// The number of the message of a slot, from 1: None exactly where `message` is None.
     pub fn number(&self, at: SlotRef) -> Option<u64>
         ensures { ForItsRecord self.now (λ node.
-            result ≡ number_at self.now.settings self.now.me node at) }
+            result ≡ number_in_slot self.now.settings self.now.me node at) }
     {
         if at.peer >= self.settings.nodes()
             || at.peer == self.me

@@ -6,9 +6,13 @@ ghost use Rattle.am_core.specs.Sizes.{AreSlots, AreFreeRequests, AreFreeReplies}
 
 use crate::answer::Side;
 use credit_slots::CreditSlots;
-use datagram_grammar::Settings;
+use datagram_grammar::{MAX_DATAGRAM, Settings};
+use raw_segment::PART_BYTES;
 use reply_slots::ReplySlots;
 use std::alloc::{AllocError, Global};
+
+// Each buffer of a slot holds every datagram.
+const _: () = prove!(PART_BYTES == MAX_DATAGRAM);
 
 /// The greatest number of nodes.
 const NODES: usize = 256;

@@ -33,11 +33,14 @@ use crate::own::place_asked;
 use crate::sealing::seal_request;
 use crate::slots::slots_of;
 use credit_slots::NoClaim;
-use datagram_grammar::{Address, Kind, View};
+use datagram_grammar::{Address, Kind, MAX_PAYLOAD, View};
 use handler_rules::{
     CallKind, Context, Fault, Forbidden, Handlers, Incoming, Role, Violation, Which, allowed,
 };
 use reply_slots::Judged;
+
+/// The most bytes of a payload, as a part of a segment tells them.
+const LONGEST: u64 = MAX_PAYLOAD as u64;
 
 impl Core {
     /// A request of a thread.
@@ -98,7 +101,7 @@ impl Core {
             return None;
         }
         let len = asking.payload.len();
-        if len > 8192 {
+        if len > LONGEST {
             return Some(Which::Payload);
         }
         if let Payload::Own { offset, len } = asking.payload {

@@ -15,7 +15,8 @@ use Rattle.gas_atomic.specs.declared.batch.BatchFault.{BatchFault}
 use Rattle.gas_atomic.specs.declared.batch.BatchFault.TheVariants as fault
 use Rattle.raw_segment.specs.Image.{overwritten}
 use Rattle.gas_atomic.specs.BatchRequests.{BatchRequest, request_said, ops_said, ops_in, op_in, with_first, is_count, place_fault}
-use Rattle.gas_atomic.specs.BatchRequests.{are_inside, are_aligned, block_size, batch_handler, number_at, first_of_faults}
+use Rattle.gas_atomic.specs.BatchRequests.{are_inside, are_aligned, block_size, batch_handler, number_of_halves}
+use Rattle.gas_atomic.specs.BatchRequests.{first_of_faults}
 use Rattle.gas_atomic.specs.Served.{if_placed, olds_of, change_of, block_of}
 use Rattle.gas_atomic.specs.Asking.{batch_of}
 
@@ -108,8 +109,8 @@ unlong content batch said = elim (cases_Bool (is_long (code content.kind))) [
     by_long : (four : Bool) → is_long (code content.kind) ≡ true
         → (if four
         then option_map (λ ops. record {
-          local = number_at content.args 0;
-          tag = number_at content.args 2;
+          local = number_of_halves content.args 0;
+          tag = number_of_halves content.args 2;
           ops = ops;
         }) (ops_said (shown_payload content)) else None) ≡ Some batch
         → ⊥

@@ -14,7 +14,7 @@ use Rattle.gas_atomic.specs.Asking.{batch_of}
 use Rattle.gas_atomic.specs.BatchRequests.{batch_content}
 use Rattle.gas_atomic.proofs.Spelling.{batch_again}
 use Rattle.atomic_laws.specs.AtomicLaws.{AcceptedBatchesGo, AtomicsHold, BatchesAreSaid, BatchesGo}
-use Rattle.atomic_laws.specs.AtomicLaws.{InEveryJob}
+use Rattle.atomic_laws.specs.AtomicLaws.{InEveryServingJob}
 use Rattle.atomic_laws.proofs.Going.{batches_go}
 use Rattle.atomic_laws.proofs.Own.{own_acts}
 use Rattle.atomic_laws.proofs.History.{words_are_made, olds_are_made}
@@ -37,7 +37,7 @@ accepted_go settings table meaning sound go before later event name batch among 
       asks = asks;
     })
 
-pub atomics_hold : InEveryJob AtomicsHold
+pub atomics_hold : InEveryServingJob AtomicsHold
 atomics_hold settings table meaning range lawful has serves =
     let sound = rules_sound settings table meaning range lawful in
     let go = batches_go settings table meaning sound has serves in

@@ -22,9 +22,9 @@ use Rattle.handler_rules.specs.declared.message.Replied.{Replied}
 use Rattle.raw_segment.proofs.Images.{length-image}
 use Rattle.am_core.specs.Library.{is_library, library_outcome}
 use Rattle.node_record.specs.Behaviour.{Contact}
-use Rattle.am_core.specs.Kept.{Local, IsKept, start_of, with_writes, segment_of}
+use Rattle.am_core.specs.Kept.{Local, IsKept, start_from, with_writes, segment_of}
 use Rattle.am_core.specs.HandlerRuns.{handlers_of, frame_of_run, landing, outcome}
-use Rattle.am_core.specs.HandlerRuns.{run_request, run_reply, left_by, reply_or_ack, shown_payload}
+use Rattle.am_core.specs.HandlerRuns.{run_request, run_reply, left_by_run, reply_or_ack, shown_payload}
 use Rattle.gas_atomic.specs.BatchRequests.{BatchRequest, batch_handler, block_handler, request_said}
 use Rattle.gas_atomic.specs.Served.{HasBatches, ServesBatches, block_of, block_reply, changes_of}
 use Rattle.gas_atomic.specs.Served.{after_batch, request_for, if_placed, served}
@@ -111,8 +111,8 @@ nothing_lands content short = rw short refl
 -- the run, once its payload landed
 abbrev run_landed : Parameters → List (Option Entry) → Meaning → Contact → Content → Local → Local × Content
 run_landed settings table meaning contact content landed =
-    let run = outcome (handlers_of settings table meaning) role.Request contact content (start_of settings landed) in
-    (left_by role.Request run landed, reply_or_ack run.reply)
+    let run = outcome (handlers_of settings table meaning) role.Request contact content (start_from settings landed) in
+    (left_by_run role.Request run landed, reply_or_ack run.reply)
 
 pub request_left : (settings : Parameters) (table : List (Option Entry)) (meaning : Meaning) (contact : Contact)
     (content : Content) (batch : BatchRequest) (me : ℕ) (local : Local) → HasBatches table → ServesBatches meaning
@@ -123,7 +123,7 @@ request_left settings table meaning contact content batch me local has serves as
     let same : with_writes local (landing content) ≡ local =
     ap (with_writes local) (nothing_lands content asks.unplaced)
     ∙ ap (λ (writes : List Write). record local { writes = writes }) (append-nil local.writes) in
-    let it = gives settings table meaning contact content batch (start_of settings local) has serves asks kept.locks
+    let it = gives settings table meaning contact content batch (start_from settings local) has serves asks kept.locks
     (length-image settings.segment local.writes kept.writes) in
     let left : Left settings local batch (run_landed settings table meaning contact content local) = record {
       writes = ap (λ (writes : List Write). local.writes ++ writes) it.writes;
@@ -148,6 +148,6 @@ reply_left settings table meaning contact batch olds local serves =
     let reply = reply_with batch olds in
     let landed = with_writes local (landing reply) in
     let frame = frame_of_run handlers role.Reply contact reply in
-    let start = start_of settings landed in
+    let start = start_from settings landed in
     ap (λ (run : Outcome). landed.writes ++ run.writes) (ap (closed frame) (serves.replies frame start))
     ∙ append-nil landed.writes

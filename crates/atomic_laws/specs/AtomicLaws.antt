@@ -15,7 +15,7 @@ use Rattle.endpoint_rules.specs.EndpointRules.{OtherCall, at_the_opening, job_of
 use Rattle.transfer_laws.specs.History.{Runs}
 use Rattle.transfer_laws.specs.Chunks.{EndpointJob, EndpointMoment, HappensIn, HappensOnceIn, segment_at, writes_at}
 use Rattle.transfer_laws.specs.TransferLaws.{AreAmong}
-use Rattle.message_laws.specs.Events.{after_all, all_of, Always}
+use Rattle.message_laws.specs.Events.{after_all, whole_stretch, Always}
 use Rattle.message_laws.specs.Requests.{AcceptedName, IsAccepted}
 use Rattle.gas_atomic.specs.declared.word.WordOp.{WordOp}
 use Rattle.gas_atomic.specs.Asking.{batch_of}
@@ -50,11 +50,11 @@ pub record BatchGoes (job : EndpointJob) (events : List (Timed OtherCall)) (name
     : Type 0 where
   pub acts : Always job (ActsThen job name batch) events
   -- its request runs once, or not at all
-  pub at_most : HappensOnceIn job (all_of job events) (Runs job name)
-      ⊎ (HappensIn job (all_of job events) (Runs job name) → ⊥)
+  pub at_most : HappensOnceIn job (whole_stretch job events) (Runs job name)
+      ⊎ (HappensIn job (whole_stretch job events) (Runs job name) → ⊥)
   -- where its credit came back, it is done
   pub done : (plain_of (after_all job events)).back name.from name.to name.number ≡ true
-      → BatchDone job (all_of job events) name batch
+      → BatchDone job (whole_stretch job events) name batch
 
 abbrev pub BatchesGo : EndpointJob → Type 0
 BatchesGo job =
@@ -138,8 +138,8 @@ pub record AtomicsHold (settings : Parameters) (table : List (Option Entry)) (me
 
 -- so it is of each job with settings in range and lawful handlers that has batches: both handlers are registered, and
 -- run as `serve` does
-abbrev pub InEveryJob : (Parameters → List (Option Entry) → Meaning → Type 0) → Type 0
-InEveryJob law =
+abbrev pub InEveryServingJob : (Parameters → List (Option Entry) → Meaning → Type 0) → Type 0
+InEveryServingJob law =
     (settings : Parameters) (table : List (Option Entry)) (meaning : Meaning)
     → AreInRange settings → IsLawfulMeaning meaning → HasBatches table → ServesBatches meaning
     → law settings table meaning

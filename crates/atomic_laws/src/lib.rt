@@ -7,7 +7,7 @@
 //! has no code.
 #![tactic(auto)]
 
-ghost use Rattle.atomic_laws.specs.AtomicLaws.{InEveryJob, AtomicsHold};
+ghost use Rattle.atomic_laws.specs.AtomicLaws.{InEveryServingJob, AtomicsHold};
 
 /// Carries what this crate proves of runs, for the check alone: it has no code.
 ///
@@ -19,5 +19,5 @@ ghost use Rattle.atomic_laws.specs.AtomicLaws.{InEveryJob, AtomicsHold};
 /// all earlier ones made of it.
 pub fn every_batch()
     // The laws hold in every run of a job with settings in range and lawful handlers, which has batches.
-    ensures laws { InEveryJob AtomicsHold }
+    ensures laws { InEveryServingJob AtomicsHold }
 {}

@@ -11,7 +11,8 @@ use Rattle.named_barrier.specs.declared.answer.BarrierAnswer.{BarrierAnswer}
 use Rattle.named_barrier.specs.declared.answer.BarrierAnswer.TheVariants as tried
 use Rattle.named_barrier.specs.Record.{BarrierRecord, SentNote, own, notify_answer, notify_after, try_answer}
 use Rattle.named_barrier.specs.Record.{try_after, note_to, send}
-use Rattle.named_barrier.specs.World.{Barriers, BarrierEvent, Notifying, Trying, Sending, Hearing, put, hear_sent}
+use Rattle.named_barrier.specs.World.{Barriers, BarrierEvent, Notifying, Trying, Sending, Hearing, put_record}
+use Rattle.named_barrier.specs.World.{hear_sent}
 use Rattle.named_barrier.specs.World.{happens, barriers_after, all_opened, InEveryRun, EndedByAll}
 use Rattle.named_barrier.proofs.Runs.{put_same, put_other}
 use Rattle.lists.proofs.Places.{slice_get_short}
@@ -24,9 +25,9 @@ abbrev pub AreHigh : (nodes : ℕ) → Barriers → Type 0
 AreHigh nodes barriers = (node : ℕ) → IsHigh (barriers node)
 
 put_high : (nodes : ℕ) (barriers : Barriers) (node : ℕ) (newer : BarrierRecord) → AreHigh nodes barriers
-    → IsHigh newer → AreHigh nodes (put barriers node newer)
+    → IsHigh newer → AreHigh nodes (put_record barriers node newer)
 put_high nodes barriers node newer high new other = elim (cases_eq other node) [
-  | inl same ↦ subst IsHigh (sym (ap (put barriers node newer) same ∙ put_same barriers node newer)) new
+  | inl same ↦ subst IsHigh (sym (ap (put_record barriers node newer) same ∙ put_same barriers node newer)) new
   | inr apart ↦ subst IsHigh (sym (put_other barriers node other newer apart)) (high other)
 ]
 

@@ -8,7 +8,7 @@ use Rattle.lists.proofs.Members.{all_append}
 use Rattle.lists.proofs.Put.{put_own}
 use Rattle.node_record.specs.Record.{Node}
 use Rattle.named_barrier.specs.Record.{BarrierRecord}
-use Rattle.named_barrier.specs.World.{Barriers, BarrierEvent, IsAmong, happens, barriers_after, all_opened, put}
+use Rattle.named_barrier.specs.World.{Barriers, BarrierEvent, IsAmong, happens, barriers_after, all_opened, put_record}
 use Rattle.named_barrier.specs.World.{InEveryRun}
 use Rattle.endpoint_rules.specs.EndpointLocal.{EndpointLocal}
 use Rattle.endpoint_rules.specs.EndpointRules.{Records}
@@ -48,18 +48,18 @@ alone_law Law nodes barriers holds alone = subst (Law nodes) alone.left (holds n
 abbrev pub Changes : (nodes : ℕ) → Barriers → (node : ℕ) → (newer : BarrierRecord) → Type 0
 Changes nodes barriers node newer =
     (newer ≡ barriers node)
-    ⊎ ((event : BarrierEvent) × IsAmong nodes event × (happens nodes barriers event ≡ put barriers node newer))
+    ⊎ ((event : BarrierEvent) × IsAmong nodes event × (happens nodes barriers event ≡ put_record barriers node newer))
 
 pub alone_changes : (nodes : ℕ) (barriers : Barriers) (node : ℕ) (newer : BarrierRecord)
-    → Changes nodes barriers node newer → IsAlone nodes barriers → IsAlone nodes (put barriers node newer)
+    → Changes nodes barriers node newer → IsAlone nodes barriers → IsAlone nodes (put_record barriers node newer)
 alone_changes nodes barriers node newer (inl same) alone =
-    subst (IsAlone nodes) (sym (ap (put barriers node) same ∙ put_own barriers node)) alone
+    subst (IsAlone nodes) (sym (ap (put_record barriers node) same ∙ put_own barriers node)) alone
 alone_changes nodes barriers node newer (inr event) alone =
     subst (IsAlone nodes) event.2 (alone_more nodes barriers event.0 alone event.1)
 
 -- where one node's record is changed, so is its barrier
 pub barriers_put : (records : Records) (node : ℕ) (newer : Node EndpointLocal)
-    → put (barriers_of records) node newer.local.barrier ≡ barriers_of (put_at records node newer)
+    → put_record (barriers_of records) node newer.local.barrier ≡ barriers_of (put_at records node newer)
 barriers_put records node newer = fun_ext (λ other. either other (eqb other node))
   where
     either : (other : ℕ) (same : Bool)

@@ -35,7 +35,8 @@ use Rattle.endpoint_rules.specs.EndpointRules.{job_of}
 use Rattle.endpoint_rules.specs.declared.answer.Answer.{Answer}
 use Rattle.endpoint_rules.specs.declared.answer.Answer.TheVariants as answers
 use Rattle.barrier_laws.specs.BarrierLaws.{barriers_of, present_phase, records_after, AreAmong, BarrierTry, EndsPhase}
-use Rattle.barrier_laws.specs.BarrierLaws.{TellsOutcome, InEveryJob, notified_by, ended_by, notifies_in, ended_in}
+use Rattle.barrier_laws.specs.BarrierLaws.{TellsOutcome, InEveryBarrierJob, notified_by, ended_by, notifies_in}
+use Rattle.barrier_laws.specs.BarrierLaws.{ended_in}
 use Rattle.barrier_laws.proofs.Abreast.{AreHigh, are_high, abreast}
 use Rattle.barrier_laws.proofs.Alone.{alone_law}
 use Rattle.barrier_laws.proofs.Steps.{Added, nothing_added}
@@ -248,7 +249,7 @@ outcome_told settings records try answer exhausted holds there ends is =
         ↔ ((is_mismatch settings.nodes (barriers_of records) (present_phase records try.node) ≡ true)
         ⊎ IsOtherTry (barriers_of records try.node) (identifier try.id) try.flags)
 
-pub barrier_holds : InEveryJob
+pub barrier_holds : InEveryBarrierJob
 barrier_holds settings table meaning range lawful = record {
   tells = λ events try answer among there ends told.
       let records = records_after settings table meaning events in

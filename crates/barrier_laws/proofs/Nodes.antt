@@ -18,8 +18,8 @@ use Rattle.handler_rules.specs.Runs.{Meaning, Frame, Start, IsLawfulMeaning, IsL
 use Rattle.node_record.specs.Record.{Run, Node}
 use Rattle.node_record.specs.Behaviour.{Contact}
 use Rattle.named_barrier.proofs.Within.{stays_within}
-use Rattle.named_barrier.specs.Within.{IsWithin}
-use Rattle.am_core.specs.Kept.{Local, start_of, with_writes}
+use Rattle.named_barrier.specs.Within.{IsNotedWithin}
+use Rattle.am_core.specs.Kept.{Local, start_from, with_writes}
 use Rattle.am_core.specs.Library.{is_library, library_reply, library_outcome, get_handler}
 use Rattle.am_core.specs.HandlerRuns.{handlers_of, frame_of_run, landing, client_outcome, reply_or_ack, run_request}
 use Rattle.endpoint_rules.specs.EndpointLocal.{EndpointLocal}
@@ -78,7 +78,7 @@ run_replies settings table meaning contact content local lawful = either (is_lib
     frame = frame_of_run (handlers_of settings table meaning) role.Request contact content
 
     start : Start
-    start = start_of settings (with_writes local (landing content))
+    start = start_from settings (with_writes local (landing content))
 
     either : (own : Bool)
         → is_request (reply_or_ack (cond own (library_outcome content start)
@@ -90,7 +90,7 @@ run_replies settings table meaning contact content local lawful = either (is_lib
 -- ---- nodes
 
 pub record NodeHolds (settings : Parameters) (node : Node EndpointLocal) : Type 0 where
-  pub within : IsWithin settings.nodes node.local.barrier
+  pub within : IsNotedWithin settings.nodes node.local.barrier
   pub said : AllSaid settings node.local.barrier.sent node.asked
   pub replied : AreReplies node.ran
 

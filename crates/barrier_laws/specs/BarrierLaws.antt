@@ -143,7 +143,7 @@ pub record BarrierHolds (settings : Parameters) (table : List (Option Entry)) (m
       ≡ ended_in node events (answers_of (job_of settings table meaning) events (at_the_opening settings))
 
 -- it holds of each job whose settings are within their limits, and whose handlers are lawful
-abbrev pub InEveryJob : Type 0
-InEveryJob =
+abbrev pub InEveryBarrierJob : Type 0
+InEveryBarrierJob =
     (settings : Parameters) (table : List (Option Entry)) (meaning : Meaning)
     → AreInRange settings → IsLawfulMeaning meaning → BarrierHolds settings table meaning

@@ -6,7 +6,7 @@
 //! has no code.
 #![tactic(auto)]
 
-ghost use Rattle.barrier_laws.specs.BarrierLaws.{InEveryJob};
+ghost use Rattle.barrier_laws.specs.BarrierLaws.{InEveryBarrierJob};
 
 /// Carries what this crate proves of the barrier of a job, for the check alone: it has no code.
 ///
@@ -18,5 +18,5 @@ ghost use Rattle.barrier_laws.specs.BarrierLaws.{InEveryJob};
 /// phase, and exactly what they notified; and the notifies of a node are its calls that were answered Ok, in order, as
 /// its phases end by its tries that were answered Ok or Mismatch.
 pub fn every_run()
-    ensures barrier { InEveryJob }
+    ensures barrier { InEveryBarrierJob }
 {}

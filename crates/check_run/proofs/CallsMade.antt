@@ -23,7 +23,7 @@ use Rattle.plain_world.specs.World.{Asks, Does, RequestComes, ReplyComes, Ticks,
 use Rattle.plain_world.specs.World.{request_event, reply_event, world_answer, world_after, run}
 use Rattle.transfer_laws.specs.Chunks.{EndpointJob}
 use Rattle.check_run.specs.StepLines.{StepAt}
-use Rattle.check_run.specs.StepsTold.{IsMade, IsMadeSince, IsReply, call_event, records_after, rules_of}
+use Rattle.check_run.specs.StepsTold.{IsCallMade, IsMadeSince, IsReply, call_event, records_after, rules_of}
 
 -- ---- runs in parts
 
@@ -202,7 +202,7 @@ made_at job past at now first call rest happened node is are =
 
 -- more events follow
 abbrev pub made_before : (job : JobState) (run more : List (Timed OtherCall)) (at : StepAt) (call : ThreadCall)
-    (answer : Answer) → IsMade job run at call answer → IsMade job (run ++ more) at call answer
+    (answer : Answer) → IsCallMade job run at call answer → IsCallMade job (run ++ more) at call answer
 made_before job run more at call answer made = record {
   before = made.before;
   now = made.now;

@@ -24,8 +24,10 @@ use Rattle.node_runs.specs.declared.script_answer.ScriptAnswer.{ScriptAnswer}
 use Rattle.node_runs.proofs.Fronting.{after_own}
 use Rattle.node_script.specs.Lines.{Line}
 use Rattle.plain_world.specs.World.{Timed}
-use Rattle.check_run.specs.StepLines.{StepAt, after_entry, answer_of_step, lines_of_answer, step_line, step_lines, steps_from}
-use Rattle.check_run.specs.StepsTold.{IsLater, IsStepTold, RunOrder, before_of, ended_in, first_turns, lines_before, tried_at}
+use Rattle.check_run.specs.StepLines.{StepAt, machine_after, answer_of_step, lines_of_answer, step_line, step_lines}
+use Rattle.check_run.specs.StepLines.{steps_from}
+use Rattle.check_run.specs.StepsTold.{IsLater, IsStepTold, RunOrder, before_of, steps_ended_in, first_turns}
+use Rattle.check_run.specs.StepsTold.{lines_before, tried_at}
 use Rattle.check_run.specs.Machines.{first_machine}
 use Rattle.check_run.specs.TracesRun.{entries_of}
 use Rattle.check_run.proofs.StepsTold.{EndsInRun, Machine, Stands, at_entry, given_then, items_end}
@@ -162,14 +164,14 @@ drop_first (one ∷ left) = refl
 
 left_after : (job : JobState) (at : StepAt) (entries : List Entry) (machine : Machine)
     → ((replay (script_job job) at.rank machine entries).own.threads at.thread).left
-    ≡ drop (ended_in job at machine entries) (machine.own.threads at.thread).left
+    ≡ drop (steps_ended_in job at machine entries) (machine.own.threads at.thread).left
 left_after job at [] machine = drop_first (machine.own.threads at.thread).left
 left_after job at (entry ∷ entries) machine =
-    let next = after_entry job at.rank machine entry in
+    let next = machine_after job at.rank machine entry in
     left_after job at entries next
-    ∙ ap (drop (ended_in job at next entries)) (left_then job at machine entry)
+    ∙ ap (drop (steps_ended_in job at next entries)) (left_then job at machine entry)
     ∙ drop_by (eqb entry.thread at.thread && is_some (answer_of_step job at.rank machine entry))
-    (ended_in job at next entries) (machine.own.threads at.thread).left
+    (steps_ended_in job at next entries) (machine.own.threads at.thread).left
 
 dropped_at : (count : ℕ) (steps : List ScriptStep) (one : ScriptStep) (rest : List ScriptStep)
     → drop count steps ≡ one ∷ rest → slice_get steps count ≡ Some one
@@ -190,7 +192,7 @@ record LineOf (job : JobState) (rank : ℕ) (machine : Machine) (entries : List 
   pub answer : ScriptAnswer
   pub ended : answer_of_step job rank (replay (script_job job) rank machine (take place entries)) entry ≡ Some answer
   pub words_are : words ≡ step_line job (at_entry rank entry)
-      (after_entry job rank (replay (script_job job) rank machine (take place entries)) entry).node answer
+      (machine_after job rank (replay (script_job job) rank machine (take place entries)) entry).node answer
 
 lines_split : (first second : List Line) (place : ℕ) (words : Line) → slice_get (first ++ second) place ≡ Some words
     → (slice_get first place ≡ Some words)
@@ -211,13 +213,13 @@ LinesOf job rank machine entries words =
 abbrev lines_with : (job : JobState) (rank : ℕ) (machine : Machine) (entry : Entry) (entries : List Entry)
     → Option ScriptAnswer → List Line
 lines_with job rank machine entry entries ended =
-    lines_of_answer job (at_entry rank entry) (after_entry job rank machine entry).node ended
-    ++ step_lines job rank (after_entry job rank machine entry) entries
+    lines_of_answer job (at_entry rank entry) (machine_after job rank machine entry).node ended
+    ++ step_lines job rank (machine_after job rank machine entry) entries
 
 -- behind the turn of an entry
 line_later : (job : JobState) (rank : ℕ) (machine : Machine) (entry : Entry) (entries : List Entry) (words : Line)
     (ended : Option ScriptAnswer) (line other : ℕ) → answer_of_step job rank machine entry ≡ ended
-    → (it : LineOf job rank (after_entry job rank machine entry) entries words other)
+    → (it : LineOf job rank (machine_after job rank machine entry) entries words other)
     → line ≡ length (lines_with job rank machine entry (take it.place entries) ended)
     → LineOf job rank machine (entry ∷ entries) words line
 line_later job rank machine entry entries words ended line other is it same = record {
@@ -234,9 +236,9 @@ line_later job rank machine entry entries words ended line other is it same = re
 -- at an entry whose turn ended a step
 line_here : (job : JobState) (rank : ℕ) (machine : Machine) (entry : Entry) (entries : List Entry) (words : Line)
     (answer : ScriptAnswer) (place : ℕ) → answer_of_step job rank machine entry ≡ Some answer
-    → LinesOf job rank (after_entry job rank machine entry) entries words
-    → slice_get (step_line job (at_entry rank entry) (after_entry job rank machine entry).node answer
-    ∷ step_lines job rank (after_entry job rank machine entry) entries) place ≡ Some words
+    → LinesOf job rank (machine_after job rank machine entry) entries words
+    → slice_get (step_line job (at_entry rank entry) (machine_after job rank machine entry).node answer
+    ∷ step_lines job rank (machine_after job rank machine entry) entries) place ≡ Some words
     → LineOf job rank machine (entry ∷ entries) words place
 line_here job rank machine entry entries words answer zero ended later found = record {
   place = 0;
@@ -245,7 +247,8 @@ line_here job rank machine entry entries words answer zero ended later found = r
   line_is = refl;
   answer = answer;
   ended = ended;
-  words_are = sym (same_Some (step_line job (at_entry rank entry) (after_entry job rank machine entry).node answer) words
+  words_are =
+      sym (same_Some (step_line job (at_entry rank entry) (machine_after job rank machine entry).node answer) words
       found);
 }
 line_here job rank machine entry entries words answer (suc place) ended later found =
@@ -255,9 +258,9 @@ line_here job rank machine entry entries words answer (suc place) ended later fo
 
 line_by : (job : JobState) (rank : ℕ) (machine : Machine) (entry : Entry) (entries : List Entry) (words : Line)
     (ended : Option ScriptAnswer) (place : ℕ) → answer_of_step job rank machine entry ≡ ended
-    → LinesOf job rank (after_entry job rank machine entry) entries words
-    → slice_get (lines_of_answer job (at_entry rank entry) (after_entry job rank machine entry).node ended
-    ++ step_lines job rank (after_entry job rank machine entry) entries) place ≡ Some words
+    → LinesOf job rank (machine_after job rank machine entry) entries words
+    → slice_get (lines_of_answer job (at_entry rank entry) (machine_after job rank machine entry).node ended
+    ++ step_lines job rank (machine_after job rank machine entry) entries) place ≡ Some words
     → LineOf job rank machine (entry ∷ entries) words place
 line_by job rank machine entry entries words None place is later found =
     let it = later place found in line_later job rank machine entry entries words None place place is it it.line_is
@@ -269,7 +272,7 @@ line_of : (job : JobState) (rank : ℕ) (entries : List Entry) (machine : Machin
 line_of job rank [] machine words place there = absurd (cc)
 line_of job rank (entry ∷ entries) machine words place there =
     line_by job rank machine entry entries words (answer_of_step job rank machine entry) place refl
-    (line_of job rank entries (after_entry job rank machine entry) words) there
+    (line_of job rank entries (machine_after job rank machine entry) words) there
 
 -- ---- the lines of all nodes
 
@@ -386,7 +389,7 @@ line_told job traces ranks turns rank trace words place number there place_is li
     let step_at = at_entry rank line.entry in
     let before = take line.place trace.entries in
     let ends = at.ends.ends in
-    let left : drop (ended_in job step_at (first_machine job rank) before)
+    let left : drop (steps_ended_in job step_at (first_machine job rank) before)
     (steps_of_thread job.scripts rank line.entry.thread) ≡ ends.step ∷ ends.rest =
     sym (left_after job step_at before (first_machine job rank)) ∙ ends.left_is in
     record {
@@ -398,10 +401,10 @@ line_told job traces ranks turns rank trace words place number there place_is li
       entry_is = line.entry_is;
       line_is = place_is ∙ ap (λ (n : ℕ). length (steps_from job 0 (take rank traces)) + n) line.line_is;
       thread_is = refl;
-      number = ended_in job step_at (first_machine job rank) before;
+      number = steps_ended_in job step_at (first_machine job rank) before;
       number_is = refl;
       step = ends.step;
-      step_is = dropped_at (ended_in job step_at (first_machine job rank) before)
+      step_is = dropped_at (steps_ended_in job step_at (first_machine job rank) before)
           (steps_of_thread job.scripts rank line.entry.thread) ends.step ends.rest left;
       answer = line.answer;
       answered = line.ended;
@@ -442,7 +445,7 @@ lines_grow job rank [] machine less more le =
 lines_grow job rank (entry ∷ entries) machine zero more le = omega arith
 lines_grow job rank (entry ∷ entries) machine (suc less) zero le = absurd (omega arith)
 lines_grow job rank (entry ∷ entries) machine (suc less) (suc more) le =
-    let next = after_entry job rank machine entry in
+    let next = machine_after job rank machine entry in
     let first = lines_of_answer job (at_entry rank entry) next.node (answer_of_step job rank machine entry) in
     let one = length-append first (step_lines job rank next (take less entries)) in
     let two = length-append first (step_lines job rank next (take more entries)) in

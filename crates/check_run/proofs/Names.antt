@@ -66,7 +66,7 @@ use Rattle.script_steps.specs.Forms.{waiting_in, whole_form}
 use Rattle.world_run.proofs.ToldAnswers.{asked_names, plain_names, show_names}
 use Rattle.endpoint_rules.proofs.PlainAnswers.{answers_plain}
 use Rattle.check_run.specs.Recording.{BeginningsNameNothing, NamesNothing, ScriptedNode}
-use Rattle.check_run.specs.StepLines.{after_entry, answer_of_step}
+use Rattle.check_run.specs.StepLines.{machine_after, answer_of_step}
 use Rattle.check_run.specs.StepsWritten.{NamesWhatIsThere}
 use Rattle.check_run.specs.Machines.{first_machine}
 
@@ -426,7 +426,7 @@ run_append settings table meaning me now (event ∷ first) second node =
 
 -- what the answer of the step that ended in the turn of an entry names is there after it
 pub ended_names : (job : JobState) (rank : ℕ) (machine : ScriptedNode) (entry : Entry) (endpoint : EndpointState)
-    → BeginningsNameNothing machine → EndpointStands endpoint (after_entry job rank machine entry).node
+    → BeginningsNameNothing machine → EndpointStands endpoint (machine_after job rank machine entry).node
     → endpoint.core.settings ≡ job.settings
     → IfSome (answer_of_step job rank machine entry) (NamesWhatIsThere endpoint)
 ended_names job rank machine entry endpoint beginnings stands same =
@@ -441,7 +441,7 @@ ended_names job rank machine entry endpoint beginnings stands same =
     subst (EndpointStands endpoint) (run_append job.settings table meaning rank entry.now
     (first_events all machine entry.thread entry.got) (events_of entry.thread calls) machine.node) stands in
     step_names endpoint (step_context at machine.own) (machine.own.threads entry.thread) before
-    (after_entry job rank machine entry).node
+    (machine_after job rank machine entry).node
     (tried_answer all rank machine entry.thread entry.now entry.got) (beginnings entry.thread)
     (made_names endpoint job.settings table meaning rank entry.thread entry.now before calls there same)
 
@@ -530,7 +530,7 @@ either_begins false one other first second = second
 
 -- each answer with which a step was begun by the end of the turn of an entry names nothing
 pub after_beginnings : (job : JobState) (rank : ℕ) (machine : ScriptedNode) (entry : Entry)
-    → BeginningsNameNothing machine → BeginningsNameNothing (after_entry job rank machine entry)
+    → BeginningsNameNothing machine → BeginningsNameNothing (machine_after job rank machine entry)
 after_beginnings job rank machine entry beginnings thread =
     let all = script_job job in
     let at = context all rank entry.thread entry.now in
@@ -539,7 +539,7 @@ after_beginnings job rank machine entry beginnings thread =
     let meaning = script_meaning (handlers_of job) in
     either_begins (thread == entry.thread) _ (machine.own.threads thread)
     (step_begins (step_context at machine.own) (machine.own.threads entry.thread) before
-    (after_entry job rank machine entry).node (tried_answer all rank machine entry.thread entry.now entry.got)
+    (machine_after job rank machine entry).node (tried_answer all rank machine entry.thread entry.now entry.got)
     (beginnings entry.thread)
     (first_nothing job.settings table meaning rank entry.thread entry.now before
     (all.scripts.calls at machine.own before)))

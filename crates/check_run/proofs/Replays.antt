@@ -9,7 +9,7 @@ use Rattle.node_runs.specs.Most.{most_in}
 use Rattle.node_runs.specs.Order.{replay}
 use Rattle.node_script.specs.Lines.{Line}
 use Rattle.check_run.specs.Recording.{RecordedState, ScriptedNode, entry_lines, opening_record, record_steps}
-use Rattle.check_run.specs.StepLines.{after_entry, most_held, step_lines}
+use Rattle.check_run.specs.StepLines.{machine_after, most_held, step_lines}
 use Rattle.check_run.specs.Machines.{first_machine}
 
 -- the node of this rank of the job, where its machine is this
@@ -26,7 +26,7 @@ replays : (job : JobState) (rank : ℕ) (machine : ScriptedNode) (lines : List L
 replays job rank machine lines most [] =
     ap (λ (all : List Line). recorded (node_state job rank machine) all most) (sym (append-nil lines))
 replays job rank machine lines most (entry ∷ entries) =
-    let next = after_entry job rank machine entry in
+    let next = machine_after job rank machine entry in
     let more = max most (held job.settings rank next.node) in
     replays job rank next (lines ++ entry_lines job rank machine entry) more entries
     ∙ ap (λ (all : List Line). recorded (node_state job rank (replay (script_job job) rank next entries)) all

@@ -33,7 +33,7 @@ use Rattle.node_record.specs.Step.{is_exhausted}
 use Rattle.node_runs.specs.Actions.{Form, StepContext, Twice, unless}
 use Rattle.node_runs.specs.Scripts.{ThreadCall}
 use Rattle.node_runs.specs.Order.{own_entries}
-use Rattle.node_runs.specs.WorldRun.{joined}
+use Rattle.node_runs.specs.WorldRun.{joined_events}
 use Rattle.node_runs.specs.declared.script_answer.ScriptAnswer.{ScriptAnswer}
 use Rattle.node_runs.specs.declared.script_answer.ScriptAnswer.TheVariants as said
 use Rattle.node_script.specs.Bodies.{script_meaning}
@@ -50,10 +50,13 @@ use Rattle.transfer_laws.specs.Chunks.{EndpointJob, state_after}
 use Rattle.transfer_laws.proofs.Begins.{allowed_there, begins_last, told_there}
 use Rattle.transfer_laws.specs.TransferLaws.{Beginning, Synchronises, TransfersHold, called, since}
 use Rattle.check_run.specs.StepLines.{StepAt}
-use Rattle.check_run.specs.StepsTold.{BarrierIsTried, EndsAs, EndsAtCall, EndsLater, IsMade, IsMadeSince, IsReply}
-use Rattle.check_run.specs.StepsTold.{IsStepTold, LinesTell, RunOrder, SyncIsMade, TransferIsMade, before_of, begun_by}
+use Rattle.check_run.specs.StepsTold.{BarrierIsTried, EndsAsTried, EndsAtCall, EndsLater, IsCallMade, IsMadeSince}
+use Rattle.check_run.specs.StepsTold.{IsReply}
+use Rattle.check_run.specs.StepsTold.{IsStepTold, LinesTell, RunOrder, SyncIsMade, TransferIsMade, before_of}
+use Rattle.check_run.specs.StepsTold.{begun_before}
 use Rattle.check_run.specs.StepsTold.{call_event}
-use Rattle.check_run.specs.StepsTold.{first_turns, machine_at, on_transfers, past_of, records_after, rules_of, run_of}
+use Rattle.check_run.specs.StepsTold.{first_turns, machine_at, on_transfer_call, past_of, records_after, rules_of}
+use Rattle.check_run.specs.StepsTold.{run_told}
 use Rattle.check_run.specs.StepsTold.{sync_waited, tried_at, tries_barrier}
 use Rattle.check_run.specs.TracesRun.{entries_of}
 use Rattle.check_run.proofs.CallsMade.{run_append}
@@ -109,12 +112,12 @@ all_front job [] later among = (tt, among)
 all_front job (one ∷ first) later among = let it = all_front job first later among.1 in ((among.0, it.0), it.1)
 
 -- those of the first turns
-turns_among : (job : JobState) (count : ℕ) (turns : List (List (Timed OtherCall))) → AreAmong job (joined turns)
+turns_among : (job : JobState) (count : ℕ) (turns : List (List (Timed OtherCall))) → AreAmong job (joined_events turns)
     → AreAmong job (first_turns count turns)
 turns_among job zero turns among = tt
 turns_among job (suc count) [] among = tt
 turns_among job (suc count) (turn ∷ turns) among =
-    let it = all_front job turn (joined turns) among in
+    let it = all_front job turn (joined_events turns) among in
     all_append (λ (one : Timed OtherCall). IsAmong job.settings one.event) turn (first_turns count turns) it.0
     (turns_among job count turns it.1)
 
@@ -122,21 +125,21 @@ turns_among job (suc count) (turn ∷ turns) among =
 
 abbrev sync_done : (job : JobState) (past run : List (Timed OtherCall)) (at : StepAt) (call : TransferCall)
     → TransfersHold job.settings (registered (handlers_of job)).table (script_meaning (handlers_of job))
-    → AreAmong job run → IsMadeSince job past run at (on_transfers call) (answers.Synced synced.Ok)
+    → AreAmong job run → IsMadeSince job past run at (on_transfer_call call) (answers.Synced synced.Ok)
     → SyncIsMade job past run at call
 sync_done job past run at call holds among since_past = record {
   made = since_past;
   done = λ beginning events is syncs.
       let made = since_past.made in
       let first = called beginning.now beginning.node beginning.thread beginning.call in
-      let before = (front_among job made.before (call_event at made.now (on_transfers call)) made.later
+      let before = (front_among job made.before (call_event at made.now (on_transfer_call call)) made.later
       (subst (AreAmong job) made.run_is among)).0 in
       let parts = front_among job beginning.before first events (subst (AreAmong job) is before) in
       let there : records_after job made.before ≡ state_after (rules_of job) (since (rules_of job) beginning events) =
       ap (records_after job) is
       ∙ run_append (rules_of job) beginning.before (first ∷ events) (at_the_opening job.settings) in
-      holds.synchronised beginning events (call_event at made.now (on_transfers call)) parts.2
-      (subst (λ (w : Records). Synchronises (rules_of job) w (call_event at made.now (on_transfers call))
+      holds.synchronised beginning events (call_event at made.now (on_transfer_call call)) parts.2
+      (subst (λ (w : Records). Synchronises (rules_of job) w (call_event at made.now (on_transfer_call call))
       beginning.node beginning.number) there syncs);
 }
 
@@ -163,19 +166,19 @@ barrier_done job past run at id flags answer holds among ends since_past =
 wait_made : (job : JobState) (past run : List (Timed OtherCall)) (at : StepAt) (wait : WaitingStep) (call : TransferCall)
     (context : StepContext) (node : Node EndpointLocal) (began : Option Answer) (answer : Answer)
     (said_so : ScriptAnswer) → sync_waited wait ≡ Some call
-    → EndsAs job past run at (step_form (step.Waiting wait) context node) began said_so
-    → said_so ≡ said.Call answer → IsMadeSince job past run at (on_transfers call) answer
+    → EndsAsTried job past run at (step_form (step.Waiting wait) context node) began said_so
+    → said_so ≡ said.Call answer → IsMadeSince job past run at (on_transfer_call call) answer
 wait_made job past run at (waiting.Wait register) call context node began answer said_so is ends same =
-    subst (λ (c : TransferCall). IsMadeSince job past run at (on_transfers c) answer) (same_Some _ call is)
+    subst (λ (c : TransferCall). IsMadeSince job past run at (on_transfer_call c) answer) (same_Some _ call is)
     (made_so job past run at _ is_not_ready answer said_so ends same)
 wait_made job past run at (waiting.WaitAll registers) call context node began answer said_so is ends same =
-    subst (λ (c : TransferCall). IsMadeSince job past run at (on_transfers c) answer) (same_Some _ call is)
+    subst (λ (c : TransferCall). IsMadeSince job past run at (on_transfer_call c) answer) (same_Some _ call is)
     (made_so job past run at _ is_not_ready answer said_so ends same)
 wait_made job past run at (waiting.WaitSome registers) call context node began answer said_so is ends same =
-    subst (λ (c : TransferCall). IsMadeSince job past run at (on_transfers c) answer) (same_Some _ call is)
+    subst (λ (c : TransferCall). IsMadeSince job past run at (on_transfer_call c) answer) (same_Some _ call is)
     (made_so job past run at _ is_not_ready answer said_so ends same)
 wait_made job past run at (waiting.WaitImplicit which) call context node began answer said_so is ends same =
-    subst (λ (c : TransferCall). IsMadeSince job past run at (on_transfers c) answer) (same_Some _ call is)
+    subst (λ (c : TransferCall). IsMadeSince job past run at (on_transfer_call c) answer) (same_Some _ call is)
     (made_so job past run at _ is_not_ready answer said_so ends same)
 wait_made job past run at wait call context node began answer said_so is ends same = absurd (cc)
 
@@ -192,7 +195,7 @@ reply_same : (one other : Answer) → ◌≡◌ {A = WorldAnswer Answer} (OfNode
 reply_same one other same = cc
 
 begin_synced : (job : JobState) (run : List (Timed OtherCall)) (at : StepAt) (transfer : Transfer) (says : Synced)
-    → IsMade job run at (on_transfers (Begin None transfer)) (answers.Synced says) → ⊥
+    → IsCallMade job run at (on_transfer_call (Begin None transfer)) (answers.Synced says) → ⊥
 begin_synced job run at transfer says made =
     let local = (records_after job made.before at.rank).local in
     let settings = job.settings in
@@ -202,7 +205,7 @@ begin_synced job run at transfer says made =
 
 -- a blocking transfer that is told as Ok, and had no second call, was done in its first one
 at_once : (job : JobState) (run : List (Timed OtherCall)) (at : StepAt) (transfer : Transfer) (first : Answer)
-    → IsMade job run at (on_transfers (Begin None transfer)) first → as_synced first ≡ answers.Synced synced.Ok
+    → IsCallMade job run at (on_transfer_call (Begin None transfer)) first → as_synced first ≡ answers.Synced synced.Ok
     → first ≡ answers.Begun begun.Done
 at_once job run at transfer (answers.Begun begun.Done) made ok = refl
 at_once job run at transfer (answers.Begun (begun.Handle handle)) made ok = absurd (cc)
@@ -213,12 +216,12 @@ at_once job run at transfer other made ok = absurd (cc)
 
 -- the handle that the first answer names
 named_by : (first : Answer) (call : ThreadCall) → sync_of first ≡ Some call
-    → (handle : Handle) × (begun_handle first ≡ Some handle) × (call ≡ on_transfers (SyncHandle handle))
+    → (handle : Handle) × (begun_handle first ≡ Some handle) × (call ≡ on_transfer_call (SyncHandle handle))
 named_by first call is = by_handle (begun_handle first) refl is
   where
     by_handle : (found : Option Handle) → begun_handle first ≡ found
-        → option_map (λ handle. on_transfers (SyncHandle handle)) found ≡ Some call
-        → (handle : Handle) × (begun_handle first ≡ Some handle) × (call ≡ on_transfers (SyncHandle handle))
+        → option_map (λ handle. on_transfer_call (SyncHandle handle)) found ≡ Some call
+        → (handle : Handle) × (begun_handle first ≡ Some handle) × (call ≡ on_transfer_call (SyncHandle handle))
     by_handle None at same = absurd (cc)
     by_handle (Some handle) at same = (handle, at, sym (same_Some _ call same))
 
@@ -230,7 +233,7 @@ never_started settings table meaning thread (Ok allowed) local left begun_so oth
 never_started settings table meaning thread (Err forbidden) local left begun_so other same = cc
 
 begin_started : (job : JobState) (run : List (Timed OtherCall)) (at : StepAt) (transfer : Transfer) (other : Begun)
-    → IsMade job run at (on_transfers (Begin None transfer)) (answers.Started other) → ⊥
+    → IsCallMade job run at (on_transfer_call (Begin None transfer)) (answers.Started other) → ⊥
 begin_started job run at transfer other made =
     let local = (records_after job made.before at.rank).local in
     let settings = job.settings in
@@ -240,7 +243,7 @@ begin_started job run at transfer other made =
 
 -- so that answer is the beginning's
 begun_so : (job : JobState) (run : List (Timed OtherCall)) (at : StepAt) (transfer : Transfer) (first : Answer)
-    (handle : Handle) → IsMade job run at (on_transfers (Begin None transfer)) first
+    (handle : Handle) → IsCallMade job run at (on_transfer_call (Begin None transfer)) first
     → begun_handle first ≡ Some handle → first ≡ answers.Begun (begun.Handle handle)
 begun_so job run at transfer (answers.Begun (begun.Handle found)) handle made is =
     ap (λ (h : Handle). answers.Begun (begun.Handle h)) (same_Some found handle is)
@@ -265,7 +268,7 @@ sync_begun settings table meaning thread (Ok allowed) local left says begun_as s
 sync_begun settings table meaning thread (Err forbidden) local left says begun_as same = cc
 
 sync_not_begun : (job : JobState) (run : List (Timed OtherCall)) (at : StepAt) (handle : Handle) (begun_as : Begun)
-    → IsMade job run at (on_transfers (SyncHandle handle)) (answers.Begun begun_as) → ⊥
+    → IsCallMade job run at (on_transfer_call (SyncHandle handle)) (answers.Begun begun_as) → ⊥
 sync_not_begun job run at handle begun_as made =
     let local = (records_after job made.before at.rank).local in
     let settings = job.settings in
@@ -275,7 +278,8 @@ sync_not_begun job run at handle begun_as made =
 
 -- a call that is another one, with an answer that is another one
 abbrev remade : (job : JobState) (run : List (Timed OtherCall)) (at : StepAt) (call other : ThreadCall)
-    (told answer : Answer) → call ≡ other → told ≡ answer → IsMade job run at call told → IsMade job run at other answer
+    (told answer : Answer) → call ≡ other → told ≡ answer → IsCallMade job run at call told
+    → IsCallMade job run at other answer
 remade job run at call other told answer same is made = record {
   before = made.before;
   now = made.now;
@@ -303,7 +307,7 @@ synced_same one other same = cc
 
 -- what a sync of a handle answers there
 sync_says : (job : JobState) (world : Records) (at : StepAt) (now : ℕ) (handle : Handle)
-    → world_answer (rules_of job) world (call_event at now (on_transfers (SyncHandle handle)))
+    → world_answer (rules_of job) world (call_event at now (on_transfer_call (SyncHandle handle)))
     ≡ OfNode (OfCall (answers.Synced synced.Ok))
     → handle_answer (is_exhausted job.settings (world at.rank)) at.thread handle.serial (world at.rank).local.operations
     ≡ synced.Ok
@@ -329,17 +333,18 @@ synchronises : (job : JobState) (at : StepAt) (transfer : Transfer) (handle : Ha
     (before events : List (Timed OtherCall)) (begun_at now : ℕ)
     → TransfersHold job.settings (registered (handlers_of job)).table (script_meaning (handlers_of job))
     → world_answer (rules_of job) (records_after job before)
-    (call_event at begun_at (on_transfers (Begin None transfer)))
+    (call_event at begun_at (on_transfer_call (Begin None transfer)))
     ≡ OfNode (OfCall (answers.Begun (begun.Handle handle)))
-    → let world = records_after job (before ++ call_event at begun_at (on_transfers (Begin None transfer)) ∷ events) in
-    world_answer (rules_of job) world (call_event at now (on_transfers (SyncHandle handle)))
+    → let world =
+    records_after job (before ++ call_event at begun_at (on_transfer_call (Begin None transfer)) ∷ events) in
+    world_answer (rules_of job) world (call_event at now (on_transfer_call (SyncHandle handle)))
     ≡ OfNode (OfCall (answers.Synced synced.Ok))
-    → Synchronises (rules_of job) world (call_event at now (on_transfers (SyncHandle handle))) at.rank handle.serial
+    → Synchronises (rules_of job) world (call_event at now (on_transfer_call (SyncHandle handle))) at.rank handle.serial
 synchronises job at transfer handle before events begun_at now holds began answered =
     let settings = job.settings in
     let table = (registered (handlers_of job)).table in
     let meaning = script_meaning (handlers_of job) in
-    let call = call_event at begun_at (on_transfers (Begin None transfer)) in
+    let call = call_event at begun_at (on_transfer_call (Begin None transfer)) in
     let world = records_after job (before ++ call ∷ events) in
     let same : world ≡ run events_job (call ∷ events) (records_after job before) =
     run_append (rules_of job) before (call ∷ events) (at_the_opening settings) in
@@ -351,7 +356,7 @@ synchronises job at transfer handle before events begun_at now holds began answe
     (some_number handle.serial _ last.number_is)
     (subst (λ (w : Records). HoldsOf (AreThere handle.serial) (IsOther handle.serial) (w at.rank).local) (sym same) free)
     (sync_says job world at now handle answered) in
-    let goes = holds.goes world (call_event at now (on_transfers (SyncHandle handle))) handle.serial one.operation
+    let goes = holds.goes world (call_event at now (on_transfer_call (SyncHandle handle))) handle.serial one.operation
     (record {
       node = at.rank;
       thread = at.thread;
@@ -381,13 +386,13 @@ synchronises job at transfer handle before events begun_at now holds began answe
 later_made : (job : JobState) (past run : List (Timed OtherCall)) (at : StepAt)
     → TransfersHold job.settings (registered (handlers_of job)).table (script_meaning (handlers_of job))
     → AreAmong job run → (transfer : Transfer) (answer : ScriptAnswer)
-    → EndsLater job past run at (on_transfers (Begin None transfer)) sync_of
+    → EndsLater job past run at (on_transfer_call (Begin None transfer)) sync_of
     (λ told. unless (is_not_ready told) (as_synced told)) answer
     → answer ≡ said.Call (answers.Synced synced.Ok) → TransferIsMade job past run at transfer
 later_made job past run at holds among transfer answer later same =
     let it = named_by later.first later.call later.next_is in
-    let begin = on_transfers (Begin None transfer) in
-    let call = on_transfers (SyncHandle it.0) in
+    let begin = on_transfer_call (Begin None transfer) in
+    let call = on_transfer_call (SyncHandle it.0) in
     let synced_told = told_is (is_not_ready later.told) (as_synced later.told) (answers.Synced synced.Ok) answer
     later.ended same in
     let ok : later.told ≡ answers.Synced synced.Ok =
@@ -439,12 +444,13 @@ later_made job past run at holds among transfer answer later same =
 transfer_made : (job : JobState) (past run : List (Timed OtherCall)) (at : StepAt)
     → TransfersHold job.settings (registered (handlers_of job)).table (script_meaning (handlers_of job))
     → AreAmong job run → (transfer : Transfer) (began : Option Answer) (answer : ScriptAnswer)
-    → EndsAs job past run at (Twice (on_transfers (Begin None transfer)) sync_of is_not_ready as_synced) began answer
+    → EndsAsTried job past run at
+    (Twice (on_transfer_call (Begin None transfer)) sync_of is_not_ready as_synced) began answer
     → answer ≡ said.Call (answers.Synced synced.Ok)
-    → IsMadeSince job past run at (on_transfers (Begin None transfer)) (answers.Begun begun.Done)
+    → IsMadeSince job past run at (on_transfer_call (Begin None transfer)) (answers.Begun begun.Done)
     ⊎ TransferIsMade job past run at transfer
 transfer_made job past run at holds among transfer began answer (inl first) same =
-    inl (since_so job past run at (on_transfers (Begin None transfer)) first.told (answers.Begun begun.Done)
+    inl (since_so job past run at (on_transfer_call (Begin None transfer)) first.told (answers.Begun begun.Done)
     (at_once job run at transfer first.told first.made.made
     (told_is (is_some (sync_of first.told)) (as_synced first.told) (answers.Synced synced.Ok) answer first.ended same))
     first.made)
@@ -470,11 +476,11 @@ form_of {job} told one =
 -- how a told step ended, where it is this one
 ends_of : (job : JobState) (traces : List Trace) (order : RunOrder) (line : ℕ) (words : Line)
     (told : IsStepTold job traces order line words) (one : ScriptStep) → told.step ≡ one
-    → EndsAs job (past_of told) (run_of told) told.at (form_of told one) (begun_by (machine_of told) told.at)
+    → EndsAsTried job (past_of told) (run_told told) told.at (form_of told one) (begun_before (machine_of told) told.at)
     told.answer
 ends_of job traces order line words told one same =
-    subst (λ (s : ScriptStep). EndsAs job (past_of told) (run_of told) told.at (form_of told s)
-    (begun_by (machine_of told) told.at) told.answer) same told.ends
+    subst (λ (s : ScriptStep). EndsAsTried job (past_of told) (run_told told) told.at (form_of told s)
+    (begun_before (machine_of told) told.at) told.answer) same told.ends
 
 pub lines_tell : (job : JobState) (traces : List Trace) (ranks : List ℕ) (turns : List (List (Timed OtherCall)))
     → IsRunOf job (order_by job (entries_of traces) ranks) turns
@@ -487,19 +493,20 @@ lines_tell job traces ranks turns run own =
       each = λ line words there. lines_told job traces ranks turns run own line words there;
       rise = lines_rise job traces order;
       syncs = λ line words told wait call is waited ok.
-          sync_done job (past_of told) (run_of told) told.at call run.transfers
+          sync_done job (past_of told) (run_told told) told.at call run.transfers
           (turns_among job (suc told.turn) turns run.among)
-          (wait_made job (past_of told) (run_of told) told.at wait call (context_of told)
-          (before_of job told.at.rank (machine_of told) told.entry) (begun_by (machine_of told) told.at)
+          (wait_made job (past_of told) (run_told told) told.at wait call (context_of told)
+          (before_of job told.at.rank (machine_of told) told.entry) (begun_before (machine_of told) told.at)
           (answers.Synced synced.Ok) told.answer waited
           (ends_of job traces order line words told (step.Waiting wait) is) ok);
       transfers = λ line words told text is ok.
-          transfer_made job (past_of told) (run_of told) told.at run.transfers
-          (turns_among job (suc told.turn) turns run.among) text (begun_by (machine_of told) told.at) told.answer
+          transfer_made job (past_of told) (run_told told) told.at run.transfers
+          (turns_among job (suc told.turn) turns run.among) text (begun_before (machine_of told) told.at) told.answer
           (ends_of job traces order line words told (step.Waiting (waiting.Transfer text)) is) ok;
       barriers = λ line words told id flags answer is said_so ends.
-          barrier_done job (past_of told) (run_of told) told.at id flags answer run.barrier
+          barrier_done job (past_of told) (run_told told) told.at id flags answer run.barrier
           (turns_among job (suc told.turn) turns run.among) ends
-          (made_so job (past_of told) (run_of told) told.at (tries_barrier id flags) is_not_ready (answers.Barrier answer)
+          (made_so job (past_of told) (run_told told) told.at (tries_barrier id flags) is_not_ready
+          (answers.Barrier answer)
           told.answer (ends_of job traces order line words told (step.Waiting (waiting.BarrierWait id flags)) is) said_so);
     }

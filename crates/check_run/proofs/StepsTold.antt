@@ -34,8 +34,9 @@ use Rattle.collective_steps.specs.Parts.{first_part, later_part}
 use Rattle.gas_collectives.specs.CollectivesState.{CollectivesState}
 use Rattle.job_text.specs.declared.job.CollectiveText.{CollectiveText}
 use Rattle.script_steps.specs.Forms.{collective_form, nothing_there, step_form, waits_of, tried_while, whole_form}
-use Rattle.check_run.specs.StepLines.{StepAt, after_entry, answer_of_step}
-use Rattle.check_run.specs.StepsTold.{EndsAs, EndsAtCall, EndsLater, IsMade, IsMadeSince, before_of, begun_by}
+use Rattle.check_run.specs.StepLines.{StepAt, machine_after, answer_of_step}
+use Rattle.check_run.specs.StepsTold.{EndsAsTried, EndsAtCall, EndsLater, IsCallMade, IsMadeSince, before_of}
+use Rattle.check_run.specs.StepsTold.{begun_before}
 use Rattle.check_run.specs.StepsTold.{first_turns, records_after, rules_of, tried_at}
 use Rattle.check_run.proofs.CallsMade.{made_at, made_before, run_append, run_here, run_other}
 
@@ -46,8 +47,8 @@ Machine = MachineState EndpointLocal (OwnScripts ScriptStep)
 
 -- what was begun before by a step of this form, with this answer
 abbrev pub WasBegun : JobState → List (Timed OtherCall) → StepAt → Form EndpointLocal → Answer → Type 0
-WasBegun job run at (Twice begin next waits says) first = IsMade job run at begin first
-WasBegun job run at (Looks begin ready) first = IsMade job run at begin first
+WasBegun job run at (Twice begin next waits says) first = IsCallMade job run at begin first
+WasBegun job run at (Looks begin ready) first = IsCallMade job run at begin first
 WasBegun job run at form first = Unit {0}
 
 -- the call at the head of those of a try, if there is one, was made, with the answer of the try; what was made before it
@@ -94,7 +95,7 @@ pub ends_as : (job : JobState) (past happened : List (Timed OtherCall)) (at : St
     → ((first : Answer) → began ≡ Some first → WasBegun job past at form first)
     → HeadMade job past happened at (calls_of form began) given
     → AllMade job past (past ++ happened) at (calls_of form began)
-    → ended_by form began after given ≡ Some answer → EndsAs job past (past ++ happened) at form began answer
+    → ended_by form began after given ≡ Some answer → EndsAsTried job past (past ++ happened) at form began answer
 ends_as job past happened at (Once call) began after given answer was head all ends =
     let Ends = λ (o : Option Answer). ended_by (Once call) began after o in
     ended_call job past happened at call given _ answer head (given_as Ends given head.told _ head.is ends)
@@ -113,7 +114,7 @@ ends_as job past happened at (Twice begin next waits says) (Some first) after gi
     Ends : Option Answer → Option ScriptAnswer
     Ends o = ended_by (Twice begin next waits says) (Some first) after o
 
-    second : (found : Option ThreadCall) → next first ≡ found → IsMade job past at begin first
+    second : (found : Option ThreadCall) → next first ≡ found → IsCallMade job past at begin first
         → HeadMade job past happened at (option_to_list found) given
         → EndsLater job past (past ++ happened) at begin next (λ told. unless (waits told) (says told)) answer
     second None none begun made = absurd (no_answer answer (given_none given made ends))
@@ -126,7 +127,7 @@ ends_as job past happened at (Twice begin next waits says) (Some first) after gi
       next_is = some;
       told = made.told;
       made = made.behind;
-      begun = subst (λ (events : List (Timed OtherCall)). IsMade job events at begin first)
+      begun = subst (λ (events : List (Timed OtherCall)). IsCallMade job events at begin first)
           (sym made.behind.before_is) (made_before job past made.behind.between at begin first begun);
       ended = given_as Ends given made.told _ made.is ends;
     }
@@ -245,9 +246,9 @@ form_begins job past happened at (Once call) given first is head begin = tt
 form_begins job past happened at (Again waits call) given first is head begin = tt
 form_begins job past happened at (Until call ends) given first is head begin = tt
 form_begins job past happened at (Twice call next waits says) given first is head begin =
-    subst (IsMade job (past ++ happened) at call) (same_Some head.told first (sym head.is ∙ is)) head.behind.made
+    subst (IsCallMade job (past ++ happened) at call) (same_Some head.told first (sym head.is ∙ is)) head.behind.made
 form_begins job past happened at (Looks call ready) given first is head begin =
-    subst (IsMade job (past ++ happened) at call) (same_Some head.told first (sym head.is ∙ is)) head.behind.made
+    subst (IsCallMade job (past ++ happened) at call) (same_Some head.told first (sym head.is ∙ is)) head.behind.made
 form_begins job past happened at (Several start later) given first is head begin = tt
 
 -- the script of the thread after a try of its step
@@ -379,9 +380,9 @@ pub record EndsInTurn (job : JobState) (past run : List (Timed OtherCall)) (rank
   pub step : ScriptStep
   pub rest : List ScriptStep
   pub left_is : left ≡ step ∷ rest
-  pub ends : EndsAs job past run (at_entry rank entry)
+  pub ends : EndsAsTried job past run (at_entry rank entry)
       (step_form step (tried_at job (at_entry rank entry) machine entry.now) (before_of job rank machine entry))
-      (begun_by machine (at_entry rank entry)) answer
+      (begun_before machine (at_entry rank entry)) answer
 
 ends_by_left : (job : JobState) (past happened : List (Timed OtherCall)) (rank : ℕ) (machine : Machine) (entry : Entry)
     (left : List ScriptStep) (answer : ScriptAnswer) → (machine.own.threads entry.thread).left ≡ left
@@ -443,7 +444,7 @@ left_pending job past happened rank machine entry (one ∷ rest) same H pending 
 
 -- the scripts after the turn
 abbrev pub own_then : JobState → (rank : ℕ) → Machine → Entry → (thread : ℕ) → Progress ScriptStep
-own_then job rank machine entry = (after_entry job rank machine entry).own.threads
+own_then job rank machine entry = (machine_after job rank machine entry).own.threads
 
 pub scripts_here : (job : JobState) (rank thread : ℕ) (machine : Machine) (entry : Entry) → thread ≡ entry.thread
     → own_then job rank machine entry thread
@@ -495,7 +496,7 @@ pub record Stands (job : JobState) (past : List (Timed OtherCall)) (machines : M
 -- the machine of a node after an entry
 machine_here : (job : JobState) (machines : Machines EndpointLocal (OwnScripts ScriptStep)) (item : NodeEntry) (rank : ℕ)
     → rank ≡ item.node
-    → after_item (script_job job) machines item rank ≡ after_entry job item.node (machines item.node) item.entry
+    → after_item (script_job job) machines item rank ≡ machine_after job item.node (machines item.node) item.entry
 machine_here job machines item rank same =
     ap (put machines item.node (turn_of (script_job job) machines item).after) same
     ∙ put_same machines item.node (turn_of (script_job job) machines item).after
@@ -547,7 +548,7 @@ stands_on job past happened machines item S H = record {
 pub record EndsInRun (job : JobState) (past run : List (Timed OtherCall)) (rank : ℕ) (machine : Machine) (entry : Entry)
     (answer : ScriptAnswer) : Type 0 where
   pub ends : EndsInTurn job past run rank machine entry (machine.own.threads entry.thread).left answer
-  pub node_is : records_after job run rank ≡ (after_entry job rank machine entry).node
+  pub node_is : records_after job run rank ≡ (machine_after job rank machine entry).node
 
 pub items_end : (job : JobState) (items : List NodeEntry) (turns : List (List (Timed OtherCall)))
     (past : List (Timed OtherCall)) (machines : Machines EndpointLocal (OwnScripts ScriptStep))

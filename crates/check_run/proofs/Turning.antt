@@ -30,7 +30,7 @@ use Rattle.node_runs.specs.declared.script_answer.ScriptAnswer.{ScriptAnswer}
 use Rattle.check_run.specs.Merging.{IsOfItsJob}
 use Rattle.check_run.specs.Recording.{BeginningsNameNothing, RecordedState, RecorderKept, RecorderStands, ScriptedNode}
 use Rattle.check_run.specs.Recording.{entry_lines, held_in, opening_record, record_after, text_of}
-use Rattle.check_run.specs.StepLines.{after_entry, answer_of_step, lines_of_answer, script_words}
+use Rattle.check_run.specs.StepLines.{machine_after, answer_of_step, lines_of_answer, script_words}
 use Rattle.check_run.specs.StepsWritten.{CanTellStep, NamesWhatIsThere, TellsStep, lines_told}
 use Rattle.check_run.specs.declared.steps.StepAt.{StepAt}
 use Rattle.check_run.proofs.Names.{after_beginnings, ended_names, first_beginnings}
@@ -75,7 +75,7 @@ ended_changes false false began = refl
 
 answer_kept : (job : JobState) (rank : ℕ) (machine : ScriptedNode) (entry : Entry)
     → is_some (answer_of_step job rank machine entry) ≡ true
-    → (after_entry job rank machine entry).answer ≡ answer_of_step job rank machine entry
+    → (machine_after job rank machine entry).answer ≡ answer_of_step job rank machine entry
 answer_kept job rank machine entry some =
     let it = turn (script_job job) rank machine entry.thread entry.now entry.got in
     let began = (try_of (script_job job) rank machine entry.thread entry.now entry.got).began in

@@ -39,7 +39,7 @@ pub record ClosesRecorder (kept : RecorderKept) (endpoint : EndpointState) (repo
   pub most_is : report.most ≡ kept.most
 
 -- the text of a recorder is whole, and its node is one of its job
-pub record IsWhole (kept : RecorderKept) : Type 0 where
+pub record IsWholeRecorder (kept : RecorderKept) : Type 0 where
   pub whole : kept.whole ≡ true
   pub own : IsOfItsJob kept.node
 
@@ -48,7 +48,7 @@ pub record ClosesAll (recorders : List RecorderKept) (all : RunReport) : Type 0 
   pub nodes : all.nodes.items ≡ map (λ kept. kept.node.endpoint) recorders
   pub texts : map (λ report. report.text.taken) all.reports.items ≡ map (λ kept. kept.text) recorders
   pub most : map (λ report. report.most) all.reports.items ≡ map (λ kept. kept.most) recorders
-  pub each : (rank : ℕ) → ForSome (slice_get recorders rank) IsWhole
+  pub each : (rank : ℕ) → ForSome (slice_get recorders rank) IsWholeRecorder
 
 -- ---- what was recorded of the nodes of a run
 

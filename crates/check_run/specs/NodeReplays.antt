@@ -11,7 +11,7 @@ use Rattle.machine.specs.Replay.{replayed}
 use Rattle.machine.specs.declared.entry.Entry.{Entry}
 use Rattle.node_machine.specs.Kept.{are_done}
 use Rattle.node_record.specs.Record.{Node}
-use Rattle.node_record.specs.SlotMessages.{number_at}
+use Rattle.node_record.specs.SlotMessages.{number_in_slot}
 use Rattle.node_record.specs.declared.answer.Side.TheVariants as side
 use Rattle.trace_replay.specs.Sending.{sent_from}
 use Rattle.trace_replay.specs.declared.replaying.Replayed.{Replayed}
@@ -24,7 +24,8 @@ use Rattle.check_run.specs.declared.node_replay.NodeReplay.{NodeReplay}
 -- one for a slot whose request to this peer isn't back, 0 for any other
 abbrev pub one_if_open : Parameters → (me : ℕ) → Node EndpointLocal → (peer slot : ℕ) → ℕ
 one_if_open settings me node peer slot =
-    if is_some (number_at settings me node (record { side = side.Request; peer = peer; slot = slot })) then 1 else 0
+    if is_some
+    (number_in_slot settings me node (record { side = side.Request; peer = peer; slot = slot })) then 1 else 0
 
 -- how many requests to this peer aren't back, of those in the slots below this one
 unfoldable pub open_below : Parameters → (me : ℕ) → Node EndpointLocal → (peer slot : ℕ) → ℕ

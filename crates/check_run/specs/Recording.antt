@@ -16,7 +16,7 @@ use Rattle.node_script.specs.Lines.{Line, spell}
 use Rattle.endpoint_rules.specs.EndpointLocal.{EndpointLocal}
 use Rattle.endpoint_rules.specs.declared.answer.Answer.{Answer}
 use Rattle.endpoint_rules.specs.declared.answer.Answer.TheVariants as answers
-use Rattle.check_run.specs.StepLines.{after_entry, answer_of_step, lines_of_answer}
+use Rattle.check_run.specs.StepLines.{machine_after, answer_of_step, lines_of_answer}
 
 -- ---- states
 
@@ -27,7 +27,7 @@ ScriptedNode = MachineState EndpointLocal (OwnScripts ScriptStep)
 -- the line of the step that ended in the entry, if one did
 abbrev pub entry_lines : JobState → (rank : ℕ) → ScriptedNode → Entry → List Line
 entry_lines job rank machine entry =
-    lines_of_answer job (record { rank = rank; thread = entry.thread }) (after_entry job rank machine entry).node
+    lines_of_answer job (record { rank = rank; thread = entry.thread }) (machine_after job rank machine entry).node
     (answer_of_step job rank machine entry)
 
 -- the state of a node, with the lines of the steps that ended so far, and the most message buffers that it held

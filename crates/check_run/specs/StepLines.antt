@@ -46,9 +46,9 @@ lines_of_answer job at node None = []
 lines_of_answer job at node (Some answer) = step_line job at node answer ∷ []
 
 -- the machine of a node after the turn of an entry
-abbrev pub after_entry : JobState → (rank : ℕ) → MachineState EndpointLocal (OwnScripts ScriptStep) → Entry
+abbrev pub machine_after : JobState → (rank : ℕ) → MachineState EndpointLocal (OwnScripts ScriptStep) → Entry
     → MachineState EndpointLocal (OwnScripts ScriptStep)
-after_entry job rank machine entry =
+machine_after job rank machine entry =
     (turn (script_job job) rank machine entry.thread entry.now entry.got).after
 
 -- the answer of the step that ended in it, if one did
@@ -62,9 +62,9 @@ abbrev pub step_lines : JobState → (rank : ℕ) → MachineState EndpointLocal
     → List Line
 step_lines job rank machine [] = []
 step_lines job rank machine (entry ∷ entries) =
-    lines_of_answer job (record { rank = rank; thread = entry.thread }) (after_entry job rank machine entry).node
+    lines_of_answer job (record { rank = rank; thread = entry.thread }) (machine_after job rank machine entry).node
     (answer_of_step job rank machine entry)
-    ++ step_lines job rank (after_entry job rank machine entry) entries
+    ++ step_lines job rank (machine_after job rank machine entry) entries
 
 -- those of the nodes from this rank on, which have these traces
 abbrev pub steps_from : JobState → (rank : ℕ) → List Trace → List Line

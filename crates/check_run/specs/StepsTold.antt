@@ -26,7 +26,7 @@ use Rattle.node_record.specs.NodeStep.{OfCall, OfRequest}
 use Rattle.node_record.specs.Record.{Node as Record}
 use Rattle.node_record.specs.declared.answer.Asked.{Asked}
 use Rattle.node_runs.specs.Actions.{Form, Once, Again, Until, Twice, Looks, Several, OwnScripts, Part, StepContext}
-use Rattle.node_runs.specs.Actions.{part_of, step_context, unless}
+use Rattle.node_runs.specs.Actions.{step_part_of, step_context, unless}
 use Rattle.node_runs.specs.Order.{NodeEntry, own_entries, replay}
 use Rattle.node_runs.specs.Scripts.{ThreadCall}
 use Rattle.node_runs.specs.Turn.{MachineState, as_tried, context}
@@ -42,7 +42,7 @@ use Rattle.put_get.specs.declared.operation.Transfer.{Transfer}
 use Rattle.script_steps.specs.Forms.{step_form}
 use Rattle.transfer_laws.specs.Chunks.{EndpointJob}
 use Rattle.transfer_laws.specs.TransferLaws.{Beginning, IsDoneSince, Synchronises, called}
-use Rattle.check_run.specs.StepLines.{StepAt, after_entry, answer_of_step, step_line, step_lines, steps_from}
+use Rattle.check_run.specs.StepLines.{StepAt, machine_after, answer_of_step, step_line, step_lines, steps_from}
 use Rattle.check_run.specs.Machines.{first_machine}
 
 -- ---- calls of a run
@@ -66,7 +66,8 @@ abbrev pub call_event : StepAt → (now : ℕ) → ThreadCall → Timed OtherCal
 call_event at now call = timed now (event_at at.rank at.thread call)
 
 -- an event of the run is that the thread makes this call, and there it is answered so
-pub record IsMade (job : JobState) (run : List (Timed OtherCall)) (at : StepAt) (call : ThreadCall) (answer : Answer)
+pub record IsCallMade (job : JobState) (run : List (Timed OtherCall)) (at : StepAt) (call : ThreadCall)
+    (answer : Answer)
     : Type 0 where
   pub before : List (Timed OtherCall)
   pub now : ℕ
@@ -77,7 +78,7 @@ pub record IsMade (job : JobState) (run : List (Timed OtherCall)) (at : StepAt) 
 -- so it is of an event behind the first ones of the run
 pub record IsMadeSince (job : JobState) (past run : List (Timed OtherCall)) (at : StepAt) (call : ThreadCall)
     (answer : Answer) : Type 0 where
-  pub made : IsMade job run at call answer
+  pub made : IsCallMade job run at call answer
   pub between : List (Timed OtherCall)
   pub before_is : made.before ≡ past ++ between
 
@@ -99,14 +100,14 @@ pub record EndsLater (job : JobState) (past run : List (Timed OtherCall)) (at : 
   pub next_is : next first ≡ Some call
   pub told : Answer
   pub made : IsMadeSince job past run at call told
-  pub begun : IsMade job made.made.before at begin first
+  pub begun : IsCallMade job made.made.before at begin first
   pub ended : ends told ≡ Some answer
 
 -- a call began something, and its answer is the step's
 pub record EndsAsBegun (job : JobState) (run : List (Timed OtherCall)) (at : StepAt) (begin : ThreadCall)
     (answer : ScriptAnswer) : Type 0 where
   pub first : Answer
-  pub begun : IsMade job run at begin first
+  pub begun : IsCallMade job run at begin first
   pub ended : answer ≡ said.Call first
 
 -- the calls of this part of the step were made in the turn, and it ends the step with this answer
@@ -117,29 +118,29 @@ pub record EndsAfterAll (job : JobState) (past run : List (Timed OtherCall)) (at
   pub ended : part.ended ≡ Some answer
 
 -- so it is of a step that is tried in this form, where an earlier try began it with this answer, if one did
-abbrev pub EndsAs : JobState → (past run : List (Timed OtherCall)) → StepAt → Form EndpointLocal
+abbrev pub EndsAsTried : JobState → (past run : List (Timed OtherCall)) → StepAt → Form EndpointLocal
     → (began : Option Answer) → ScriptAnswer → Type 0
-EndsAs job past run at (Once call) began answer =
+EndsAsTried job past run at (Once call) began answer =
     EndsAtCall job past run at call (λ told. Some (said.Call told)) answer
-EndsAs job past run at (Again waits call) began answer =
+EndsAsTried job past run at (Again waits call) began answer =
     EndsAtCall job past run at call (λ told. unless (waits told) told) answer
-EndsAs job past run at (Until call ends) began answer = EndsAtCall job past run at call ends answer
-EndsAs job past run at (Twice begin next waits says) began answer =
+EndsAsTried job past run at (Until call ends) began answer = EndsAtCall job past run at call ends answer
+EndsAsTried job past run at (Twice begin next waits says) began answer =
     EndsAtCall job past run at begin (λ told. unless (is_some (next told)) (says told)) answer
     ⊎ EndsLater job past run at begin next (λ told. unless (waits told) (says told)) answer
-EndsAs job past run at (Looks begin ready) began answer = EndsAsBegun job run at begin answer
-EndsAs job past run at (Several first later) began answer =
-    EndsAfterAll job past run at (part_of first later began) answer
+EndsAsTried job past run at (Looks begin ready) began answer = EndsAsBegun job run at begin answer
+EndsAsTried job past run at (Several first later) began answer =
+    EndsAfterAll job past run at (step_part_of first later began) answer
 
 -- ---- which step it is
 
 -- how many steps of a thread end in the turns of these entries of its node
-abbrev pub ended_in : JobState → StepAt → MachineState EndpointLocal (OwnScripts ScriptStep) → List Entry → ℕ
-ended_in job at machine [] = 0
-ended_in job at machine (entry ∷ entries) =
+abbrev pub steps_ended_in : JobState → StepAt → MachineState EndpointLocal (OwnScripts ScriptStep) → List Entry → ℕ
+steps_ended_in job at machine [] = 0
+steps_ended_in job at machine (entry ∷ entries) =
     if (entry.thread == at.thread) && is_some (answer_of_step job at.rank machine entry)
-    then suc (ended_in job at (after_entry job at.rank machine entry) entries)
-    else ended_in job at (after_entry job at.rank machine entry) entries
+    then suc (steps_ended_in job at (machine_after job at.rank machine entry) entries)
+    else steps_ended_in job at (machine_after job at.rank machine entry) entries
 
 -- the machine of a node before the turn of the entry at this place of its trace
 abbrev pub machine_at : JobState → (rank : ℕ) → Trace → (place : ℕ)
@@ -158,8 +159,8 @@ abbrev pub tried_at : JobState → StepAt → MachineState EndpointLocal (OwnScr
 tried_at job at machine now = step_context (context (script_job job) at.rank at.thread now) machine.own
 
 -- the answer with which an earlier try began the next step of a thread, if one did
-abbrev pub begun_by : MachineState EndpointLocal (OwnScripts ScriptStep) → StepAt → Option Answer
-begun_by machine at = (machine.own.threads at.thread).began
+abbrev pub begun_before : MachineState EndpointLocal (OwnScripts ScriptStep) → StepAt → Option Answer
+begun_before machine at = (machine.own.threads at.thread).began
 
 -- the record of a node as the step of its thread is tried in the turn of an entry
 abbrev pub before_of : JobState → (rank : ℕ) → MachineState EndpointLocal (OwnScripts ScriptStep) → Entry
@@ -191,7 +192,7 @@ pub record IsStepTold (job : JobState) (traces : List Trace) (order : RunOrder) 
   pub line_is : line ≡ lines_before job traces at.rank trace place
   pub thread_is : entry.thread ≡ at.thread
   pub number : ℕ
-  pub number_is : number ≡ ended_in job at (first_machine job at.rank) (take place trace.entries)
+  pub number_is : number ≡ steps_ended_in job at (first_machine job at.rank) (take place trace.entries)
   pub step : ScriptStep
   pub step_is : slice_get (steps_of_thread job.scripts at.rank at.thread) number ≡ Some step
   pub answer : ScriptAnswer
@@ -199,12 +200,12 @@ pub record IsStepTold (job : JobState) (traces : List Trace) (order : RunOrder) 
   pub turn : ℕ
   pub turn_is : slice_get order.items turn ≡ Some (record { node = at.rank; entry = entry })
   pub own_is : own_entries at.rank (take turn order.items) ≡ take place trace.entries
-  pub ends : EndsAs job (first_turns turn order.turns) (first_turns (suc turn) order.turns) at
+  pub ends : EndsAsTried job (first_turns turn order.turns) (first_turns (suc turn) order.turns) at
       (step_form step (tried_at job at (machine_at job at.rank trace place) entry.now)
       (before_of job at.rank (machine_at job at.rank trace place) entry))
-      (begun_by (machine_at job at.rank trace place) at) answer
+      (begun_before (machine_at job at.rank trace place) at) answer
   pub node_is : records_after job (first_turns (suc turn) order.turns) at.rank
-      ≡ (after_entry job at.rank (machine_at job at.rank trace place) entry).node
+      ≡ (machine_after job at.rank (machine_at job at.rank trace place) entry).node
   pub words_are : words ≡ step_line job at (records_after job (first_turns (suc turn) order.turns) at.rank) answer
 
 -- one turn of the run is later than another: all that happened up to the end of the earlier one stands before the events
@@ -217,8 +218,8 @@ pub record IsLater (order : RunOrder) (turn later : ℕ) : Type 0 where
 -- ---- what an answer of a sync and of the barrier says
 
 -- a call on transfers, and one on the barrier
-abbrev pub on_transfers : TransferCall → ThreadCall
-on_transfers call = Performs (OnTransfers call)
+abbrev pub on_transfer_call : TransferCall → ThreadCall
+on_transfer_call call = Performs (OnTransfers call)
 
 abbrev pub tries_barrier : ℤ → (flags : ℕ) → ThreadCall
 tries_barrier id flags = Performs (OnBarrier (TryBarrier id flags))
@@ -227,12 +228,12 @@ tries_barrier id flags = Performs (OnBarrier (TryBarrier id flags))
 -- between
 pub record SyncIsMade (job : JobState) (past run : List (Timed OtherCall)) (at : StepAt) (call : TransferCall)
     : Type 0 where
-  pub made : IsMadeSince job past run at (on_transfers call) (answers.Synced synced.Ok)
+  pub made : IsMadeSince job past run at (on_transfer_call call) (answers.Synced synced.Ok)
   pub done : (beginning : Beginning (rules_of job)) (events : List (Timed OtherCall))
       → made.made.before
       ≡ beginning.before ++ called beginning.now beginning.node beginning.thread beginning.call ∷ events
       → Synchronises (rules_of job) (records_after job made.made.before)
-      (call_event at made.made.now (on_transfers call))
+      (call_event at made.made.now (on_transfer_call call))
       beginning.node beginning.number
       → IsDoneSince (rules_of job) beginning events
 
@@ -275,9 +276,9 @@ abbrev pub past_of : {job : JobState} {traces : List Trace} {order : RunOrder} {
     → IsStepTold job traces order line words → List (Timed OtherCall)
 past_of {job} {traces} {order} told = first_turns told.turn order.turns
 
-abbrev pub run_of : {job : JobState} {traces : List Trace} {order : RunOrder} {line : ℕ} {words : Line}
+abbrev pub run_told : {job : JobState} {traces : List Trace} {order : RunOrder} {line : ℕ} {words : Line}
     → IsStepTold job traces order line words → List (Timed OtherCall)
-run_of {job} {traces} {order} told = first_turns (suc told.turn) order.turns
+run_told {job} {traces} {order} told = first_turns (suc told.turn) order.turns
 
 -- each line of the steps of a run of these traces tells how its step ended. So an `ok` of a step that waits for
 -- transfers, of a blocking transfer, and an `ok` or a `mismatch` of one that waits at the barrier, is what the laws of
@@ -292,13 +293,13 @@ pub record LinesTell (job : JobState) (traces : List Trace) (order : RunOrder) :
   pub syncs : (line : ℕ) (words : Line) (told : IsStepTold job traces order line words)
       (wait : WaitingStep) (call : TransferCall)
       → told.step ≡ step.Waiting wait → sync_waited wait ≡ Some call
-      → told.answer ≡ said.Call (answers.Synced synced.Ok) → SyncIsMade job (past_of told) (run_of told) told.at call
+      → told.answer ≡ said.Call (answers.Synced synced.Ok) → SyncIsMade job (past_of told) (run_told told) told.at call
   pub transfers : (line : ℕ) (words : Line) (told : IsStepTold job traces order line words) (text : Transfer)
       → told.step ≡ step.Waiting (waiting.Transfer text) → told.answer ≡ said.Call (answers.Synced synced.Ok)
-      → IsMadeSince job (past_of told) (run_of told) told.at (on_transfers (Begin None text))
+      → IsMadeSince job (past_of told) (run_told told) told.at (on_transfer_call (Begin None text))
       (answers.Begun begun.Done)
-      ⊎ TransferIsMade job (past_of told) (run_of told) told.at text
+      ⊎ TransferIsMade job (past_of told) (run_told told) told.at text
   pub barriers : (line : ℕ) (words : Line) (told : IsStepTold job traces order line words) (id : ℤ) (flags : ℕ)
       (answer : BarrierAnswer) → told.step ≡ step.Waiting (waiting.BarrierWait id flags)
       → told.answer ≡ said.Call (answers.Barrier answer) → EndsPhase answer
-      → BarrierIsTried job (past_of told) (run_of told) told.at id flags answer
+      → BarrierIsTried job (past_of told) (run_told told) told.at id flags answer

@@ -8,7 +8,7 @@ use Rattle.gasnet_trace.specs.declared.trace.Trace.{Trace}
 use Rattle.job_text.specs.declared.job.Job.{Job as JobState}
 use Rattle.machine.specs.declared.entry.Entry.{Entry}
 use Rattle.machine.specs.Fronts.{Node, IsRun, IsStuck, Reaches, full}
-use Rattle.node_machine.specs.Laws.{IsRunOf, nodes_of, order_by}
+use Rattle.node_machine.specs.Laws.{IsRunOf, nodes_of_job, order_by}
 use Rattle.node_machine.specs.NodeState.{NodeState, state_steps}
 use Rattle.node_runs.specs.Order.{own_entries}
 use Rattle.node_script.specs.Registration.{handlers_of, registered}
@@ -23,7 +23,7 @@ entries_of traces = map (λ trace. trace.entries) traces
 
 -- the nodes of the job before all turns, each with its trace
 abbrev pub first_nodes : JobState → List Trace → List (Node NodeState)
-first_nodes job traces = nodes_of job (entries_of traces)
+first_nodes job traces = nodes_of_job job (entries_of traces)
 
 -- the traces are a run: in some order each of their entries can go in its turn
 abbrev pub AreARun : JobState → List Trace → Type 0

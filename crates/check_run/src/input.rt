@@ -6,13 +6,14 @@ ghost use Rattle.check_run.specs.CheckInputs.{IsInput, IsRefused, IsUnread, Take
 ghost use Rattle.check_run.specs.CheckInputs.{ReadsOutputs, OutputsOf, fault_behind};
 ghost use Rattle.check_run.specs.CheckInputs.{lines_in, wanted_of, why_of};
 
-use gas_outside::{ReadAll, Source, read_all};
+use gas_outside::{MAX_OUTPUT, ReadAll, Source, read_all};
 use gasnet_trace::{Output, TraceFault, TraceWhy, Wanted, read_output};
 use job_text::{Job, JobFault, JobWhy, read_job_front};
 use std::alloc::Global;
+use std::fmt;
 
-/// The most bytes of an input.
-pub const LIMIT: usize = 67_108_864;
+/// The most bytes of an input: as many as the output of a child may have.
+pub const LIMIT: usize = MAX_OUTPUT;
 
 /// A job, and what each of its nodes wrote.
 #[derive(Drop)]
@@ -37,6 +38,16 @@ pub enum InputFault {
     ReadFault,
     /// Memory ran out.
     NoMemory,
+}
+
+impl fmt::Display for InputFault {
+    fn fmt<W: fmt::Write>(&self, f: &mut fmt::Formatter<W>) -> fmt::Result {
+        match *self {
+            InputFault::Bad { line, why: _ } => write!(f, "line {line} is bad"),
+            InputFault::ReadFault => write!(f, "the source failed"),
+            InputFault::NoMemory => write!(f, "no memory"),
+        }
+    }
 }
 
 /// A reason why a line of an output is bad, as one why a line of an input is.

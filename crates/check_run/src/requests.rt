@@ -2,7 +2,7 @@
 
 ghost use Rattle.std.specs.Prelude.{◌≡◌, ◌≤◌, is_some};
 ghost use Rattle.gas_endpoint.specs.EndpointState.{ForItsRecord};
-ghost use Rattle.node_record.specs.SlotMessages.{number_at};
+ghost use Rattle.node_record.specs.SlotMessages.{number_in_slot};
 ghost use Rattle.node_record.specs.declared.answer.Side.TheVariants.{Request};
 ghost use Rattle.check_run.specs.NodeReplays.{one_if_open, open_below, open_requests};
 

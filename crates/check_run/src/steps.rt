@@ -35,7 +35,8 @@ fn write_said<K: Sink>(
     requires { NamesWhatIsThere endpoint.now answer.now }
     ensures { ForItsRecord endpoint.now (λ node.
         GathersAll (outbox K.taken K.faults sink.old) (outbox K.taken K.faults sink.new)
-        (line_text (decimal thread ∷ script_words (sight_at endpoint.now node) answer.now)) result) }
+        (line_text (decimal thread ∷ script_words (sight_at endpoint.now node) answer.now))
+        result) }
 {
     match answer {
         ScriptAnswer::Call(answer) => write_answer(thread, answer, endpoint, sink),

@@ -32,7 +32,8 @@ fn refuses(endpoint: &Endpoint, bytes: &[u8]) -> bool
 
 /// Whether the node refuses what the entry got.
 fn refuses_got(endpoint: &Endpoint, item: &Entry) -> bool
-    ensures { OfItsNode endpoint.now (λ job rank. result ≡ refuses_got job rank item.entry.now.got) }
+    ensures { OfItsNode endpoint.now
+        (λ job rank. result ≡ refuses_got job rank item.entry.now.got) }
 {
     match &item.got {
         Some(bytes) => refuses(endpoint, bytes.as_slice()),

@@ -4,7 +4,7 @@ use Rattle.std.specs.Prelude.{true, Option, None, Some}
 use Rattle.std.specs.Int.{w64, to_le_bytes}
 use Rattle.raw_segment.specs.Image.{Write}
 use Rattle.datagram_grammar.specs.Content.{Content, long_request}
-use Rattle.datagram_grammar.specs.Notes.{high_half, low_half, joined, argument}
+use Rattle.datagram_grammar.specs.Notes.{high_half, low_half, joined_halves, argument}
 use Rattle.handler_rules.specs.declared.table.Entry.{Entry}
 use Rattle.handler_rules.specs.Registered.{entry_at, is_for_requests}
 use Rattle.handler_rules.specs.Runs.{Frame, Start, Outcome, Meaning, untouched}
@@ -27,7 +27,7 @@ collective_content stamp shape offset bytes =
 
 -- the number whose upper half is that argument, and its lower half the one behind it
 abbrev pub number_at : List ℤ → (place : ℕ) → ℕ
-number_at args place = joined (argument args place) (argument args (place + 1))
+number_at args place = joined_halves (argument args place) (argument args (place + 1))
 
 -- ---- its run
 

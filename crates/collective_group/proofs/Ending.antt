@@ -8,7 +8,7 @@ use Rattle.plain_world.specs.MostHeld.{most_after}
 use Rattle.endpoint_rules.specs.EndpointLocal.{EndpointLocal}
 use Rattle.endpoint_rules.specs.EndpointRules.{Records}
 use Rattle.endpoint_rules.proofs.CoreKept.{segment_long}
-use Rattle.gas_world.specs.Stands.{Stands as WorldStands}
+use Rattle.gas_world.specs.Stands.{WorldStands}
 use Rattle.gas_world.specs.WorldState.{WorldState}
 use Rattle.node_caller.specs.declared.caller.Caller.{Ghosts}
 use Rattle.node_caller.specs.Making.{whole_after}

@@ -6,7 +6,7 @@ use Rattle.handler_rules.specs.Runs.{Meaning, IsLawfulMeaning}
 use Rattle.plain_world.specs.MostHeld.{most_then}
 use Rattle.plain_world.specs.World.{Timed, world_after}
 use Rattle.endpoint_rules.specs.EndpointRules.{OtherCall, job_of, transition}
-use Rattle.gas_world.specs.Events.{Steps, job_in}
+use Rattle.gas_world.specs.Events.{StepsInWorld, job_in}
 use Rattle.gas_world.specs.declared.event.WorldAnswer.{WorldAnswer}
 use Rattle.gas_world.specs.declared.event.WorldAnswer.TheVariants as world_answers
 use Rattle.transfer_laws.specs.Chunks.{EndpointJob}
@@ -161,7 +161,7 @@ step_grows meaning old new trying (step_answers.Forbidden forbidden) same may do
 -- an event of the world
 pub beside_grows : (meaning : Meaning) (old new : GroupState) (event : Timed OtherCall) (answer : WorldAnswer)
     → IsSameJob old new → new.nodes ≡ old.nodes
-    → Steps meaning old.world (transition event.now event.event answer) new.world
+    → StepsInWorld meaning old.world (transition event.now event.event answer) new.world
     → GrowsBeside meaning old event answer new
 beside_grows meaning old new event (world_answers.Node one) same nodes steps = λ history is may.
     let group = left_by meaning old history in

@@ -11,7 +11,7 @@ use Rattle.plain_world.specs.MostHeld.{most_after}
 use Rattle.endpoint_rules.specs.EndpointRules.{OtherCall, Records, asked_answer, timed}
 use Rattle.endpoint_rules.specs.declared.answer.Answer.{Answer}
 use Rattle.transfer_laws.specs.Chunks.{EndpointJob}
-use Rattle.gas_world.specs.Stands.{Stands as WorldStands}
+use Rattle.gas_world.specs.Stands.{WorldStands}
 use Rattle.gas_world.specs.WorldState.{WorldState}
 use Rattle.node_caller.specs.declared.caller.Caller.{Ghosts}
 use Rattle.node_caller.specs.Making.{MakesOne}

@@ -2,7 +2,7 @@
 use Rattle.std.specs.Prelude.{ℕ, ◌≡◌, ◌≤◌, List, Some, slice_get}
 use Rattle.handler_rules.specs.Runs.{Meaning}
 use Rattle.gas_world.specs.Events.{job_in}
-use Rattle.gas_world.specs.Stands.{Stands}
+use Rattle.gas_world.specs.Stands.{WorldStands}
 use Rattle.plain_world.specs.MostHeld.{most_after}
 use Rattle.transfer_laws.specs.Chunks.{EndpointJob}
 use Rattle.collective_area.specs.Area.{Area}
@@ -26,7 +26,7 @@ AreAsFar area progress nodes =
 
 -- it stands for this group with this area, whose nodes held at most so many buffers
 pub record StandsFor (it : GroupState) (area : Area) (group : Group) (most : ℕ → ℕ) : Type 0 where
-  pub world : Stands it.world group.records most
+  pub world : WorldStands it.world group.records most
   pub nodes : AreAsFar area group.progress it.nodes
 
 -- so it does for some such numbers

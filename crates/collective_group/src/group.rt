@@ -4,7 +4,7 @@ ghost use Rattle.std.specs.Prelude.{◌≡◌, ◌<◌, [], length, IfOk};
 ghost use Rattle.endpoint_rules.specs.EndpointRules.{timed, transition};
 ghost use Rattle.plain_world.specs.World.{IsAmong};
 ghost use Rattle.gas_world.specs.Aims.{MayFall};
-ghost use Rattle.gas_world.specs.Events.{Steps, event_of};
+ghost use Rattle.gas_world.specs.Events.{StepsInWorld, event_of};
 ghost use Rattle.collective_area.specs.Area.{IsArea};
 ghost use Rattle.collective_area.specs.Served.{HasCollectives, ServesCollectives};
 ghost use Rattle.collective_laws.specs.Groups.{opening_group};
@@ -89,7 +89,7 @@ impl Group {
         requires called { MayFall self.old.world.settings event.now }
         ensures settings { self.new.world.settings ≡ self.old.world.settings }
         ensures table { self.new.world.table ≡ self.old.world.table }
-        ensures steps { Steps (H.meaning handlers.now) self.old.world
+        ensures steps { StepsInWorld (H.meaning handlers.now) self.old.world
             (transition now (event_of event.now) result) self.new.world }
         ensures same { self.new.nodes ≡ self.old.nodes }
         ensures history { GrowsBeside (H.meaning handlers.now) self.old (timed now (event_of event.now))

@@ -14,7 +14,7 @@ use Rattle.handler_rules.specs.declared.table.Entry.{Entry}
 use Rattle.handler_rules.specs.declared.rules.Role.TheVariants as role
 use Rattle.handler_rules.specs.Runs.{Frame, Start, Outcome, Meaning, closed, untouched}
 use Rattle.node_record.specs.Behaviour.{Contact}
-use Rattle.am_core.specs.Kept.{Local, IsKept, start_of, with_writes}
+use Rattle.am_core.specs.Kept.{Local, IsKept, start_from, with_writes}
 use Rattle.am_core.specs.Library.{is_library, library_outcome}
 use Rattle.am_core.specs.HandlerRuns.{handlers_of, frame_of_run, landing, outcome, run_request, place_of}
 use Rattle.collective_area.specs.Area.{Area, IsArea, part_place, data_place, stamp_in, word_in, data_in}
@@ -227,7 +227,7 @@ collective_left settings table meaning contact content me local serves handler f
     let handlers = handlers_of settings table meaning in
     let frame = frame_of_run handlers role.Request contact content in
     let landed = with_writes local (landing content) in
-    let start = start_of settings landed in
+    let start = start_from settings landed in
     let long : length start.segment ≡ settings.segment = length-image settings.segment landed.writes
     (all_fit-append settings.segment local.writes (landing content) kept.writes fit) in
     let header = λ (len : ℕ). header_for len content.args (place_of content) in

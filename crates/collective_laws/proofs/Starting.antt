@@ -19,7 +19,7 @@ use Rattle.node_record.specs.NodeStep.{site_of}
 use Rattle.plain_world.specs.Plain.{Plain, plain_of, with_plain}
 use Rattle.plain_world.specs.PlainStep.{AskStep}
 use Rattle.plain_world.specs.Invariant.{Holds}
-use Rattle.am_core.specs.Kept.{Local, start_of, with_writes}
+use Rattle.am_core.specs.Kept.{Local, start_from, with_writes}
 use Rattle.am_core.specs.Library.{is_library, library_outcome}
 use Rattle.am_core.specs.HandlerRuns.{frame_of_run, handlers_of, landing, reply_or_ack, run_reply, run_request}
 use Rattle.endpoint_rules.specs.EndpointLocal.{EndpointLocal, IsEndpointKept}
@@ -117,7 +117,7 @@ pub collective_acks : (settings : Parameters) (table : List (Option Entry)) (mea
 collective_acks settings table meaning contact content local serves handler =
     let handlers = handlers_of settings table meaning in
     let frame = frame_of_run handlers role.Request contact content in
-    let start = start_of settings (with_writes local (landing content)) in
+    let start = start_from settings (with_writes local (landing content)) in
     ap (λ (run : Outcome). reply_or_ack run.reply)
     (client content.handler frame start handler ∙ ap (closed frame) (serves frame start))
   where

@@ -32,7 +32,7 @@ use Rattle.gas_collectives.specs.declared.answers.StartAnswer.{StartAnswer}
 use Rattle.gas_collectives.specs.declared.answers.StepAnswer.{StepAnswer}
 use Rattle.collective_area.specs.declared.shape.Shape.{Shape}
 use Rattle.node_caller.specs.Sites.{ThreadCall as CallerCall, node_in_the_end, node_then}
-use Rattle.node_runs.specs.Outgoing.{slot_of, StaysWell}
+use Rattle.node_runs.specs.Outgoing.{slot_of_packet, StaysWell}
 use Rattle.node_runs.specs.Scripts.{TryContext}
 use Rattle.node_runs.specs.Turn.{events_of, node_run, node_sends}
 use Rattle.collective_steps.specs.Outcomes.{Outcome, end_by, end_outcome, last_from, sent_by, start_by}
@@ -59,7 +59,7 @@ pub record Goes (at : TryContext) (node : Node EndpointLocal) (calls : List Call
   where
     pub leaves : node_in_the_end (site_of at) node calls
         ≡ node_run (job_at at) at.me at.now (events_by at calls) node
-    pub slots_are : slots ≡ map slot_of (node_sends (job_at at) at.me at.now (events_by at calls) node)
+    pub slots_are : slots ≡ map slot_of_packet (node_sends (job_at at) at.me at.now (events_by at calls) node)
     pub well : StaysWell (job_at at) (IsEndpointKept at.settings) at.me at.now (events_by at calls) node
 
 abbrev by_thread : TryContext → Meant → CallerCall
@@ -83,14 +83,14 @@ goes_quiet : (at : TryContext) (node : Node EndpointLocal) (call : Meant) (calls
 goes_quiet at node call calls slots none keeps rest = record {
   leaves = rest.leaves;
   slots_are = rest.slots_are
-      ∙ ap (λ (packets : List Packet). map slot_of (packets
+      ∙ ap (λ (packets : List Packet). map slot_of_packet (packets
       ++ node_sends (job_at at) at.me at.now (events_by at calls) (then_at at node call))) (sym none);
   well = (keeps, rest.well);
 }
 
 -- the last call
 goes_last : (at : TryContext) (node : Node EndpointLocal) (call : Meant) (slots : List SlotRef)
-    → slots ≡ map slot_of (packets_at at node call ++ []) → Keeps at node → Keeps at (then_at at node call)
+    → slots ≡ map slot_of_packet (packets_at at node call ++ []) → Keeps at node → Keeps at (then_at at node call)
     → Goes at node (by_thread at call ∷ []) slots
 goes_last at node call slots are keeps later = record { leaves = refl; slots_are = are; well = (keeps, later) }
 
@@ -152,7 +152,7 @@ answer_to at node to what = request_answer (record_site (job_at at) at.me) node 
 slots_by : (at : TryContext) (node : Node EndpointLocal) (to : ℕ) (what : Asking) (a : Asked)
     → answer_to at node to what ≡ a
     → option_to_list (sends (asked_answer a))
-    ≡ map slot_of (asked_sends (record_site (job_at at) at.me) node (ask_by at to what) a ++ [])
+    ≡ map slot_of_packet (asked_sends (record_site (job_at at) at.me) node (ask_by at to what) a ++ [])
 slots_by at node to what (asked.Accepted peer slot number) e =
     let says = accepted_says (record_site (job_at at) at.me) node (ask_by at to what) peer slot number e in
     ap (λ (t : ℕ). request_slot t slot ∷ []) says.peer_is
@@ -165,10 +165,11 @@ slots_by at node to what asked.NotYet e = refl
 
 slots_sent : (at : TryContext) (node : Node EndpointLocal) (to : ℕ) (what : Asking) (a : Asked)
     → answer_to at node to what ≡ a
-    → option_to_list (sends (asked_answer a)) ≡ map slot_of (packets_at at node (Requests to what) ++ [])
+    → option_to_list (sends (asked_answer a)) ≡ map slot_of_packet (packets_at at node (Requests to what) ++ [])
 slots_sent at node to what a e =
     slots_by at node to what a e
-    ∙ ap (λ (x : Asked). map slot_of (asked_sends (record_site (job_at at) at.me) node (ask_by at to what) x ++ []))
+    ∙ ap (λ (x : Asked). map slot_of_packet
+    (asked_sends (record_site (job_at at) at.me) node (ask_by at to what) x ++ []))
     (sym e)
 
 -- no request that was not accepted sends or breaks anything

@@ -33,7 +33,7 @@ use Rattle.gas_collectives.specs.declared.answers.StepAnswer.{StepAnswer}
 use Rattle.gas_endpoint.specs.EndpointState.{EndpointState, EndpointStands}
 use Rattle.node_caller.specs.Sites.{Site, ThreadCall as CallerCall, answer_at, node_in_the_end, node_then}
 use Rattle.node_runs.specs.Actions.{Part}
-use Rattle.node_runs.specs.Outgoing.{slot_of, StaysWell}
+use Rattle.node_runs.specs.Outgoing.{slot_of_packet, StaysWell}
 use Rattle.node_runs.specs.Scripts.{ThreadCall, TryContext}
 use Rattle.node_runs.specs.Turn.{node_run, node_sends}
 use Rattle.node_runs.specs.declared.script_answer.ScriptAnswer.{ScriptAnswer}
@@ -251,12 +251,12 @@ goes_both at node first second slots A B =
           ∙ ap (λ (es : List RecordEvent). node_run (job_at at) at.me at.now es node)
           (sym (events_both at first second)))));
       slots_are = A.slots_are
-          ∙ (sym (append-nil (map slot_of sent))
-          ∙ (ap (λ (more : List SlotRef). map slot_of sent ++ more) later.slots_are
-          ∙ (sym (map-append slot_of sent
+          ∙ (sym (append-nil (map slot_of_packet sent))
+          ∙ (ap (λ (more : List SlotRef). map slot_of_packet sent ++ more) later.slots_are
+          ∙ (sym (map-append slot_of_packet sent
           (node_sends (job_at at) at.me at.now (events_by at second) ran))
-          ∙ (ap (map slot_of) (sym (sends_both at (events_by at first) (events_by at second) node))
-          ∙ ap (λ (es : List RecordEvent). map slot_of (node_sends (job_at at) at.me at.now es node))
+          ∙ (ap (map slot_of_packet) (sym (sends_both at (events_by at first) (events_by at second) node))
+          ∙ ap (λ (es : List RecordEvent). map slot_of_packet (node_sends (job_at at) at.me at.now es node))
           (sym (events_both at first second))))));
       well = subst (λ (es : List RecordEvent).
           StaysWell (job_at at) (IsEndpointKept at.settings) at.me at.now es node)
@@ -289,7 +289,7 @@ step_ended at node it dest told end last next new C G is =
       next_is = ap Some C.next_is;
     })
 
--- no node is known to be exhausted out
+-- no node is known to be exhausted
 none_exhausted : (it : CollectivesState) → exhausted_node it.area it.me (progress_of it) ≡ None → NoneExhausted it it.area.nodes
 none_exhausted it none node low =
     let high : node < 0 + it.area.nodes = omega (arith, low) in
@@ -302,7 +302,7 @@ unexhausted_is it = go (exhausted_node it.area it.me (progress_of it))
     go None e = refl
     go (Some node) e = absurd (true≢false (sym e))
 
--- a try that isn't ready leaves the collectives, and knows no node to be exhausted out
+-- a try that isn't ready leaves the collectives, and knows no node to be exhausted
 record IsUnready (it next : CollectivesState) : Type 0 where
   pub same : next ≡ it
   pub none : exhausted_node it.area it.me (progress_of it) ≡ None

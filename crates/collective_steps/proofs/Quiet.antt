@@ -106,7 +106,7 @@ below site thread to (suc many) node it other low =
 
 -- ---- a step without effect
 
--- no node among so many is known to be exhausted out
+-- no node among so many is known to be exhausted
 abbrev pub NoneExhausted : CollectivesState → (nodes : ℕ) → Type 0
 NoneExhausted it nodes = (node : ℕ) → node < nodes → has_exhausted it.me (progress_of it) node ≡ false
 
@@ -166,7 +166,7 @@ off_same : (it : CollectivesState) (to nodes : ℕ) → is_left it.me to (progre
 off_same it to nodes left inside before =
     ap (λ (marks : List Bool). record it { exhausted = marks }) (set_off it.exhausted to (exhausted_mark it to left (before to inside)))
 
--- a node that is exhausted out stays so
+-- a node that is exhausted stays so
 exhausted_stays : (site : Site) (thread to many nodes : ℕ) (next : Node EndpointLocal) (it : CollectivesState)
     → is_left it.me to (progress_of it) ≡ true → to < nodes → nodes ≤ length it.exhausted
     → Same it nodes (step_from site thread (suc to) many next (record it { exhausted = slice_set it.exhausted to true }))

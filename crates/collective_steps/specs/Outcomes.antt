@@ -127,7 +127,7 @@ abbrev pub is_nothing : StepAnswer → Bool
 is_nothing steps.Nothing = true
 is_nothing answer = false
 
--- no node that wasn't sent to is known to be exhausted out
+-- no node that wasn't sent to is known to be exhausted
 abbrev pub is_unexhausted : CollectivesState → Bool
 is_unexhausted it = is_none (exhausted_node it.area it.me (progress_of it))
 

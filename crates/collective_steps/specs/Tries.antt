@@ -13,7 +13,7 @@ use Rattle.gas_endpoint.specs.EndpointState.{EndpointState, EndpointStands}
 use Rattle.node_caller.specs.Sites.{Site, node_in_the_end}
 use Rattle.node_record.specs.NodeStep.{Job}
 use Rattle.node_runs.specs.Actions.{Part}
-use Rattle.node_runs.specs.Outgoing.{slot_of, StaysWell}
+use Rattle.node_runs.specs.Outgoing.{slot_of_packet, StaysWell}
 use Rattle.node_runs.specs.Scripts.{TryContext}
 use Rattle.node_runs.specs.Turn.{events_of, first_answer, node_run, node_sends}
 use Rattle.node_runs.specs.declared.script_answer.ScriptAnswer.TheVariants as said
@@ -82,7 +82,7 @@ pub record IsPartTried (at : TryContext) (node : Node EndpointLocal) (part : Par
     (tried : PartTried) (next : CollectivesState) (new : EndpointState) : Type 0 where
   pub stands : EndpointStands new (node_run (job_at at) at.me at.now (events_in at part) node)
   pub slots_are : option_to_list tried.sent
-      ≡ map slot_of (node_sends (job_at at) at.me at.now (events_in at part) node)
+      ≡ map slot_of_packet (node_sends (job_at at) at.me at.now (events_in at part) node)
   pub well : StaysWell (job_at at) (IsEndpointKept at.settings) at.me at.now (events_in at part) node
   pub ended : tried.ended ≡ part.ended
   pub moved : tried.moved ≡ is_some part.next

@@ -44,12 +44,12 @@ abbrev pub opened_bytes_at : SlotsState → ℕ → ℕ → List ℕ
 opened_bytes_at table to slot = elim (slot_at table to slot) [ Some state ↦ opened_bytes state | None ↦ [] ]
 
 -- the message of a slot of this node, if it is sealed
-abbrev pub message_at : SlotsState → ℕ → ℕ → Option (List ℕ)
-message_at table to slot = option_and_then message_of (slot_at table to slot)
+abbrev pub sealed_message_at : SlotsState → ℕ → ℕ → Option (List ℕ)
+sealed_message_at table to slot = option_and_then message_of (slot_at table to slot)
 
 -- the number of the message in a slot of this node, if it is sealed
-abbrev pub number_at : SlotsState → ℕ → ℕ → Option ℕ
-number_at table to slot = option_and_then message_number (slot_at table to slot)
+abbrev pub sealed_number_at : SlotsState → ℕ → ℕ → Option ℕ
+sealed_number_at table to slot = option_and_then message_number (slot_at table to slot)
 
 -- the slot of this node is taken by the request with this number
 abbrev pub IsTakenAt : SlotsState → ℕ → ℕ → ℕ → Type 0

@@ -12,7 +12,8 @@ use Rattle.std.proofs.Math.ListN.{drop_of_length-le}
 use Rattle.datagram_grammar.specs.Content.{is_version}
 use Rattle.datagram_grammar.specs.declared.note.BarrierNote.{BarrierNote}
 use Rattle.datagram_grammar.specs.Notes.{IsNote, IsMask, mask_number, most_nodes, note_count, note_arguments, high_half}
-use Rattle.datagram_grammar.specs.Notes.{low_half, joined, argument, arguments_at, middle, mask_of, is_wrong_flags}
+use Rattle.datagram_grammar.specs.Notes.{low_half, joined_halves, argument, arguments_at, middle, mask_of}
+use Rattle.datagram_grammar.specs.Notes.{is_wrong_flags}
 use Rattle.datagram_grammar.specs.Notes.{is_no_note, mask_arguments}
 use Rattle.datagram_grammar.proofs.Masks.{four}
 
@@ -63,7 +64,7 @@ parted version args known =
 
 -- ---- a note again
 
-pub joined_again : (number : ℕ) → number < 2 ^ 64 → joined (high_half number) (low_half number) ≡ number
+pub joined_again : (number : ℕ) → number < 2 ^ 64 → joined_halves (high_half number) (low_half number) ≡ number
 joined_again number low =
     let high : cast_unsigned w32 (high_half number) ≡ number / 2 ^ 32 = of_z-to_z w32 (number / 2 ^ 32) (omega arith) in
     let rest : cast_unsigned w32 (low_half number) ≡ number % 2 ^ 32 = of_z-to_z w32 (number % 2 ^ 32) (omega arith) in
@@ -116,7 +117,7 @@ unfolding size
 one_note version nodes first second known few one two same =
     let phase : first.phase ≡ second.phase =
     sym (joined_again first.phase one.phase)
-    ∙ (ap (λ args. joined (argument args 0) (argument args 1)) same ∙ joined_again second.phase two.phase) in
+    ∙ (ap (λ args. joined_halves (argument args 0) (argument args 1)) same ∙ joined_again second.phase two.phase) in
     let mask : first.mask ≡ second.mask =
     sym (mask_again version nodes first known few one.mask)
     ∙ (ap (mask_of version) same ∙ mask_again version nodes second known few two.mask) in

@@ -64,8 +64,8 @@ note_arguments version note =
 -- ---- read again
 
 -- the number with these halves
-abbrev pub joined : (high low : ℤ) → ℕ
-joined high low = cast_unsigned w32 high * 2 ^ 32 + cast_unsigned w32 low
+abbrev pub joined_halves : (high low : ℤ) → ℕ
+joined_halves high low = cast_unsigned w32 high * 2 ^ 32 + cast_unsigned w32 low
 
 abbrev pub argument : List ℤ → (i : ℕ) → ℤ
 argument args i = get_or args i (pos 0)
@@ -81,7 +81,7 @@ middle version args = arguments_at args 2 (note_count version - 4)
 
 -- the word of the mask whose halves stand at a place and behind it
 abbrev pub word_at : List ℤ → (at : ℕ) → ℕ
-word_at args at = joined (argument args (at + 1)) (argument args at)
+word_at args at = joined_halves (argument args (at + 1)) (argument args at)
 
 -- the mask; nodes that a version hasn't are not in it
 abbrev pub mask_of : (version : ℕ) → List ℤ → List ℕ

@@ -5,7 +5,7 @@ ghost use Rattle.std.specs.Prelude.{slice_index, pos, Some, IfSome, is_none};
 ghost use Rattle.datagram_grammar.specs.Content.{is_version};
 ghost use Rattle.datagram_grammar.specs.Notes.{IsNote, most_nodes, note_count, note_arguments};
 ghost use Rattle.datagram_grammar.specs.Notes.{is_no_note, is_wrong_flags, high_half, low_half};
-ghost use Rattle.datagram_grammar.specs.Notes.{joined, word_at, mask_of, mask_arguments, middle};
+ghost use Rattle.datagram_grammar.specs.Notes.{joined_halves, word_at, mask_of, mask_arguments, middle};
 ghost use Rattle.datagram_grammar.specs.Notes.{arguments_at, word_fits, mask_fits};
 
 /// What a node tells another one of a phase of the barrier (profile: split-phase barriers of GASNet 1.8.1, extended
@@ -38,7 +38,7 @@ pub fn low_half(number: u64) -> i32
 
 /// The number with these halves, each an argument.
 pub fn joined(high: i32, low: i32) -> u64
-    ensures value { result ≡ joined high low }
+    ensures value { result ≡ joined_halves high low }
     ensures high { high_half result ≡ high }
     ensures low { low_half result ≡ low }
 {

@@ -7,6 +7,7 @@ ghost use Rattle.datagram_grammar.specs.declared.pairs.PairCredits.{PairCredits}
 ghost use Rattle.datagram_grammar.specs.Content.{is_version};
 
 use crate::kind::is_version;
+use crate::limits::MAX_CREDITS;
 use crate::pairs::{PairCredits, own_credits};
 use std::marker::Model;
 
@@ -143,7 +144,7 @@ impl Settings {
             return None;
         }
         let sum = u32::from(nodes) * u32::from(nodes - 1) * u32::from(credits);
-        if sum > 65_536 {
+        if sum > MAX_CREDITS {
             return None;
         }
         if threads < 1 || threads > 16 {
@@ -201,7 +202,7 @@ impl Settings {
             return None;
         }
         let sum = self.sum + u32::from(credits) - u32::from(self.credits);
-        if sum > 65_536 {
+        if sum > MAX_CREDITS {
             return None;
         }
         let mut places = self.places;

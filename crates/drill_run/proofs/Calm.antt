@@ -43,11 +43,11 @@ use Rattle.lists.specs.Put.{put}
 use Rattle.plain_world.specs.World.{Asks, Does, Ticks, after_at, reply_event, request_event}
 use Rattle.plain_world.specs.World.{world_after}
 use Rattle.am_core.specs.ClientRules.{content_refusal, short_asking}
-use Rattle.am_core.specs.HandlerRuns.{NodeHandlers, client_outcome, frame_of_run, landing, left_by}
+use Rattle.am_core.specs.HandlerRuns.{NodeHandlers, client_outcome, frame_of_run, landing, left_by_run}
 use Rattle.am_core.specs.HandlerRuns.{handlers_of as node_handlers}
 use Rattle.am_core.specs.HandlerRuns.{outcome}
 use Rattle.am_core.specs.HandlerRuns.{run_reply, run_request}
-use Rattle.am_core.specs.Kept.{Local, start_of, with_writes}
+use Rattle.am_core.specs.Kept.{Local, start_from, with_writes}
 use Rattle.am_core.specs.Library.{is_library, library_outcome, library_refusal}
 use Rattle.put_get.specs.declared.operation.Mode.{Mode}
 use Rattle.put_get.specs.declared.operation.ImplicitKinds.{ImplicitKinds}
@@ -74,7 +74,7 @@ use Rattle.world_run.specs.Schedules.{Nodes, nodes_after, nodes_behind, opening_
 use Rattle.world_run.proofs.LinesRun.{schedule_runs}
 use Rattle.world_run.specs.RunText.{any_violation, is_violated, run_records, violations}
 use Rattle.drill_run.specs.Draws.{before_round, round_at}
-use Rattle.drill_run.specs.Rounds.{bare_job, deed_lines, drill_job, drill_schedule, drill_settings, number_of}
+use Rattle.drill_run.specs.Rounds.{bare_job, deed_lines, drill_job, drill_schedule, drill_settings, delivered_number}
 use Rattle.drill_run.specs.Rounds.{round_lines}
 use Rattle.drill_run.specs.Rounds.{rounds_lines}
 use Rattle.drill_run.specs.declared.rounds.Deed.{Deed}
@@ -184,25 +184,25 @@ outcome_quiet table which contact content start right locks =
     outcome_by table which contact content start (is_library content.handler) right locks
 
 left_clean : (which : Role) (outcome : Outcome) (local : Local) → outcome.refused ≡ [] → IsClean local
-    → IsClean (left_by which outcome local)
+    → IsClean (left_by_run which outcome local)
 left_clean which outcome local none clean = (clean.0, rw (clean.1, none) refl)
 
 run_clean : (table : List (Option Entry)) (contact : Contact) (content : Content) (local : Local) → IsClean local
     → IsClean (run_request (handlers table) contact content local).0
 run_clean table contact content local clean =
     let landed = with_writes local (landing content) in
-    let start = start_of drill_settings landed in
+    let start = start_from drill_settings landed in
     left_clean role.Request (outcome (handlers table) role.Request contact content start) landed
     (outcome_quiet table role.Request contact content start (λ e. refl) clean.0) clean
 
 take_by : (table : List (Option Entry)) (contact : Contact) (content : Content) (local : Local) (ack : Bool)
     → (ack ≡ false → eqb 128 content.handler ≡ false) → IsClean local
-    → IsClean (cond ack local (left_by role.Reply (outcome (handlers table) role.Reply contact content
-    (start_of drill_settings (with_writes local (landing content)))) (with_writes local (landing content))))
+    → IsClean (cond ack local (left_by_run role.Reply (outcome (handlers table) role.Reply contact content
+    (start_from drill_settings (with_writes local (landing content)))) (with_writes local (landing content))))
 take_by table contact content local true other clean = clean
 take_by table contact content local false other clean =
     let landed = with_writes local (landing content) in
-    let start = start_of drill_settings landed in
+    let start = start_from drill_settings landed in
     left_clean role.Reply (outcome (handlers table) role.Reply contact content start) landed
     (outcome_quiet table role.Reply contact content start (λ e. absurd (not_both (other refl) e)) clean.0) clean
   where
@@ -482,11 +482,12 @@ deed_clean table time deeds.Tick round before nodes none other all =
     tick_world table nodes.group.records time round.from all
 deed_clean table time deeds.Request round before nodes none other all =
     let w = nodes.group.records in
-    let number = number_of round before.group.records in
+    let number = delivered_number round before.group.records in
     request_by table w time round.from round.to number (numbered ((w round.from).asked round.to) number) none all
 deed_clean table time deeds.Reply round before nodes none other all =
     let w = nodes.group.records in
-    reply_by table w time round.from round.to (run_of (number_of round before.group.records) ((w round.to).ran round.from))
+    reply_by table w time round.from round.to
+    (run_of (delivered_number round before.group.records) ((w round.to).ran round.from))
     none all
 
 -- lines, and lines behind them

@@ -7,9 +7,9 @@ use Rattle.handler_rules.specs.Runs.{Meaning}
 use Rattle.plain_world.specs.World.{Timed, world_after, world_answer}
 use Rattle.endpoint_rules.specs.EndpointRules.{OtherCall, Records, RecordsEvent, at_the_opening, job_of, timed}
 use Rattle.endpoint_rules.specs.EndpointRules.{transition}
-use Rattle.gas_world.specs.Events.{ForItsRecords, Steps, job_in}
+use Rattle.gas_world.specs.Events.{ForItsRecords, StepsInWorld, job_in}
 use Rattle.gas_world.specs.Settling.{WorldJob}
-use Rattle.gas_world.specs.Stands.{Stands}
+use Rattle.gas_world.specs.Stands.{WorldStands}
 use Rattle.gas_world.specs.WorldTold.{world_told}
 use Rattle.gas_world.specs.WorldState.{WorldState}
 use Rattle.gas_world.specs.declared.event.WorldAnswer.{WorldAnswer}
@@ -25,11 +25,11 @@ use Rattle.plain_world.specs.MostHeld.{most_after}
 use Rattle.world_run.specs.Schedules.{Nodes, line_events, nodes_after, nodes_behind, opening_nodes, schedule_events}
 use Rattle.world_run.specs.Schedules.{world_job}
 use Rattle.world_run.proofs.LinesRun.{schedule_runs}
-use Rattle.world_run.specs.RunText.{line_words, node_of, run_most, run_records, world_words}
+use Rattle.world_run.specs.RunText.{line_words, node_of_event, run_most, run_records, world_words}
 use Rattle.world_run.specs.ScheduleRun.{StandsAfter}
 use Rattle.drill_run.specs.Counting.{AreAtMost, Tallies, count_in}
 use Rattle.drill_run.specs.Draws.{round_at}
-use Rattle.drill_run.specs.Drilling.{CountsEvent, CountsLines, IsDrilled, Stage, job_by}
+use Rattle.drill_run.specs.Drilling.{CountsEvent, CountsLines, IsDrilled, DrillStage, job_by}
 use Rattle.drill_run.specs.Rounds.{at_time, bare_job, drill_job, drill_schedule, drill_settings, round_lines}
 use Rattle.drill_run.specs.Rounds.{rounds_lines}
 use Rattle.drill_run.specs.Summary.{answers_to, count_of, drill_answers}
@@ -60,7 +60,7 @@ answers_append job (x ∷ xs) ys nodes =
 -- ---- stages
 
 -- lines, and then those that the nodes behind them decide
-pub lines_then : (job : WorldJob) (lines more : Nodes → List TimedEvent) (old mid new : Stage)
+pub lines_then : (job : WorldJob) (lines more : Nodes → List TimedEvent) (old mid new : DrillStage)
     → CountsLines job lines old mid → CountsLines job more mid new
     → CountsLines job (λ nodes. lines nodes ++ more (nodes_behind job (lines nodes) nodes)) old new
 lines_then job lines more old mid new h k = λ nodes most stands.
@@ -72,7 +72,7 @@ lines_then job lines more old mid new h k = λ nodes most stands.
     let most_now = most_after job events records most in
     let first = h nodes most stands in
     let then = k after most_now
-    (subst (λ (all : Records). Stands mid.world all most_now) (sym same) first.0) in
+    (subst (λ (all : Records). WorldStands mid.world all most_now) (sym same) first.0) in
     rw (schedule_append job (lines nodes) (more after) nodes, answers_append job (lines nodes) (more after) nodes) (
       stands_both job new.world events later records most
           (subst (λ (all : Records). StandsAfter job new.world later all most_now) same then.0),
@@ -83,7 +83,7 @@ lines_then job lines more old mid new h k = λ nodes most stands.
 -- ---- events
 
 -- an event happened, and its answer was counted
-counted_event : (meaning : Meaning) (old new : Stage) (event : Timed OtherCall) (answer : WorldAnswer)
+counted_event : (meaning : Meaning) (old new : DrillStage) (event : Timed OtherCall) (answer : WorldAnswer)
     → ForItsRecords old.world (λ records most.
     (answer ≡ world_told (world_answer (job_in meaning old.world) records event))
     × StandsAfter (job_in meaning old.world) new.world (event ∷ []) records most)
@@ -92,14 +92,14 @@ counted_event : (meaning : Meaning) (old new : Stage) (event : Timed OtherCall) 
 counted_event meaning old new event answer steps tallies = λ nodes most stands.
     let records = nodes.group.records in
     let stepped = steps records most stands in
-    let node = node_of event.event in
+    let node = node_of_event event.event in
     let sight = sight_of old.world.settings node (world_after (job_in meaning old.world) records event node) in (
       stepped.1,
       subst (λ (a : WorldAnswer). Tallies old.counts new.counts (world_words sight a ∷ [])) stepped.0 (tallies sight),
     )
 
-pub event_counts : (meaning : Meaning) (old new : Stage) (now : ℕ) (event : RecordsEvent) (answer : WorldAnswer)
-    → (answer ≡ answers.NoMemory → ⊥) → Steps meaning old.world (transition now event answer) new.world
+pub event_counts : (meaning : Meaning) (old new : DrillStage) (now : ℕ) (event : RecordsEvent) (answer : WorldAnswer)
+    → (answer ≡ answers.NoMemory → ⊥) → StepsInWorld meaning old.world (transition now event answer) new.world
     → ((sight : Sight) → Tallies old.counts new.counts (world_words sight answer ∷ []))
     → CountsEvent (job_in meaning old.world) (timed now event) old new
 event_counts meaning old new now event (answers.Node answer) n steps tallies =
@@ -109,7 +109,7 @@ event_counts meaning old new now event answers.Unsent n steps tallies =
 event_counts meaning old new now event answers.NoMemory n steps tallies = absurd (n refl)
 
 -- a message whose number the records decide
-pub delivery_counts : (job : WorldJob) (old new : Stage) (time number : ℕ) (by : Records → ℕ)
+pub delivery_counts : (job : WorldJob) (old new : DrillStage) (time number : ℕ) (by : Records → ℕ)
     (event : ℕ → ScheduledEvent)
     → ForItsRecords old.world (λ records most. number ≡ by records)
     → CountsLines job (λ nodes. at_time time (event number) ∷ []) old new
@@ -121,7 +121,7 @@ delivery_counts job old new time number by event same h = λ nodes most stands.
     (same nodes.group.records most stands) (h nodes most stands)
 
 -- two lines, where the second one's world has the settings and the table of the first one's
-pub two_lines : (text : JobState) (old mid new : Stage) (first second : TimedEvent)
+pub two_lines : (text : JobState) (old mid new : DrillStage) (first second : TimedEvent)
     → mid.world.settings ≡ old.world.settings → mid.world.table ≡ old.world.table
     → CountsLines (job_by text old.world) (λ nodes. first ∷ []) old mid
     → CountsLines (job_by text mid.world) (λ nodes. second ∷ []) mid new
@@ -144,11 +144,11 @@ same_drill P text world same drilled h =
     (subst (λ (s : Parameters). P (job_of s world.table (script_meaning (handlers_of bare_job)))) drilled.settings
     (subst (λ (t : JobState). P (job_by t world)) same h))
 
-pub no_rounds : (job : WorldJob) (seed : ℕ) (old : Stage) → CountsLines job (rounds_lines job seed 0) old old
+pub no_rounds : (job : WorldJob) (seed : ℕ) (old : DrillStage) → CountsLines job (rounds_lines job seed 0) old old
 unfolding rounds_lines
 no_rounds job seed old = λ nodes most stands. (stands, tallies_none old.counts)
 
-pub one_more_round : (job : WorldJob) (seed count : ℕ) (old mid new : Stage)
+pub one_more_round : (job : WorldJob) (seed count : ℕ) (old mid new : DrillStage)
     → CountsLines job (rounds_lines job seed count) old mid
     → CountsLines job (round_lines count (round_at seed count)) mid new
     → CountsLines job (rounds_lines job seed (count + 1)) old new
@@ -159,11 +159,11 @@ one_more_round job seed count old mid new h k =
     (lines_then job (rounds_lines job seed count) (round_lines count (round_at seed count)) old mid new h k)
 
 -- what the drill came to: the world stands for the end of its run, and its answers were counted
-pub record HasRun (seed : ℕ) (new : Stage) : Type 0 where
-  pub stands : Stands new.world (run_records (drill_job seed)) (run_most (drill_job seed))
+pub record HasRun (seed : ℕ) (new : DrillStage) : Type 0 where
+  pub stands : WorldStands new.world (run_records (drill_job seed)) (run_most (drill_job seed))
   pub counts : (counted : Counted) → count_in new.counts counted ≡ count_of counted (drill_answers seed)
 
-pub all_rounds : (seed : ℕ) (old new : Stage) → Stands old.world (at_the_opening drill_settings) (λ i. 0)
+pub all_rounds : (seed : ℕ) (old new : DrillStage) → WorldStands old.world (at_the_opening drill_settings) (λ i. 0)
     → AreAtMost 0 old.counts → CountsLines (world_job bare_job) (rounds_lines (world_job bare_job) seed 20000) old new
     → HasRun seed new
 unfolding drill_schedule

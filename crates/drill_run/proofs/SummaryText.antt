@@ -9,7 +9,7 @@ use Rattle.gas_outside.specs.declared.writing.Wrote.{Wrote}
 use Rattle.gas_outside.specs.declared.writing.Wrote.TheVariants as wrote
 use Rattle.gas_outside.proofs.Outboxes.{gathers_first, gathers_then}
 use Rattle.node_script.specs.Lines.{Line, spell, line_text}
-use Rattle.world_run.specs.LinesWritten.{Says, said_of}
+use Rattle.world_run.specs.LinesWritten.{SaysLines, said_of}
 use Rattle.drill_run.specs.Summary.{all_counted, count_lines, counted_word}
 use Rattle.drill_run.specs.declared.counts.Counted.{Counted}
 
@@ -86,6 +86,6 @@ drill_written a b c d first counts ends r h k l =
 
 -- what was written, as lines that were said
 pub lines_told : (a b : Outbox) (lines : List Line) (r : Wrote) → GathersAll a b (spell lines) r
-    → Says a b lines (said_of r)
+    → SaysLines a b lines (said_of r)
 lines_told a b lines wrote.Done h = h
 lines_told a b lines wrote.Fault h = h

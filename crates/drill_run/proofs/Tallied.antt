@@ -8,7 +8,7 @@ use Rattle.std.proofs.lemmas.Grind.{get_or-set_at}
 use Rattle.std.proofs.lemmas.List.{get_or-set_other}
 use Rattle.std.proofs.lemmas.List.Sums.{sum_by-append}
 use Rattle.node_script.specs.Lines.{Line}
-use Rattle.drill_run.specs.Counting.{Tallies, count_in, is_counted, place_of}
+use Rattle.drill_run.specs.Counting.{Tallies, count_in, is_counted, count_place}
 use Rattle.drill_run.specs.Summary.{begins_with, count_of, counted_word}
 use Rattle.drill_run.specs.declared.counts.Counted.{Counted}
 use Rattle.drill_run.proofs.CountedWords.{AreCountedAs}
@@ -37,15 +37,15 @@ pub tallies_other : (counts : List ℕ) (words : Line) → AreCountedAs words No
 tallies_other counts words told word = sym (count_of_one counts words word false (told word) ∙ omega arith)
 
 -- one whose first word is
-pub tallies_one : (counts : List ℕ) (words : Line) (counted : Counted) → place_of counted < length counts
+pub tallies_one : (counts : List ℕ) (words : Line) (counted : Counted) → count_place counted < length counts
     → AreCountedAs words (Some counted)
-    → Tallies counts (set counts (place_of counted) (count_in counts counted + 1)) (words ∷ [])
-tallies_one counts words counted there told word = elim (eqb_tells (place_of word) (place_of counted)) [
+    → Tallies counts (set counts (count_place counted) (count_in counts counted + 1)) (words ∷ [])
+tallies_one counts words counted there told word = elim (eqb_tells (count_place word) (count_place counted)) [
   | inl same ↦
-      get_or-set_at counts (place_of counted) (place_of word) (count_in counts counted + 1) 0 same.1 there
+      get_or-set_at counts (count_place counted) (count_place word) (count_in counts counted + 1) 0 same.1 there
       ∙ (ap (λ place. get_or counts place 0 + 1) (sym same.1)
       ∙ sym (count_of_one counts words word true (told word ∙ same.0)))
   | inr other ↦
-      get_or-set_other counts (place_of counted) (place_of word) (count_in counts counted + 1) 0 other.1
+      get_or-set_other counts (count_place counted) (count_place word) (count_in counts counted + 1) 0 other.1
       ∙ sym (count_of_one counts words word false (told word ∙ other.0) ∙ omega arith)
 ]

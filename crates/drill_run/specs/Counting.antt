@@ -18,20 +18,20 @@ use Rattle.drill_run.specs.declared.counts.Counted.TheVariants as counted
 -- ---- counts
 
 -- where a word's count stands among the counts
-abbrev pub place_of : Counted → ℕ
-place_of counted.Accepted = 0
-place_of counted.Chunk = 1
-place_of counted.Retransmission = 2
-place_of counted.Ran = 3
-place_of counted.Duplicate = 4
-place_of counted.Stale = 5
-place_of counted.Returned = 6
-place_of counted.Late = 7
-place_of counted.NotYet = 8
-place_of counted.Unsent = 9
+abbrev pub count_place : Counted → ℕ
+count_place counted.Accepted = 0
+count_place counted.Chunk = 1
+count_place counted.Retransmission = 2
+count_place counted.Ran = 3
+count_place counted.Duplicate = 4
+count_place counted.Stale = 5
+count_place counted.Returned = 6
+count_place counted.Late = 7
+count_place counted.NotYet = 8
+count_place counted.Unsent = 9
 
 abbrev pub count_in : List ℕ → Counted → ℕ
-count_in counts counted = slice_index counts (place_of counted)
+count_in counts counted = slice_index counts (count_place counted)
 
 -- no count is more than this
 abbrev pub AreAtMost : ℕ → List ℕ → Type 0
@@ -78,4 +78,4 @@ counted_by world_answers.NoMemory = None
 -- it is this one
 abbrev pub is_counted : Counted → Option Counted → Bool
 is_counted counted None = false
-is_counted counted (Some other) = place_of counted == place_of other
+is_counted counted (Some other) = count_place counted == count_place other

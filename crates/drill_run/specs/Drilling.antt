@@ -6,7 +6,7 @@ use Rattle.plain_world.specs.World.{Timed}
 use Rattle.endpoint_rules.specs.EndpointRules.{OtherCall}
 use Rattle.gas_world.specs.Events.{job_in}
 use Rattle.gas_world.specs.Settling.{WorldJob}
-use Rattle.gas_world.specs.Stands.{Stands}
+use Rattle.gas_world.specs.Stands.{WorldStands}
 use Rattle.gas_world.specs.WorldState.{WorldState}
 use Rattle.job_text.specs.declared.job.Job.{Job as JobState}
 use Rattle.job_text.specs.declared.job.TimedEvent.{TimedEvent}
@@ -21,27 +21,27 @@ use Rattle.drill_run.specs.Rounds.{drill_settings, bare_job}
 use Rattle.drill_run.specs.Summary.{answers_to}
 
 -- the world of a drill, and its counts
-pub record Stage : Type 0 where
+pub record DrillStage : Type 0 where
   pub world : WorldState
   pub counts : List ℕ
 
-abbrev pub stage : WorldState → (counts : List ℕ) → Stage
-stage world counts = record { world = world; counts = counts }
+abbrev pub drill_stage : WorldState → (counts : List ℕ) → DrillStage
+drill_stage world counts = record { world = world; counts = counts }
 
 -- of all nodes for whose records the world stood: it stands for those after these events, and their answers were counted
 abbrev pub Counts : WorldJob → (events : Nodes → List (Timed OtherCall)) → (answers : Nodes → List Line)
-    → (old new : Stage) → Type 0
+    → (old new : DrillStage) → Type 0
 Counts job events answers old new =
-    (nodes : Nodes) (most : ℕ → ℕ) → Stands old.world nodes.group.records most
+    (nodes : Nodes) (most : ℕ → ℕ) → WorldStands old.world nodes.group.records most
     → StandsAfter job new.world (events nodes) nodes.group.records most
     × Tallies old.counts new.counts (answers nodes)
 
 -- so of one event
-abbrev pub CountsEvent : WorldJob → Timed OtherCall → (old new : Stage) → Type 0
+abbrev pub CountsEvent : WorldJob → Timed OtherCall → (old new : DrillStage) → Type 0
 CountsEvent job event = Counts job (λ nodes. event ∷ []) (λ nodes. event_words job nodes.group.records event ∷ [])
 
 -- and of lines of a schedule, which the nodes decide
-abbrev pub CountsLines : WorldJob → (lines : Nodes → List TimedEvent) → (old new : Stage) → Type 0
+abbrev pub CountsLines : WorldJob → (lines : Nodes → List TimedEvent) → (old new : DrillStage) → Type 0
 CountsLines job lines =
     Counts job (λ nodes. schedule_events job (lines nodes) nodes) (λ nodes. answers_to job (lines nodes) nodes)
 

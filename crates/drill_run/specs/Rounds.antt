@@ -26,8 +26,8 @@ use Rattle.drill_run.specs.declared.rounds.Round.{Round}
 -- ---- a round
 
 -- the number of the message that a round delivers: so many before the last request of its pair, and at least 1
-abbrev pub number_of : Round → Records → ℕ
-number_of round records = max (length ((plain_of records).requests round.from round.to) - round.rest % 4) 1
+abbrev pub delivered_number : Round → Records → ℕ
+delivered_number round records = max (length ((plain_of records).requests round.from round.to) - round.rest % 4) 1
 
 -- the events of a round that does this, where it delivers the message with that number
 abbrev pub deed_events : Deed → Round → (number : ℕ) → List ScheduledEvent
@@ -46,7 +46,7 @@ at_time time event = record { time = time; event = event }
 -- the lines of a round that does this at this time, where the nodes are so
 abbrev pub deed_lines : (time : ℕ) → Deed → Round → Nodes → List TimedEvent
 deed_lines time deed round nodes =
-    map (at_time time) (deed_events deed round (number_of round nodes.group.records))
+    map (at_time time) (deed_events deed round (delivered_number round nodes.group.records))
 
 -- those of a round
 abbrev pub round_lines : (time : ℕ) → Round → Nodes → List TimedEvent

@@ -4,7 +4,7 @@ ghost use Rattle.std.specs.Prelude.{◌≡◌, ◌<◌, ◌+◌, ◌^◌, ◌-�
 ghost use Rattle.node_script.specs.AnswerWords.{Sight};
 ghost use Rattle.world_run.specs.RunText.{world_words};
 ghost use Rattle.drill_run.specs.Summary.{counted_word};
-ghost use Rattle.drill_run.specs.Counting.{AreAtMost, Tallies, count_in, counted_by, place_of};
+ghost use Rattle.drill_run.specs.Counting.{AreAtMost, Tallies, count_in, counted_by, count_place};
 ghost use Rattle.drill_run.specs.Counting.{asked_as, delivered_as, ticked_as};
 
 use endpoint_rules::{Answer, Ticked};
@@ -170,7 +170,7 @@ impl Counts {
 
 /// Where a word's count stands.
 fn place_of(counted: Counted) -> usize
-    ensures place { result ≡ place_of counted }
+    ensures place { result ≡ count_place counted }
     ensures within { result < 10 }
 {
     counted as usize

@@ -6,17 +6,18 @@ ghost use Rattle.gas_outside.specs.Buffered.{outbox};
 ghost use Rattle.endpoint_rules.specs.EndpointRules.{at_the_opening, timed};
 ghost use Rattle.gas_world.specs.Aims.{MayFall};
 ghost use Rattle.gas_world.specs.Events.{ForItsRecords, event_of};
-ghost use Rattle.gas_world.specs.Stands.{Stands};
+ghost use Rattle.gas_world.specs.Stands.{WorldStands};
 ghost use Rattle.plain_world.specs.World.{IsAmong};
 ghost use Rattle.world_run.specs.Schedules.{world_job};
-ghost use Rattle.world_run.specs.LinesWritten.{Says, OnDone};
+ghost use Rattle.world_run.specs.LinesWritten.{SaysLines, OnDone};
 ghost use Rattle.world_run.specs.RunLaws.{RunLaws};
 ghost use Rattle.world_run.specs.RunText.{is_violated};
 ghost use Rattle.world_run.specs.ScheduleRun.{StandsForRun};
 ghost use Rattle.drill_run.specs.Counting.{AreAtMost};
 ghost use Rattle.drill_run.specs.DrillEnds.{DrillEnds};
-ghost use Rattle.drill_run.specs.Drilling.{CountsEvent, CountsLines, IsDrilled, job_by, stage};
-ghost use Rattle.drill_run.specs.Rounds.{bare_job, deed_lines, drill_job, drill_settings, number_of, round_lines};
+ghost use Rattle.drill_run.specs.Drilling.{CountsEvent, CountsLines, IsDrilled, job_by, drill_stage};
+ghost use Rattle.drill_run.specs.Rounds.{bare_job, deed_lines, drill_job, drill_settings, delivered_number};
+ghost use Rattle.drill_run.specs.Rounds.{round_lines};
 ghost use Rattle.drill_run.specs.Rounds.{rounds_lines};
 ghost use Rattle.drill_run.specs.Summary.{drill_lines};
 ghost use Rattle.drill_run.specs.declared.rounds.Deed.TheVariants as Deed;
@@ -84,7 +85,8 @@ fn run_event(
     ensures table { world.new.table ≡ world.old.table }
     ensures few { (most : ℕ) → AreAtMost most counts.old → AreAtMost (most + 1) counts.new }
     ensures runs { OnOk result (CountsEvent (job_by script.now world.old)
-        (timed now (event_of event.now)) (stage world.old counts.old) (stage world.new counts.new)) }
+        (timed now (event_of event.now)) (drill_stage world.old counts.old)
+        (drill_stage world.new counts.new)) }
 {
     match world.step(script.handlers(), now, event) {
         WorldAnswer::NoMemory => Err(AllocError),
@@ -110,7 +112,8 @@ fn run_short(
     ensures table { world.new.table ≡ world.old.table }
     ensures few { (most : ℕ) → AreAtMost most counts.old → AreAtMost (most + 1) counts.new }
     ensures runs { OnOk result (CountsLines (job_by script.now world.old)
-        (deed_lines now Deed.Short round) (stage world.old counts.old) (stage world.new counts.new)) }
+        (deed_lines now Deed.Short round) (drill_stage world.old counts.old)
+        (drill_stage world.new counts.new)) }
 {
     let args = [(round.rest % 1000) as i32];
     let event = WorldEvent::Call {
@@ -140,7 +143,7 @@ fn run_put(
     ensures table { world.new.table ≡ world.old.table }
     ensures few { (most : ℕ) → AreAtMost most counts.old → AreAtMost (most + 2) counts.new }
     ensures runs { OnOk result (CountsLines (job_by script.now world.old)
-        (deed_lines now Deed.Put round) (stage world.old counts.old) (stage world.new counts.new)) }
+        (deed_lines now Deed.Put round) (drill_stage world.old counts.old) (drill_stage world.new counts.new)) }
 {
     let tried = WorldEvent::Call {
         node: round.from,
@@ -168,7 +171,7 @@ fn run_put(
 fn number_of(world: &World, round: Round) -> u64
     requires from { round.from < world.now.settings.nodes }
     requires to { round.to < world.now.settings.nodes }
-    ensures { ForItsRecords world.now (λ records most. result ≡ number_of round records) }
+    ensures { ForItsRecords world.now (λ records most. result ≡ delivered_number round records) }
 {
     let accepted = world.accepted(round.from, round.to);
     accepted.saturating_sub(u64::from(round.rest % 4)).max(1)
@@ -190,8 +193,8 @@ fn run_request(
     ensures table { world.new.table ≡ world.old.table }
     ensures few { (most : ℕ) → AreAtMost most counts.old → AreAtMost (most + 1) counts.new }
     ensures runs { OnOk result (CountsLines (job_by script.now world.old)
-        (deed_lines now Deed.Request round) (stage world.old counts.old)
-        (stage world.new counts.new)) }
+        (deed_lines now Deed.Request round) (drill_stage world.old counts.old)
+        (drill_stage world.new counts.new)) }
 {
     let event = WorldEvent::Request {
         from: round.from,
@@ -217,8 +220,8 @@ fn run_reply(
     ensures table { world.new.table ≡ world.old.table }
     ensures few { (most : ℕ) → AreAtMost most counts.old → AreAtMost (most + 1) counts.new }
     ensures runs { OnOk result (CountsLines (job_by script.now world.old)
-        (deed_lines now Deed.Reply round) (stage world.old counts.old)
-        (stage world.new counts.new)) }
+        (deed_lines now Deed.Reply round) (drill_stage world.old counts.old)
+        (drill_stage world.new counts.new)) }
 {
     let event = WorldEvent::Reply {
         from: round.from,
@@ -244,7 +247,7 @@ fn run_round(
     ensures table { world.new.table ≡ world.old.table }
     ensures few { (most : ℕ) → AreAtMost most counts.old → AreAtMost (most + 2) counts.new }
     ensures runs { OnOk result (CountsLines (job_by script.now world.old)
-        (round_lines now round) (stage world.old counts.old) (stage world.new counts.new)) }
+        (round_lines now round) (drill_stage world.old counts.old) (drill_stage world.new counts.new)) }
 {
     match round.deed {
         Deed::Short => run_short(world, counts, script, now, round),
@@ -272,7 +275,7 @@ fn run_rounds(
     ensures table { world.new.table ≡ world.old.table }
     ensures runs { OnOk result (CountsLines (world_job bare_job)
         (rounds_lines (world_job bare_job) seed 20000)
-        (stage world.old counts.old) (stage world.new counts.new)) }
+        (drill_stage world.old counts.old) (drill_stage world.new counts.new)) }
 {
     let mut draws = Draws::new(seed);
     for now in 0..ROUNDS {
@@ -291,8 +294,8 @@ fn drill_in<K: Sink>(
 ) -> Said
     requires script { script.now ≡ bare_job }
     requires drilled { IsDrilled world.old }
-    requires stands { Stands world.old (at_the_opening drill_settings) (λ i. 0) }
-    ensures lines { Says (outbox K.taken K.faults sink.old) (outbox K.taken K.faults sink.new)
+    requires stands { WorldStands world.old (at_the_opening drill_settings) (λ i. 0) }
+    ensures lines { SaysLines (outbox K.taken K.faults sink.old) (outbox K.taken K.faults sink.new)
         (drill_lines seed) result }
     ensures world { OnDone result (StandsForRun (drill_job seed) world.new) }
 {

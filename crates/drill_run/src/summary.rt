@@ -4,7 +4,7 @@ ghost use Rattle.std.specs.Prelude.{◌≡◌, ◌∷◌, ◌++◌, ℕ, [], Lis
 ghost use Rattle.gas_outside.specs.Buffered.{GathersAll, outbox};
 ghost use Rattle.node_script.specs.Lines.{line_text, spell};
 ghost use Rattle.world_run.specs.RunText.{end_lines};
-ghost use Rattle.world_run.specs.ScheduleRun.{Writes};
+ghost use Rattle.world_run.specs.ScheduleRun.{WritesText};
 ghost use Rattle.drill_run.specs.Counting.{count_in};
 ghost use Rattle.drill_run.specs.Summary.{count_lines, counted_word, first_line};
 
@@ -53,7 +53,7 @@ pub fn write_drill<K: Sink>(
     counts: &Counts,
     sink: &mut BufferedSink<K>,
 ) -> Wrote
-    ensures { Writes world.now
+    ensures { WritesText world.now
         (λ records most. spell (first_line seed ∷ (count_lines (count_in counts.now)
         ++ end_lines world.now.settings records most)))
         (outbox K.taken K.faults sink.old) (outbox K.taken K.faults sink.new) result }

@@ -61,7 +61,8 @@ impl<N: StationName<M, L, C, K>, M: Machine, L: Link, C: Clock, K: Recorder> Mod
 
     ghost invariant = { λ h. (h.station.count ≡ h.book.total)
         × (M.thread_count h.station.machine ≡ N.threads)
-        × ForSome N.opening (λ opening. HasFacts M.Machine L.Link C.Clock K.Recorder opening h.station) };
+        × ForSome N.opening (λ opening. HasFacts M.Machine L.Link C.Clock K.Recorder opening
+        h.station) };
 }
 
 impl<N: StationName<M, L, C, K>, M: Machine, L: Link, C: Clock, K: Recorder> Held<N, M, L, C, K> {

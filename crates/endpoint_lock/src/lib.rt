@@ -12,8 +12,8 @@
 //! What is proved, by the names of clauses (in `src/`) and definitions (in `specs/`):
 //!
 //! - `Station::turn` is exact [`again`, `spent`, `full`, `goes`]: the first of its steps that ends it gives the answer,
-//!   and `Goes` says what is left then, field by field: a turn that has an entry (`Keeps`), an empty one (`Rests`),
-//!   a link that failed as it was asked (`Fails`). So a datagram that waits is got by a thread that polls, where the
+//!   and `GoesTurn` says what is left then, field by field: a turn that has an entry (`KeepsEntry`), an empty one (`Rests`),
+//!   a link that failed as it was asked (`FailsAsked`). So a datagram that waits is got by a thread that polls, where the
 //!   link tells what waits; `LinkFault` comes only where the link's count of faults rose in the turn, or stands at its
 //!   last value, and `WriteFault` only where that of the recorder's sink did, with nothing of the turn sent; and
 //!   `NoMemory` leaves all but the kept end.

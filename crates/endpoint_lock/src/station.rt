@@ -3,11 +3,11 @@
 ghost use Rattle.std.specs.Prelude.{◌≡◌, ◌≢◌, ◌≤◌, ◌<◌, ◌+◌, List, [], true, false, if◌then◌else◌};
 ghost use Rattle.std.specs.Prelude.{None, IfOk, MatchResult};
 ghost use Rattle.std.specs.Option.{ForSome};
-ghost use Rattle.endpoint_lock.specs.StationState.{Opening, opened_with, opened, ended};
-ghost use Rattle.endpoint_lock.specs.Facts.{Facts, IsFull};
-ghost use Rattle.endpoint_lock.specs.Turns.{Goes, SendsOn, Finishes, KeepsFacts, CountsAtMostOne};
+ghost use Rattle.endpoint_lock.specs.StationState.{Opening, opened_with, opened, ended_with};
+ghost use Rattle.endpoint_lock.specs.Facts.{Facts, IsJournalFull};
+ghost use Rattle.endpoint_lock.specs.Turns.{GoesTurn, SendsOn, Finishes, KeepsFacts, CountsAtMostOne};
 ghost use Rattle.machine.specs.declared.entry.Entry.{Entry as EntryState};
-ghost use Rattle.endpoint_lock.specs.Leaving.{left_by};
+ghost use Rattle.endpoint_lock.specs.Leaving.{left_by_station};
 
 use crate::ends::{End, Ended, TurnEnd, Unmade};
 use crate::exchange::{quiet_after, record_entry, send_outgoing};
@@ -83,7 +83,7 @@ impl<M, L, C, K> Station<M, L, C, K> {
 
     /// Takes the station apart. Where no end was kept, it is want of memory.
     pub fn into_ended(self) -> Ended<M, L, C, K>
-        ensures { result ≡ left_by self }
+        ensures { result ≡ left_by_station self }
     {
         let Station {
             alloc: _,
@@ -126,9 +126,11 @@ impl<M: Machine, L: Link, C: Clock, K: Recorder> Station<M, L, C, K> {
         requires { 1 ≤ patience }
         ensures made { MatchResult result
             (λ station. station ≡ opened (opened_with machine link clock recorder patience))
-            (λ unmade. unmade ≡ record { machine = machine; link = link; clock = clock; recorder = recorder }) }
+            (λ unmade. unmade
+            ≡ record { machine = machine; link = link; clock = clock; recorder = recorder }) }
         ensures facts { IfOk result (λ station.
-            Facts M.Machine L.Link C.Clock K.Recorder (opened_with machine link clock recorder patience) [] station) }
+            Facts M.Machine L.Link C.Clock K.Recorder
+            (opened_with machine link clock recorder patience) [] station) }
     {
         let Ok(inbox) = Inbox::new(alloc) else {
             return Err(Unmade {
@@ -156,7 +158,7 @@ impl<M: Machine, L: Link, C: Clock, K: Recorder> Station<M, L, C, K> {
     // Keeps an end.
     fn keep(&mut self, end: End) -> TurnEnd
         ensures end { result ≡ TurnEnd.Ended end }
-        ensures kept { self.new ≡ ended self.old end }
+        ensures kept { self.new ≡ ended_with self.old end }
     {
         self.kept = Some(end);
         TurnEnd::Ended(end)
@@ -164,8 +166,8 @@ impl<M: Machine, L: Link, C: Clock, K: Recorder> Station<M, L, C, K> {
 
     // Whether no turn is begun.
     fn is_full(&self) -> bool
-        ensures full { result ≡ true → IsFull self.now.count }
-        ensures room { result ≡ false → ¬ IsFull self.now.count }
+        ensures full { result ≡ true → IsJournalFull self.now.count }
+        ensures room { result ≡ false → ¬ IsJournalFull self.now.count }
     {
         self.count >= ENTRY_LIMIT
     }
@@ -176,8 +178,8 @@ impl<M: Machine, L: Link, C: Clock, K: Recorder> Station<M, L, C, K> {
         requires polls { polls ≡ M.polls_at self.old.machine thread }
         requires patience { self.old.quiet < self.old.patience }
         requires begun { self.old.kept ≡ None }
-        requires full { ¬ IsFull self.old.count }
-        ensures { Goes M.Machine L.Link C.Clock K.Recorder (record {
+        requires full { ¬ IsJournalFull self.old.count }
+        ensures { GoesTurn M.Machine L.Link C.Clock K.Recorder (record {
           thread = thread;
           before = self.old;
           end = result;
@@ -220,7 +222,7 @@ impl<M: Machine, L: Link, C: Clock, K: Recorder> Station<M, L, C, K> {
 
     // Hands the entry of the last turn to the recorder, and then sends its datagrams.
     fn finish(&mut self, entry: &Entry, sends: u8) -> TurnEnd
-        requires full { ¬ IsFull self.old.count }
+        requires full { ¬ IsJournalFull self.old.count }
         ensures { Finishes M.Machine L.Link K.Recorder entry.entry.now (record {
           sends = sends;
           before = self.old;
@@ -274,14 +276,14 @@ impl<M: Machine, L: Link, C: Clock, K: Recorder> Station<M, L, C, K> {
             (result ≡ TurnEnd.Ended end) × (self.new ≡ self.old)) }
         ensures spent { self.old.kept ≡ None → self.old.quiet ≡ self.old.patience
             → let end = if M.is_over self.old.machine then End.Over else End.Stuck in
-            (result ≡ TurnEnd.Ended end) × (self.new ≡ ended self.old end) }
+            (result ≡ TurnEnd.Ended end) × (self.new ≡ ended_with self.old end) }
         ensures full { self.old.kept ≡ None → self.old.quiet ≢ self.old.patience
-            → IsFull self.old.count
+            → IsJournalFull self.old.count
             → (result ≡ TurnEnd.Ended End.JournalFull)
-            × (self.new ≡ ended self.old End.JournalFull) }
+            × (self.new ≡ ended_with self.old End.JournalFull) }
         ensures goes { self.old.kept ≡ None → self.old.quiet ≢ self.old.patience
-            → ¬ IsFull self.old.count
-            → Goes M.Machine L.Link C.Clock K.Recorder (record {
+            → ¬ IsJournalFull self.old.count
+            → GoesTurn M.Machine L.Link C.Clock K.Recorder (record {
               thread = thread;
               before = self.old;
               end = result;

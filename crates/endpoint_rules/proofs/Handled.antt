@@ -22,7 +22,7 @@ use Rattle.handler_rules.specs.Runs.{Frame, IsLawful, Meaning, IsLawfulMeaning, 
 use Rattle.node_record.specs.declared.answer.Why.TheVariants as why
 use Rattle.node_record.specs.Behaviour.{asks_well, replies_well, Asking, Category, Short, Medium, Long}
 use Rattle.node_record.specs.Behaviour.{Contact}
-use Rattle.am_core.specs.Kept.{Local, IsKept, start_of, with_writes}
+use Rattle.am_core.specs.Kept.{Local, IsKept, start_from, with_writes}
 use Rattle.am_core.specs.Library.{is_library, has_library, has_wrong_args, library_refusal, library_writes}
 use Rattle.am_core.specs.Library.{library_reply}
 use Rattle.am_core.specs.Library.{is_no_fetch, is_no_fill, is_beyond, fetch_said, fill_said, get_handler}
@@ -239,7 +239,7 @@ pub run_replies : (settings : Parameters) (table : List (Option Entry)) (meaning
 run_replies settings table meaning contact content local lawful well =
     let parts = and_parts _ _ well in
     let is = well_is settings table content (asks_no_ack content.kind parts.0) parts.1 in
-    let start = start_of settings (with_writes local (landing content)) in
+    let start = start_from settings (with_writes local (landing content)) in
     let frame = frame_of_run (handlers_of settings table meaning) role.Request contact content in
     elim (cases_Bool (is_library content.handler)) [
       | inl own ↦ rw own (library_well settings table start.segment content (is.right own).right)

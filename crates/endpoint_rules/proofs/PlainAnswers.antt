@@ -18,23 +18,23 @@ use Rattle.endpoint_rules.specs.CoreCalls.{Poll, Attempt, OnSegment, if_allowed}
 use Rattle.endpoint_rules.specs.TransferCalls.{TransferCall, SyncImplicit, RegionBegin, RegionEnd, Caller, transfer_does}
 use Rattle.endpoint_rules.specs.TransferCalls.{ended}
 use Rattle.endpoint_rules.specs.EndpointRules.{OnCore, OnTransfers, OnBarrier, unless_forbidden}
-use Rattle.endpoint_rules.specs.PlainAnswers.{is_plain, shows, AnswersArePlain}
+use Rattle.endpoint_rules.specs.PlainAnswers.{is_plain_answer, shows, AnswersArePlain}
 
 -- a call that the rule table judges
 allowed_plain : (own : Behaviour Local) (thread : ℕ) (judged : Result (Unit {0}) Forbidden) (answer : Answer)
-    (kept : Local) → is_plain answer ≡ true → is_plain (if_allowed own thread judged answer kept).0 ≡ true
+    (kept : Local) → is_plain_answer answer ≡ true → is_plain_answer (if_allowed own thread judged answer kept).0 ≡ true
 allowed_plain own thread (Ok allowed) answer kept plain = plain
 allowed_plain own thread (Err forbidden) answer kept plain = refl
 
 unless_plain : (behaviour : Behaviour EndpointLocal) (thread : ℕ) (judged : Result (Unit {0}) Forbidden)
-    (local : EndpointLocal) (outcome : Answer × EndpointLocal) → is_plain outcome.0 ≡ true
-    → is_plain (unless_forbidden behaviour thread judged local outcome).0 ≡ true
+    (local : EndpointLocal) (outcome : Answer × EndpointLocal) → is_plain_answer outcome.0 ≡ true
+    → is_plain_answer (unless_forbidden behaviour thread judged local outcome).0 ≡ true
 unless_plain behaviour thread (Ok allowed) local outcome plain = plain
 unless_plain behaviour thread (Err forbidden) local outcome plain = refl
 
 -- a call on the local segment
 segment_plain : (bytes : List ℕ) (call : SegmentCall) → shows (OnCore (OnSegment call)) ≡ false
-    → is_plain (answers.Local (segment_does bytes call).0) ≡ true
+    → is_plain_answer (answers.Local (segment_does bytes call).0) ≡ true
 segment_plain bytes (Show offset len) e = absurd (true≢false e)
 segment_plain bytes (Set write) e =
     elim (cases_Bool (nat_lt (length bytes) (write.offset + length write.bytes))) [ inl p ↦ rw p refl | inr p ↦ rw p refl ]
@@ -51,16 +51,16 @@ segment_plain bytes (SetWord offset value) e = elim (cases_Bool (nat_lt (length 
 
 -- a call on transfers
 ended_plain : (caller : Caller) (register : ℕ) (was : Option Region) (local : EndpointLocal)
-    → is_plain (ended caller register was local).0 ≡ true
+    → is_plain_answer (ended caller register was local).0 ≡ true
 ended_plain caller register None local = refl
 ended_plain caller register (Some was) local = by_name was.name
   where
-    by_name : (name : Option ℕ) → is_plain (ended caller register (Some (record { name = name })) local).0 ≡ true
+    by_name : (name : Option ℕ) → is_plain_answer (ended caller register (Some (record { name = name })) local).0 ≡ true
     by_name None = refl
     by_name (Some name) = refl
 
 transfer_plain : (caller : Caller) (call : TransferCall) (local : EndpointLocal)
-    → is_plain (transfer_does caller call local).0 ≡ true
+    → is_plain_answer (transfer_does caller call local).0 ≡ true
 transfer_plain caller (SyncImplicit some) local =
     elim (cases_Bool (has_begun local.regions caller.thread)) [ inl e ↦ rw e refl | inr e ↦ rw e refl ]
 transfer_plain caller RegionBegin local =
@@ -70,7 +70,7 @@ transfer_plain caller (RegionEnd register) local =
 transfer_plain caller _ local = refl
 
 barrier_plain : (caller : Caller) (call : BarrierCall) (barrier : BarrierRecord)
-    → is_plain (barrier_does caller call barrier).0 ≡ true
+    → is_plain_answer (barrier_does caller call barrier).0 ≡ true
 barrier_plain caller (Notify id flags) barrier = refl
 barrier_plain caller _ barrier = refl
 

@@ -11,10 +11,10 @@ use Rattle.datagram_grammar.specs.Notes.{is_no_note}
 use Rattle.handler_rules.specs.declared.table.Entry.{Entry}
 use Rattle.handler_rules.specs.Runs.{Meaning, IsLawfulMeaning}
 use Rattle.node_record.specs.declared.answer.SlotRef.{SlotRef}
-use Rattle.node_record.specs.Behaviour.{Contact, IsRun, IsFirstSent, asks_well}
+use Rattle.node_record.specs.Behaviour.{Contact, RanRequest, IsFirstSent, asks_well}
 use Rattle.node_record.specs.NodeStep.{IsAllSound}
 use Rattle.named_barrier.specs.Record.{BarrierRecord}
-use Rattle.named_barrier.specs.Within.{IsWithin}
+use Rattle.named_barrier.specs.Within.{IsNotedWithin}
 use Rattle.named_barrier.proofs.Within.{stays_within}
 use Rattle.put_get.specs.Operation.{Operation, issue, come_back}
 use Rattle.put_get.proofs.Issued.{issue_was}
@@ -32,8 +32,8 @@ use Rattle.endpoint_rules.proofs.Kept.{calls_kept}
 
 -- what is heard of a request that isn't refused can be sent on
 note_kept : (settings : Parameters) (table : List (Option Entry)) (content : Content) (barrier : BarrierRecord)
-    → asks_well (content_refusal settings table) content ≡ true → IsWithin settings.nodes barrier
-    → IsWithin settings.nodes (after_note settings content barrier)
+    → asks_well (content_refusal settings table) content ≡ true → IsNotedWithin settings.nodes barrier
+    → IsNotedWithin settings.nodes (after_note settings content barrier)
 note_kept settings table content barrier well good =
     let note = note_said settings.version content.args in
     elim (cases_Bool ((content.handler == note_handler) && has_ranges note)) [
@@ -91,7 +91,7 @@ sent_kept settings contact content local good = elim (cases_Bool (content.handle
 ]
 
 -- a run is told as one
-told_run : (version : ℕ) (content : Content) (place : SlotRef) → IsRun (run_answer version content place) place
+told_run : (version : ℕ) (content : Content) (place : SlotRef) → RanRequest (run_answer version content place) place
 told_run version content place = elim (cases_Bool (content.handler == note_handler)) [
   | inl note ↦ rw note refl
   | inr other ↦ rw other refl

@@ -10,7 +10,7 @@ use Rattle.lists.proofs.Cases.{cases_option, none_some}
 use Rattle.datagram_grammar.specs.Parameters.{Parameters, AreInRange}
 use Rattle.datagram_grammar.specs.Content.{Content, is_request, code, is_ack}
 use Rattle.datagram_grammar.specs.declared.note.BarrierNote.{BarrierNote}
-use Rattle.datagram_grammar.specs.Notes.{high_half, low_half, joined}
+use Rattle.datagram_grammar.specs.Notes.{high_half, low_half, joined_halves}
 use Rattle.datagram_grammar.proofs.Noted.{joined_again, not_refused}
 use Rattle.raw_segment.specs.Bytes.{part}
 use Rattle.handler_rules.specs.declared.table.Entry.{Entry}
@@ -142,7 +142,7 @@ not_past segment offset len bytes less inside = le-ltb segment (offset + length 
 
 -- a range, read again
 range_again : (segment offset len : ℕ) → segment < 2 ^ 64 → offset + len ≤ segment
-    → nat_lt segment (joined (high_half offset) (low_half offset) + len) ≡ false
+    → nat_lt segment (joined_halves (high_half offset) (low_half offset) + len) ≡ false
 range_again segment offset len small inside =
     ap (λ place. nat_lt segment (place + len)) (joined_again offset (omega (arith, small, inside)))
     ∙ le-ltb segment (offset + len) inside

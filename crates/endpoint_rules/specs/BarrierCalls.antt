@@ -1,5 +1,5 @@
 -- The calls of threads on the barrier: their answers, and what they leave.
--- Origin: GASNet 1.8.1, extended API, barriers. Which exhausted-out numbers are told is this project's profile.
+-- Origin: GASNet 1.8.1, extended API, barriers. Which exhausted numbers are told is this project's profile.
 use Rattle.std.specs.Prelude.{ℕ, zero, suc, ◌^◌, nat_lt, ℤ, Bool, ◌&&◌, if◌then◌else◌, Option, None, Some}
 use Rattle.std.specs.List.{list_all}
 use Rattle.std.specs.Ordering.{int_eq}

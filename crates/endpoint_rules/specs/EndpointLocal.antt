@@ -4,8 +4,8 @@ use Rattle.std.specs.Prelude.{ℕ, ◌≡◌, ◌≢◌, ◌<◌, ◌≤◌, ◌
 use Rattle.datagram_grammar.specs.Parameters.{Parameters}
 use Rattle.lists.specs.Numbered.{numbered}
 use Rattle.access_region.specs.declared.Region.{Region}
-use Rattle.named_barrier.specs.Record.{BarrierRecord, opened}
-use Rattle.named_barrier.specs.Within.{IsWithin}
+use Rattle.named_barrier.specs.Record.{BarrierRecord, opened_record}
+use Rattle.named_barrier.specs.Within.{IsNotedWithin}
 use Rattle.put_get.specs.declared.operation.Handle.{Handle}
 use Rattle.put_get.specs.declared.operation.Transfer.{Transfer}
 use Rattle.put_get.specs.declared.operation.Transfer.TheVariants as transfers
@@ -30,8 +30,8 @@ abbrev pub with_core : EndpointLocal → Local → EndpointLocal
 with_core local core = record local { core = core }
 
 -- this was written into the segment, too
-abbrev pub with_written : EndpointLocal → List Write → EndpointLocal
-with_written local writes = with_core local (with_writes local.core writes)
+abbrev pub with_all_written : EndpointLocal → List Write → EndpointLocal
+with_all_written local writes = with_core local (with_writes local.core writes)
 
 -- GASNET_INVALID_HANDLE
 abbrev pub invalid : Handle
@@ -45,7 +45,7 @@ nothing_begun settings = record {
   operations = [];
   regions = replicate settings.threads None;
   registers = replicate 256 invalid;
-  barrier = opened;
+  barrier = opened_record;
 }
 
 -- ---- what holds of it in every state
@@ -87,4 +87,4 @@ AreByChunks settings me operations =
 pub record IsEndpointKept (settings : Parameters) (me : ℕ) (local : EndpointLocal) : Type 0 where
   pub core : IsKept settings me local.core
   pub operations : AreByChunks settings me local.operations
-  pub barrier : IsWithin settings.nodes local.barrier
+  pub barrier : IsNotedWithin settings.nodes local.barrier

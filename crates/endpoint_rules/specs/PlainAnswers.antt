@@ -12,12 +12,12 @@ use Rattle.endpoint_rules.specs.declared.answer.Answer.TheVariants as answers
 use Rattle.endpoint_rules.specs.declared.answer.Local.TheVariants as local
 
 -- the answer is plain: it refers to no message in a slot of the node, and to no range of its segment
-abbrev pub is_plain : Answer → Bool
-is_plain (answers.Asked answer) = false
-is_plain (answers.Delivered answer) = false
-is_plain (answers.Ticked answer) = false
-is_plain (answers.Local (local.Shown offset len)) = false
-is_plain _ = true
+abbrev pub is_plain_answer : Answer → Bool
+is_plain_answer (answers.Asked answer) = false
+is_plain_answer (answers.Delivered answer) = false
+is_plain_answer (answers.Ticked answer) = false
+is_plain_answer (answers.Local (local.Shown offset len)) = false
+is_plain_answer _ = true
 
 -- the call whose answer refers to a range of the segment
 abbrev pub shows : OtherCall → Bool
@@ -29,4 +29,4 @@ abbrev pub AnswersArePlain : Type 0
 AnswersArePlain =
     (behaviour : Behaviour EndpointLocal) (own : Behaviour Local) (caller : Caller) (call : OtherCall)
     (local : EndpointLocal)
-    → shows call ≡ false → is_plain (does_call behaviour own caller call local).0 ≡ true
+    → shows call ≡ false → is_plain_answer (does_call behaviour own caller call local).0 ≡ true

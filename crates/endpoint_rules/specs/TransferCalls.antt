@@ -25,7 +25,7 @@ use Rattle.put_get.specs.Operation.{Operation, target, size, begin_answer, after
 use Rattle.put_get.specs.Syncs.{handle_answer, after_handle, implicit_answer, implicit_of, left_by, issued_answer}
 use Rattle.put_get.specs.Syncs.{all_answer, members_of, some_answer, whole_of, is_whole}
 use Rattle.am_core.specs.Kept.{segment_of}
-use Rattle.endpoint_rules.specs.EndpointLocal.{EndpointLocal, with_written, invalid, own_end, remote_end, has_byte}
+use Rattle.endpoint_rules.specs.EndpointLocal.{EndpointLocal, with_all_written, invalid, own_end, remote_end, has_byte}
 use Rattle.endpoint_rules.specs.declared.answer.Answer.{Answer}
 use Rattle.endpoint_rules.specs.declared.answer.Answer.TheVariants as answers
 use Rattle.endpoint_rules.specs.declared.answer.Begun.{Begun}
@@ -110,7 +110,7 @@ abbrev pub after_beginning : Caller → Transfer → Mode → Begun → Endpoint
 after_beginning caller transfer mode (begun.Handle handle) local =
     record local { operations = after_begin caller.thread transfer mode local.operations }
 after_beginning caller transfer mode begun.Done local =
-    with_written local (written_at_once (segment_of caller.settings local.core) transfer)
+    with_all_written local (written_at_once (segment_of caller.settings local.core) transfer)
 after_beginning caller transfer mode _ local = local
 
 -- ---- registers

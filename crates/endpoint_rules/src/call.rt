@@ -4,8 +4,12 @@ ghost use Rattle.std.specs.Prelude.{◌≡◌};
 ghost use Rattle.endpoint_rules.specs.Called.{is_to_other, IsMeantBy};
 
 use am_core::{Asking, Category, Payload};
+use datagram_grammar::MAX_PAYLOAD;
 use handler_rules::CallKind;
-use put_get::{Handle, ImplicitKinds, Transfer};
+use put_get::{Handle, ImplicitKinds, MAX_CHUNK, Transfer};
+
+// A chunk of a transfer is what one message carries.
+const _: () = prove!(MAX_CHUNK == MAX_PAYLOAD as u64);
 
 /// A call of a client, as a thread of a node makes it.
 #[derive(Clone, Copy)]

@@ -6,16 +6,16 @@ use Rattle.raw_segment.proofs.Images.{written_by-append}
 use Rattle.handler_rules.specs.declared.desk.Desk.{Desk}
 use Rattle.handler_rules.specs.declared.message.Replied.{Replied}
 use Rattle.handler_rules.specs.declared.message.Replied.TheVariants as answers
-use Rattle.handler_rules.specs.Desks.{At, Stage, answer_at, answered, arrival_at, frame_of, stage, start_of}
+use Rattle.handler_rules.specs.Desks.{At, Stage, answer_at_desk, answered, arrival_at, frame_of, stage, start_of}
 use Rattle.handler_rules.specs.Runs.{Outcome, IsSpelled, replying}
 use Rattle.handler_rules.proofs.Laws.{replying-leaving, cells-replying, writes-replying, IsSpelled-replying}
 use Rattle.std.proofs.lemmas.Bool.{eq-eqb}
-use Rattle.gas_atomic.specs.BatchRequests.{BatchRequest, request_said, number_at, ops_said, place_fault}
+use Rattle.gas_atomic.specs.BatchRequests.{BatchRequest, request_said, number_of_halves, ops_said, place_fault}
 use Rattle.gas_atomic.specs.Served.{after_request, after_batch, request_for, if_placed}
 
 -- what the call of the desk said and left
 pub record Replies (content : Content) (old new : Desk) (result : Replied) : Type 0 where
-  pub answer : result ≡ answer_at old content
+  pub answer : result ≡ answer_at_desk old content
   pub answered_so : new ≡ answered old content result
   pub spelled : result ≡ answers.Sent → IsSpelled (frame_of old) (Some content)
 
@@ -58,8 +58,8 @@ after_request_is opening outcome segment cells old request at says =
 -- the message asks this request
 pub record Says (segment : ℕ) (args : List ℤ) (payload : List ℕ) (request : BatchRequest) : Type 0 where
   pub four : length args ≡ 4
-  pub local : request.local ≡ number_at args 0
-  pub tag : request.tag ≡ number_at args 2
+  pub local : request.local ≡ number_of_halves args 0
+  pub tag : request.tag ≡ number_of_halves args 2
   pub ops : ops_said payload ≡ Some request.ops
   pub placed : place_fault segment request.local request.ops ≡ None
 

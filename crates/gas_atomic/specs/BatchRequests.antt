@@ -6,7 +6,7 @@ use Rattle.std.specs.List.{flat_map, list_all}
 use Rattle.std.specs.Int.{w64, to_be_bytes, from_be_bytes}
 use Rattle.raw_segment.specs.Bytes.{part}
 use Rattle.datagram_grammar.specs.Content.{Content, medium_request}
-use Rattle.datagram_grammar.specs.Notes.{high_half, low_half, joined, argument}
+use Rattle.datagram_grammar.specs.Notes.{high_half, low_half, joined_halves, argument}
 use Rattle.datagram_grammar.specs.Parameters.{Parameters}
 use Rattle.gas_atomic.specs.declared.word.WordOp.{WordOp}
 use Rattle.gas_atomic.specs.declared.batch.BatchFault.{BatchFault}
@@ -81,14 +81,15 @@ ops_said bytes =
     if (length bytes % 32 == 0) && is_count (length bytes / 32) then ops_in (length bytes / 32) bytes else None
 
 -- the number whose upper half is that argument, and its lower half the one behind it
-abbrev pub number_at : List ℤ → (place : ℕ) → ℕ
-number_at args place = joined (argument args place) (argument args (place + 1))
+abbrev pub number_of_halves : List ℤ → (place : ℕ) → ℕ
+number_of_halves args place = joined_halves (argument args place) (argument args (place + 1))
 
 -- what a message with these arguments and this payload asks, if it has four arguments and spells operations
 abbrev pub request_said : List ℤ → (payload : List ℕ) → Option BatchRequest
 request_said args payload =
     if length args == 4
-    then option_map (λ ops. record { local = number_at args 0; tag = number_at args 2; ops = ops }) (ops_said payload)
+    then option_map (λ ops. record { local = number_of_halves args 0; tag = number_of_halves args 2; ops = ops })
+    (ops_said payload)
     else None
 
 -- ---- what may be wrong

@@ -10,6 +10,8 @@ use crate::request::{MOST, are_aligned, are_inside, is_block_inside};
 use crate::word::{Op, WordOp, spell};
 use arrayvec::ArrayVec;
 use datagram_grammar::{Settings, high_half, low_half};
+use std::error::Error;
+use std::fmt;
 use std::marker::Model;
 
 /// Why there is no such batch.
@@ -26,6 +28,23 @@ pub enum BatchFault {
     /// A word's offset, or the block's, isn't a multiple of 8.
     Unaligned,
 }
+
+impl fmt::Display for BatchFault {
+    fn fmt<W: fmt::Write>(&self, f: &mut fmt::Formatter<W>) -> fmt::Result {
+        match *self {
+            BatchFault::Node => write!(f, "the target is no node of the job"),
+            BatchFault::Count => write!(f, "no operations, or more than 64"),
+            BatchFault::Offset => write!(f, "a word passes the end of the target's segment"),
+            BatchFault::Local => write!(
+                f,
+                "the block of the reply passes the end of the local segment"
+            ),
+            BatchFault::Unaligned => write!(f, "an offset isn't a multiple of 8"),
+        }
+    }
+}
+
+impl Error for BatchFault {}
 
 /// A batch: 1 to 64 operations on words of the target's segment, which are done at one moment, and the place in the
 /// own segment where what the words were comes back, with a tag behind it.

@@ -1,7 +1,7 @@
 //! What a message asks, and whether its places are good.
 
 ghost use Rattle.std.specs.Prelude.{◌≡◌, ◌≤◌, ◌+◌, ◌/◌, ◌*◌, Some, None, IfSome, IfNone, length, not, nat_lt};
-ghost use Rattle.gas_atomic.specs.BatchRequests.{op_in, ops_said, number_in, number_at, block_size};
+ghost use Rattle.gas_atomic.specs.BatchRequests.{op_in, ops_said, number_in, number_of_halves, block_size};
 ghost use Rattle.gas_atomic.specs.BatchRequests.{are_inside, are_words_aligned, are_aligned};
 
 use crate::word::{Op, WordOp};
@@ -45,7 +45,7 @@ pub(crate) fn are_aligned(local: u64, ops: &[WordOp]) -> bool
 /// The number whose upper half is that argument, and its lower half the one behind it.
 pub(crate) fn number_at(args: &[i32], place: usize) -> u64
     requires { place + 2 ≤ length args.now }
-    ensures { result ≡ number_at args.now place }
+    ensures { result ≡ number_of_halves args.now place }
 {
     joined(args[place], args[place + 1])
 }

@@ -5,7 +5,7 @@ use Rattle.std.proofs.Common.{ap, ap₂, ◌∙◌, subst, ◌<◌, ◌-◌, ari
 use Rattle.datagram_grammar.specs.declared.note.BarrierNote.{BarrierNote}
 use Rattle.named_barrier.specs.BarrierState.{BarrierState}
 use Rattle.named_barrier.specs.Record.{BarrierRecord, notify_answer, notify_after, try_answer, try_after}
-use Rattle.named_barrier.specs.Stands.{Stands as BarrierStands}
+use Rattle.named_barrier.specs.Stands.{BarrierStands}
 use Rattle.named_barrier.specs.declared.answer.Notified.{Notified}
 use Rattle.named_barrier.specs.declared.answer.BarrierAnswer.{BarrierAnswer}
 use Rattle.am_core.specs.CoreState.{CoreState}

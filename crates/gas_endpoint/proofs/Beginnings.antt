@@ -34,7 +34,7 @@ use Rattle.endpoint_rules.specs.declared.answer.Begun.TheVariants as begun
 use Rattle.endpoint_rules.proofs.Kept.{IsFaultless, faultless, at_once_fits}
 use Rattle.gas_endpoint.specs.declared.extended.Extended.{Extended}
 use Rattle.gas_endpoint.specs.EndpointState.{EndpointStands}
-use Rattle.gas_endpoint.specs.Parts.{Keeps, Parts, PartBegins, PartDoes, whole, caller_in, endpoint_of}
+use Rattle.gas_endpoint.specs.Parts.{EndpointKeeps, Parts, PartBegins, PartDoes, whole, caller_in, endpoint_of}
 use Rattle.gas_endpoint.proofs.Calling.{keeps_with, local_stands}
 use Rattle.gas_endpoint.proofs.Syncs.{same_core}
 
@@ -129,7 +129,7 @@ chunks_begin core extended transfers thread transfer mode result fine some other
     left : (r : Result Handle TooMany) → (node : Node EndpointLocal)
         → EndpointStands (endpoint_of core extended) node → r ≡ begin_answer node.local.operations
         → TransfersStand transfers (after_begin thread transfer mode node.local.operations)
-        → Keeps (endpoint_of core (record extended { transfers = transfers })) (with_local node
+        → EndpointKeeps (endpoint_of core (record extended { transfers = transfers })) (with_local node
         (after_beginning (caller_in core node thread) transfer mode (begun_as r) node.local))
     left (Ok handle) node S e T = record {
       core = S.core;
@@ -211,10 +211,10 @@ implicit_begins old mid thread transfer mode says regions mode_is B named_so = r
       let mode_so : mode ≡ modes = mode_is ∙ ap (λ rs. implicit_mode rs thread) S.regions_are in
       let spoken = begin_says caller transfer node.local.operations in
       let left = subst
-      (λ (m : Mode). Keeps (whole mid) (with_local node (after_beginning caller transfer m says node.local)))
+      (λ (m : Mode). EndpointKeeps (whole mid) (with_local node (after_beginning caller transfer m says node.local)))
       mode_so it.1 in
       let K = subst
-      (λ (b : Begun). Keeps (whole mid) (with_local node (after_beginning caller transfer modes b node.local)))
+      (λ (b : Begun). EndpointKeeps (whole mid) (with_local node (after_beginning caller transfer modes b node.local)))
       it.0 left in (
         ap (λ (b : Begun). answers.Started b) it.0,
         record {

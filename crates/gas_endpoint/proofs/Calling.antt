@@ -20,7 +20,7 @@ use Rattle.node_record.proofs.NodeKeeps.{same_keeps}
 use Rattle.am_core.specs.Kept.{Local, IsKept, segment_of, with_writes}
 use Rattle.am_core.specs.ClientRules.{rules}
 use Rattle.am_core.specs.CoreState.{CoreState}
-use Rattle.am_core.specs.Stands.{Stands}
+use Rattle.am_core.specs.Stands.{CoreStands}
 use Rattle.am_core.specs.CoreContracts.{Check, Lock as CoreLock, Unlock as CoreUnlock, CoreTold, Checked, Locked}
 use Rattle.am_core.specs.CoreContracts.{Unlocked}
 use Rattle.am_core.specs.CoreContracts.{CoreSteps, IsSameNode}
@@ -41,7 +41,7 @@ use Rattle.endpoint_rules.specs.declared.answer.Local.TheVariants as local
 use Rattle.endpoint_rules.proofs.CoreKept.{segment_fits, written_fits}
 use Rattle.gas_endpoint.specs.declared.extended.Extended.{Extended}
 use Rattle.gas_endpoint.specs.EndpointState.{EndpointStands, NodeSteps}
-use Rattle.gas_endpoint.specs.Parts.{Keeps, Parts, PartDoes, endpoint_of, whole, caller_in, kind_of, judged_as}
+use Rattle.gas_endpoint.specs.Parts.{EndpointKeeps, Parts, PartDoes, endpoint_of, whole, caller_in, kind_of, judged_as}
 use Rattle.gas_endpoint.specs.Parts.{allowed_does, CallSteps, IsWhole, IsSameExtended}
 use Rattle.gas_endpoint.proofs.Stepping.{steps_by, stands_by, keeps_of, barrier_of, nothing_runs, nothing_lawful}
 use Rattle.gas_endpoint.proofs.Stepping.{same_node, caller_same, stays_whole, has_next}
@@ -92,9 +92,9 @@ judgement _ = Ok tt
 
 -- the endpoint's other part with another core that stands for a record whose node keeps what it kept
 pub keeps_with : (core new : CoreState) (extended : Extended) (node : Node EndpointLocal) (kept : Local)
-    → IsSameNode core new → Stands new (with_local (under core_of node) kept)
+    → IsSameNode core new → CoreStands new (with_local (under core_of node) kept)
     → EndpointStands (endpoint_of core extended) node
-    → Keeps (endpoint_of new extended) (with_local node (with_core node.local kept))
+    → EndpointKeeps (endpoint_of new extended) (with_local node (with_core node.local kept))
 keeps_with core new extended node kept same there S = record {
   core = there;
   transfers = S.transfers;
@@ -105,7 +105,7 @@ keeps_with core new extended node kept same there S = record {
 
 -- the same where the core stands for the same record
 pub stands_with : (core new : CoreState) (extended : Extended) (node : Node EndpointLocal) → IsSameNode core new
-    → Stands new (under core_of node) → EndpointStands (endpoint_of core extended) node
+    → CoreStands new (under core_of node) → EndpointStands (endpoint_of core extended) node
     → EndpointStands (endpoint_of new extended) node
 stands_with core new extended node same there S =
     stands_by (endpoint_of new extended) node (keeps_with core new extended node node.local.core same there S)
@@ -129,7 +129,7 @@ allowed_stands core new extended thread kind node C S =
     let is : Ok tt ≡ own.judges thread kind node.local.core = ap judgement it.0 in
     stands_with core new extended node (C nothing_runs 0).same
     (subst (λ (j : Result (Unit {0}) Forbidden).
-    Stands new (with_local (under core_of node) (judged_local own thread j node.local.core))) (sym is) it.1) S
+    CoreStands new (with_local (under core_of node) (judged_local own thread j node.local.core))) (sym is) it.1) S
 
 -- a call that the table forbids
 pub forbidden_steps : (core new : CoreState) (extended : Extended) (thread : ℕ) (kind : CallKind)
@@ -156,9 +156,11 @@ forbidden_steps core new extended thread kind forbidden call is C meaning lawful
         unless_forbidden behaviour thread j node.local (allowed_does (Performs other) caller node.local))
         (sym judged) in
         let left = subst (λ (j : Result (Unit {0}) Forbidden).
-        Stands new (with_local (under core_of node) (judged_local own thread j node.local.core))) (sym judged) it.1 in (
+        CoreStands new (with_local (under core_of node) (judged_local own thread j node.local.core)))
+        (sym judged) it.1 in (
           ap (λ (o : Answer × EndpointLocal). o.0) (sym does),
-          subst (λ (o : Answer × EndpointLocal). Keeps (endpoint_of new extended) (with_local node o.1)) (sym does)
+          subst (λ (o : Answer × EndpointLocal). EndpointKeeps (endpoint_of new extended) (with_local node o.1))
+              (sym does)
               (keeps_with core new extended node (own.notes thread forbidden node.local.core) (C meaning now).same
               left S),
         ))
@@ -193,8 +195,8 @@ allowed_steps core mid extended thread kind call answer new is C P meaning lawfu
         let callers = caller_same core mid node thread same in (
           did.0 ∙ (ap (λ (c : Caller). (allowed_does (Performs other) c node.local).0) callers
               ∙ ap (λ (o : Answer × EndpointLocal). o.0) (sym does)),
-          subst (λ (o : Answer × EndpointLocal). Keeps (whole new) (with_local node o.1)) (sym does)
-              (subst (λ (c : Caller). Keeps (whole new)
+          subst (λ (o : Answer × EndpointLocal). EndpointKeeps (whole new) (with_local node o.1)) (sym does)
+              (subst (λ (c : Caller). EndpointKeeps (whole new)
               (with_local node (allowed_does (Performs other) c node.local).1))
               callers did.1),
         ))
@@ -234,9 +236,9 @@ unlock_steps core new extended thread lock answer C meaning lawful now =
 
 -- a core whose cells and segment are written stands for the record where its node keeps that
 pub local_stands : (core : CoreState) (node : Node Local) (cells : List ℤ) (segment : List ℕ) (kept : Local)
-    → Stands core node → IsKept core.settings core.me kept → cells ≡ kept.cells
+    → CoreStands core node → IsKept core.settings core.me kept → cells ≡ kept.cells
     → segment ≡ segment_of core.settings kept → kept.locks ≡ node.local.locks → kept.violations ≡ node.local.violations
-    → Stands (record core { cells = cells; segment = segment }) (with_local node kept)
+    → CoreStands (record core { cells = cells; segment = segment }) (with_local node kept)
 local_stands core node cells segment kept S good cells_are segment_is locks violations = record {
   range = S.range;
   me_in = S.me_in;
@@ -254,7 +256,7 @@ local_stands core node cells segment kept S good cells_are segment_is locks viol
 
 -- the number in a cell
 pub cell_steps : (core : CoreState) (extended : Extended) (thread cell : ℕ) (value : ℤ)
-    → ((node : Node Local) → Stands core node → value ≡ slice_index_or node.local.cells cell (pos 0))
+    → ((node : Node Local) → CoreStands core node → value ≡ slice_index_or node.local.cells cell (pos 0))
     → CallSteps (endpoint_of core extended) thread (call.Cell cell) (answers.Local (local.Cell value))
     (endpoint_of core extended)
 cell_steps core extended thread cell value is meaning lawful now =

@@ -26,7 +26,7 @@ use Rattle.put_get.specs.Stands.{Stands as TransfersStand}
 use Rattle.am_core.specs.Kept.{Local}
 use Rattle.am_core.specs.Library.{run_answer, note_handler, note_said}
 use Rattle.am_core.specs.ClientRules.{rules}
-use Rattle.am_core.specs.Stands.{Stands}
+use Rattle.am_core.specs.Stands.{CoreStands}
 use Rattle.am_core.specs.CoreState.{CoreState}
 use Rattle.am_core.specs.CoreContracts.{CoreSteps, CoreTold, Delivers, core_job}
 use Rattle.am_core.specs.WouldDeliver.{WouldDeliver as CoreWouldDeliver}
@@ -118,8 +118,8 @@ message_steps meaning core new extended heard now message answer lawful C H =
     let next = after_delivery site node message v in
     let told = told_by meaning old node message v
     (λ place note e. H.ranged place note (is ∙ e)) in
-    let left : Stands new (under core_of next) =
-    subst (λ (n : Node Local). Stands new n)
+    let left : CoreStands new (under core_of next) =
+    subst (λ (n : Node Local). CoreStands new n)
     (sym (delivery_under core_of own site node message v over
     ∙ ap (λ (w : Verdict). after_delivery (site_of (core_job meaning core) core.me) (under core_of node) message w)
     alike)) it.1 in (

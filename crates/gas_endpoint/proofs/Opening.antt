@@ -3,14 +3,14 @@ use Rattle.std.proofs.Common.{◌≡◌, ◌≢◌, ◌≤◌, ◌<◌, ℕ, [],
 use Rattle.std.specs.Prelude.{replicate}
 use Rattle.std.proofs.lemmas.List.{length-replicate}
 use Rattle.datagram_grammar.specs.Parameters.{Parameters, AreInRange, credits_of}
-use Rattle.named_barrier.specs.Record.{opened}
-use Rattle.named_barrier.specs.Stands.{Stands as BarrierStands}
+use Rattle.named_barrier.specs.Record.{opened_record}
+use Rattle.named_barrier.specs.Stands.{BarrierStands}
 use Rattle.node_record.specs.Record.{opening_node}
 use Rattle.put_get.specs.Stands.{Stands as TransfersStand, room_of}
 use Rattle.am_core.specs.CoreState.{CoreState}
 use Rattle.am_core.specs.Kept.{nothing_done}
 use Rattle.am_core.specs.Sizes.{HasSegment}
-use Rattle.am_core.specs.Stands.{Stands}
+use Rattle.am_core.specs.Stands.{CoreStands}
 use Rattle.endpoint_rules.specs.EndpointLocal.{nothing_begun, invalid}
 use Rattle.endpoint_rules.proofs.Kept.{opening_kept}
 use Rattle.endpoint_rules.proofs.Tracking.{opening_tracks}
@@ -18,13 +18,13 @@ use Rattle.gas_endpoint.specs.declared.extended.Extended.{Extended}
 use Rattle.gas_endpoint.specs.Parts.{IsWhole}
 
 pub opens_whole : (core : CoreState) (extended : Extended) (settings : Parameters) (me : ℕ) → me < settings.nodes
-    → core.settings ≡ settings → core.me ≡ me → HasSegment core → Stands core (opening_node nothing_done)
+    → core.settings ≡ settings → core.me ≡ me → HasSegment core → CoreStands core (opening_node nothing_done)
     → extended.nodes ≡ settings.nodes → extended.me ≡ me → TransfersStand extended.transfers []
     → (room_of extended.transfers).nodes ≡ settings.nodes
     → ((to : ℕ) → to < settings.nodes → to ≢ me
     → credits_of settings me to ≤ (room_of extended.transfers).credits)
     → extended.regions ≡ replicate settings.threads None → extended.registers ≡ replicate 256 invalid
-    → BarrierStands settings.nodes me extended.barrier opened → extended.barrier.nodes ≡ settings.nodes
+    → BarrierStands settings.nodes me extended.barrier opened_record → extended.barrier.nodes ≡ settings.nodes
     → AreInRange settings → IsWhole core extended
 opens_whole core extended settings me low settings_are me_are segment stands nodes me_is transfers room_nodes room
     regions registers barrier barrier_nodes range =
@@ -33,7 +33,7 @@ opens_whole core extended settings me low settings_are me_are segment stands nod
     by : {s : Parameters} {m : ℕ} → core.settings ≡ s → core.me ≡ m → m < s.nodes → extended.nodes ≡ s.nodes
         → extended.me ≡ m → (room_of extended.transfers).nodes ≡ s.nodes
         → ((to : ℕ) → to < s.nodes → to ≢ m → credits_of s m to ≤ (room_of extended.transfers).credits)
-        → extended.regions ≡ replicate s.threads None → BarrierStands s.nodes m extended.barrier opened
+        → extended.regions ≡ replicate s.threads None → BarrierStands s.nodes m extended.barrier opened_record
         → extended.barrier.nodes ≡ s.nodes → AreInRange s → IsWhole core extended
     by {s} {m} e f low nodes me_is room_nodes room regions barrier barrier_nodes range = record {
       nodes = nodes ∙ ap (λ (p : Parameters). p.nodes) (sym e);
@@ -58,8 +58,8 @@ opens_whole core extended settings me low settings_are me_are segment stands nod
           transfers = transfers;
           regions_are = regions ∙ ap (λ (p : Parameters). replicate p.threads None) (sym e);
           registers_are = registers;
-          barrier = subst (λ (p : Parameters). BarrierStands p.nodes core.me extended.barrier opened) (sym e)
-              (subst (λ k. BarrierStands s.nodes k extended.barrier opened) (sym f) barrier);
+          barrier = subst (λ (p : Parameters). BarrierStands p.nodes core.me extended.barrier opened_record) (sym e)
+              (subst (λ k. BarrierStands s.nodes k extended.barrier opened_record) (sym f) barrier);
         },
       );
     }

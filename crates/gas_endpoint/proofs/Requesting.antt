@@ -21,7 +21,7 @@ use Rattle.put_get.specs.Stands.{Stands as TransfersStand}
 use Rattle.datagram_grammar.specs.Parameters.{Parameters}
 use Rattle.am_core.specs.ClientRules.{rules, asking_fault, content_by, said_in, payload_in}
 use Rattle.am_core.specs.Kept.{Local, segment_of}
-use Rattle.am_core.specs.Stands.{Stands}
+use Rattle.am_core.specs.Stands.{CoreStands}
 use Rattle.am_core.specs.CoreState.{CoreState}
 use Rattle.am_core.specs.CoreContracts.{CoreSteps, CoreTold, core_job}
 use Rattle.endpoint_rules.specs.EndpointLocal.{EndpointLocal, core_of, AreByChunks}
@@ -127,8 +127,8 @@ request_steps meaning core new extended now ask answer lawful C =
     let over = endpoint_over core.settings core.table meaning in
     let alike = request_alike core_of own site node ask over in
     let rest = asked_rest meaning old node now ask (request_answer site node ask) S.kept.operations refl in
-    let left : Stands new (under core_of (after_request site node now ask (request_answer site node ask))) =
-    subst (λ (n : Node Local). Stands new n)
+    let left : CoreStands new (under core_of (after_request site node now ask (request_answer site node ask))) =
+    subst (λ (n : Node Local). CoreStands new n)
     (sym (request_under core_of own site node now ask (request_answer site node ask) over
     ∙ ap (λ (a : Asked). after_request (site_of (core_job meaning core) core.me) (under core_of node) now ask a)
     alike)) it.1 in (

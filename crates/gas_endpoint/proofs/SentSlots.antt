@@ -22,7 +22,7 @@ use Rattle.node_record.proofs.Answers.{accepted_says}
 use Rattle.node_record.proofs.Runs.{greatest_there, run_at_says, run_at_from}
 use Rattle.endpoint_rules.specs.Sent.{Packet, asking, replying, asked_sends, delivered_sends, ticked_sends}
 use Rattle.endpoint_rules.proofs.PlainTicks.{IsOpenAt, all_dues_open, earliest_has}
-use Rattle.endpoint_rules.specs.PlainAnswers.{is_plain}
+use Rattle.endpoint_rules.specs.PlainAnswers.{is_plain_answer}
 use Rattle.endpoint_rules.proofs.PlainAnswers.{answers_plain}
 use Rattle.endpoint_rules.specs.EndpointRules.{OtherCall, transition, asked_answer, does_call}
 use Rattle.endpoint_rules.specs.CoreCalls.{OnSegment}
@@ -145,7 +145,7 @@ ticked_slot meaning old node (Some due) next now e =
     (_, refl, ap (request_slot due.peer) (sym it.3))
 
 -- a plain answer tells of no message
-plain_slot : (answer : Answer) → is_plain answer ≡ true → sends answer ≡ None
+plain_slot : (answer : Answer) → is_plain_answer answer ≡ true → sends answer ≡ None
 plain_slot (answers.Asked asked) plain = absurd (true≢false (sym plain))
 plain_slot (answers.Delivered delivered) plain = absurd (true≢false (sym plain))
 plain_slot (answers.Ticked ticked) plain = absurd (true≢false (sym plain))

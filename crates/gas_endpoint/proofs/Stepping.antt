@@ -9,7 +9,7 @@ use Rattle.node_record.specs.Step.{is_exhausted}
 use Rattle.node_record.proofs.LocalKept.{event_kept}
 use Rattle.named_barrier.specs.Record.{BarrierRecord}
 use Rattle.named_barrier.specs.BarrierState.{BarrierState}
-use Rattle.named_barrier.specs.Stands.{Stands as BarrierStands}
+use Rattle.named_barrier.specs.Stands.{BarrierStands}
 use Rattle.put_get.specs.Stands.{room_of}
 use Rattle.am_core.specs.CoreState.{CoreState}
 use Rattle.am_core.specs.CoreContracts.{IsSameNode}
@@ -20,7 +20,7 @@ use Rattle.endpoint_rules.specs.declared.answer.Answer.{Answer}
 use Rattle.endpoint_rules.proofs.Sound.{rules_sound}
 use Rattle.endpoint_rules.proofs.Tracking.{event_tracks}
 use Rattle.gas_endpoint.specs.EndpointState.{EndpointState, EndpointStands, ForItsRecord, NodeSteps, job_here}
-use Rattle.gas_endpoint.specs.Parts.{Keeps, Parts, whole, HasRecord, IsWhole, IsSameExtended, caller_in}
+use Rattle.gas_endpoint.specs.Parts.{EndpointKeeps, Parts, whole, HasRecord, IsWhole, IsSameExtended, caller_in}
 
 -- a meaning under which no handler does anything
 pub nothing_runs : Meaning
@@ -32,7 +32,7 @@ nothing_lawful handler frame start = lawful-untouched frame start
 
 -- what an endpoint keeps, beside what holds of its record
 pub keeps_of : (endpoint : EndpointState) (node : Node EndpointLocal) → EndpointStands endpoint node
-    → Keeps endpoint node
+    → EndpointKeeps endpoint node
 keeps_of endpoint node S = record {
   core = S.core;
   transfers = S.transfers;
@@ -42,7 +42,7 @@ keeps_of endpoint node S = record {
 }
 
 -- with what holds of its record
-pub stands_by : (endpoint : EndpointState) (node : Node EndpointLocal) → Keeps endpoint node
+pub stands_by : (endpoint : EndpointState) (node : Node EndpointLocal) → EndpointKeeps endpoint node
     → IsEndpointKept endpoint.core.settings endpoint.core.me node.local
     → NodeTracks endpoint.core.settings.version node → EndpointStands endpoint node
 stands_by endpoint node K kept tracks = record {
@@ -60,7 +60,7 @@ pub steps_by : (meaning : Meaning) (old new : EndpointState) (now : ℕ) (event 
     → IsLawfulMeaning meaning → IsSameNode old.core new.core
     → ForItsRecord old (λ node.
     (answer ≡ told (node_answer (job_here meaning old) old.core.me node now event))
-    × Keeps new (node_after (job_here meaning old) old.core.me node now event))
+    × EndpointKeeps new (node_after (job_here meaning old) old.core.me node now event))
     → NodeSteps meaning old (transition now event answer) new
 steps_by meaning old new now event answer lawful same does = record {
   same = same;

@@ -27,7 +27,7 @@ use Rattle.endpoint_rules.specs.TransferCalls.{emptied_by, whole_registers}
 use Rattle.endpoint_rules.specs.declared.answer.Answer.TheVariants as answers
 use Rattle.gas_endpoint.specs.declared.extended.Extended.{Extended}
 use Rattle.gas_endpoint.specs.EndpointState.{EndpointStands, ForItsRecord}
-use Rattle.gas_endpoint.specs.Parts.{Outcome, PartDoes, endpoint_of}
+use Rattle.gas_endpoint.specs.Parts.{EndpointOutcome, PartDoes, endpoint_of}
 
 -- the next chunk, by the nodes that can be asked
 pub next_alike : (can other : ℕ → Bool) (number : ℕ) (operations : List Operation)
@@ -191,7 +191,7 @@ pub record Group : Type 0 where
   pub answer : (exhausted : ℕ → Bool) → (thread : ℕ) → List Handle → List Operation → Synced
   pub choice : List Handle → List Operation → Choice
   pub empties : List Operation → List Handle → List ℕ
-  -- of the nodes that are exhausted out it asks for targets alone
+  -- of the nodes that are exhausted it asks for targets alone
   pub alike : (exhausted other : ℕ → Bool) (thread : ℕ) (handles : List Handle) (operations : List Operation)
       → AllByRecursion (Agree exhausted other) operations
       → answer exhausted thread handles operations ≡ answer other thread handles operations
@@ -217,7 +217,7 @@ some_of regs = record {
 }
 
 -- the call
-abbrev pub group_outcome : Group → Outcome
+abbrev pub group_outcome : Group → EndpointOutcome
 group_outcome group caller local =
     let handles = map (handle_in local.registers) group.regs in
     let says = group.answer caller.exhausted caller.thread handles local.operations in (

@@ -26,7 +26,7 @@ use Rattle.node_record.proofs.Answers.{CanAsk, can_says}
 use Rattle.node_record.proofs.Slots.{taken_numbered, free_outside, free_le}
 use Rattle.named_barrier.specs.Record.{BarrierRecord, SentNote, send, note_to}
 use Rattle.named_barrier.specs.BarrierState.{BarrierState}
-use Rattle.named_barrier.specs.Stands.{Stands as BarrierStands}
+use Rattle.named_barrier.specs.Stands.{BarrierStands}
 use Rattle.put_get.specs.declared.transfers.Transfers.{Transfers}
 use Rattle.put_get.specs.declared.operation.Next.{Next}
 use Rattle.put_get.specs.Operation.{Operation, target, next_chunk, issue, IsFreeSlot}
@@ -35,7 +35,7 @@ use Rattle.am_core.specs.Kept.{Local, segment_of}
 use Rattle.am_core.specs.Library.{Work, WorkFits, Note, work_content}
 use Rattle.am_core.specs.ClientRules.{rules}
 use Rattle.am_core.specs.CoreState.{CoreState}
-use Rattle.am_core.specs.Stands.{Stands}
+use Rattle.am_core.specs.Stands.{CoreStands}
 use Rattle.am_core.specs.CoreContracts.{CoreSteps, CoreTold, IsSameNode, AsksOwn, retransmits, core_job}
 use Rattle.endpoint_rules.specs.EndpointLocal.{EndpointLocal, core_of}
 use Rattle.endpoint_rules.specs.EndpointRules.{transition, job_of, next_sending, note_first, next_note, chunk_work}
@@ -49,7 +49,7 @@ use Rattle.std.specs.Prelude.{is_some}
 use Rattle.gas_endpoint.specs.EndpointState.{EndpointState, EndpointStands, ForItsRecord, NodeSteps, job_here}
 use Rattle.gas_endpoint.specs.EndpointState.{IsTickTarget}
 use Rattle.gas_endpoint.specs.EndpointState.{sent_to}
-use Rattle.gas_endpoint.specs.Parts.{Keeps, Parts, IsWhole, CanSend, PartSends, endpoint_of, whole, found_note}
+use Rattle.gas_endpoint.specs.Parts.{EndpointKeeps, Parts, IsWhole, CanSend, PartSends, endpoint_of, whole, found_note}
 use Rattle.gas_endpoint.specs.Parts.{HasRecord}
 use Rattle.gas_endpoint.proofs.Stepping.{steps_by, keeps_of, nothing_runs, barrier_of, stays_whole}
 use Rattle.gas_endpoint.proofs.Calling.{stands_with, same_extended}
@@ -72,12 +72,12 @@ due_again : (meaning : Meaning) (core new : CoreState) (extended : Extended) (no
     (node : Node EndpointLocal) (due : Option Due) (sending : Option Sending) → IsSameNode core new
     → EndpointStands (endpoint_of core extended) node
     → ticked.Retransmission at ≡ tick_answer (rules core.settings core.table meaning) (under core_of node) (choice_of due None)
-    → Stands new
+    → CoreStands new
     (after_tick (site_of (core_job meaning core) core.me) (under core_of node) now (choice_of due None))
     → let job = job_here meaning (endpoint_of core extended) in
     (answers.Ticked (ticked.Retransmission at) ≡ answers.Ticked
     (tick_answer job.behaviour.messages node (choice_of due sending)))
-    × Keeps (endpoint_of new extended) (after_tick (site_of job core.me) node now (choice_of due sending))
+    × EndpointKeeps (endpoint_of new extended) (after_tick (site_of job core.me) node now (choice_of due sending))
 due_again meaning core new extended now at node None sending same S e there = absurd (no e)
   where
     no : ticked.Retransmission at ≡ ticked.Nothing → ⊥
@@ -107,8 +107,8 @@ resend_steps core new extended now at C meaning lawful =
 -- where none is due
 none_due : (meaning : Meaning) (core new : CoreState) (now : ℕ) (node : Node Local) (due : Option Due)
     → ticked.Nothing ≡ tick_answer (rules core.settings core.table meaning) node (choice_of due None)
-    → Stands new (after_tick (site_of (core_job meaning core) core.me) node now (choice_of due None))
-    → (due ≡ None) × Stands new node
+    → CoreStands new (after_tick (site_of (core_job meaning core) core.me) node now (choice_of due None))
+    → (due ≡ None) × CoreStands new node
 none_due meaning core new now node None e there = (refl, there)
 none_due meaning core new now node (Some due) e there = absurd (no e)
   where
@@ -166,7 +166,7 @@ sent_steps core mid extended now to work answer new C next P same meaning lawful
     let did = of_same (λ s t me.
     (answer ≡ tick_answer (job_of s t meaning).behaviour.messages node
     (Sends (sending_of s (segment_of s node.local.core) to work)))
-    × Keeps (whole new) (after_sending (site_of (job_of s t meaning) me) node now
+    × EndpointKeeps (whole new) (after_sending (site_of (job_of s t meaning) me) node now
     (sending_of s (segment_of s node.local.core) to work))) core mid middle (P.steps meaning node due.1) in
     let choice : tick_choice site node now
     ≡ Sends (sending_of core.settings (segment_of core.settings node.local.core) to work) =
@@ -174,7 +174,7 @@ sent_steps core mid extended now to work answer new C next P same meaning lawful
     ∙ ap (λ s. choice_of None s) sending in (
       ap (λ (t : Ticked). answers.Ticked t)
           (did.0 ∙ ap (λ (c : TickChoice). tick_answer site.behaviour node c) (sym choice)),
-      subst (λ (c : TickChoice). Keeps (whole new) (after_tick site node now c)) (sym choice) did.1,
+      subst (λ (c : TickChoice). EndpointKeeps (whole new) (after_tick site node now c)) (sym choice) did.1,
     ))
 
 -- nothing is sent
@@ -194,7 +194,7 @@ rest_steps core new extended now C next meaning lawful =
     ap (λ d. choice_of d (next_sending core.settings core.me (can_ask site node) node.local)) due.0
     ∙ ap (λ s. choice_of None s) sending in (
       ap (λ (c : TickChoice). answers.Ticked (tick_answer site.behaviour node c)) (sym choice),
-      subst (λ (c : TickChoice). Keeps (endpoint_of new extended) (after_tick site node now c)) (sym choice)
+      subst (λ (c : TickChoice). EndpointKeeps (endpoint_of new extended) (after_tick site node now c)) (sym choice)
           (keeps_of (endpoint_of new extended) node due.1),
     ))
 
@@ -327,7 +327,7 @@ asked_core : (core new : CoreState) (extended : Extended) (now to slot number : 
     → AsksOwn core (record { now = now; to = to; work = work; answer = asked.Accepted to slot number }) new
     → EndpointStands (endpoint_of core extended) node
     → (slot ≡ (next_claim (node.asked to)).slot) × (number ≡ (next_claim (node.asked to)).number)
-    × Stands new (with_request (under core_of node) now to (next_claim (node.asked to)).slot
+    × CoreStands new (with_request (under core_of node) now to (next_claim (node.asked to)).slot
     (work_content core.settings.version (segment_of core.settings node.local.core) work))
 asked_core core new extended now to slot number work node may C S =
     let is = is_accepted_as core new extended now to work (asked.Accepted to slot number) node may C S in
@@ -335,7 +335,7 @@ asked_core core new extended now to slot number work node may C S =
     let number_is : number ≡ (next_claim (node.asked to)).number = cc in (
       slot_is,
       number_is,
-      subst (λ q. Stands new (with_request (under core_of node) now to q
+      subst (λ q. CoreStands new (with_request (under core_of node) now to q
           (work_content core.settings.version (segment_of core.settings node.local.core) work))) slot_is
           (C.steps (under core_of node) S.core).1,
     )
@@ -378,7 +378,7 @@ pub chunk_sends : (core new : CoreState) (extended : Extended) (transfers : Tran
       work = chunk_work next;
       answer = asked.Accepted (target next.transfer) slot number;
     }) new
-    → ((can : ℕ → Bool) (operations : List Operation) (bytes : List ℕ) → TransfersStand extended.transfers operations
+    → ((can : ℕ → Bool) (bytes : List ℕ) (operations : List Operation) → TransfersStand extended.transfers operations
     → next_chunk can 1 operations ≡ Some next → IsFreeSlot operations (target next.transfer) slot
     → TransfersStand transfers (issue (target next.transfer) slot number bytes operations))
     → room_of transfers ≡ room_of extended.transfers
@@ -399,7 +399,7 @@ chunk_sends core new extended transfers now slot number next may found C noted r
       let free = subst (λ q. IsFreeSlot node.local.operations to q) (sym it.0)
       (slot_free core.settings.version to node S.tracks) in
       let can = can_ask (site_of (job_here meaning (endpoint_of core extended)) core.me) node in
-      let stands = noted can node.local.operations bytes S.transfers (found meaning node S) free in
+      let stands = noted can bytes node.local.operations S.transfers (found meaning node S) free in
       let issued = subst (λ q. TransfersStand transfers (issue to q claim.number bytes node.local.operations)) it.0
       (subst (λ n. TransfersStand transfers (issue to slot n bytes node.local.operations)) it.1 stands) in (
         rw other (ap (λ q. ticked.Chunk (request_slot to q)) it.0),
@@ -475,7 +475,8 @@ none_first None sending e = refl
 
 -- whether one is sent again
 abbrev pub TellsDue : CoreState → (now : ℕ) → Bool → Type 0
-TellsDue core now is_due = (node : Node Local) → Stands core node → is_due ≡ is_some (next_due core.settings node now)
+TellsDue core now is_due =
+    (node : Node Local) → CoreStands core node → is_due ≡ is_some (next_due core.settings node now)
 
 pub target_due : (core : CoreState) (extended : Extended) (now : ℕ) → TellsDue core now true
     → IsTickTarget (endpoint_of core extended) now None

@@ -6,7 +6,7 @@ use Rattle.datagram_grammar.specs.Refusals.{first_refusal}
 use Rattle.datagram_grammar.specs.declared.refused.Refused.{Refused}
 use Rattle.access_region.specs.declared.Region.{Region as BegunRegion}
 use Rattle.named_barrier.specs.BarrierState.{BarrierState}
-use Rattle.named_barrier.specs.Stands.{Stands as BarrierStands}
+use Rattle.named_barrier.specs.Stands.{BarrierStands}
 use Rattle.put_get.specs.declared.operation.Handle.{Handle}
 use Rattle.put_get.specs.declared.transfers.Transfers.{Transfers}
 use Rattle.put_get.specs.Stands.{Stands as TransfersStand}
@@ -24,7 +24,7 @@ use Rattle.node_record.specs.Transition.{Transition}
 use Rattle.node_record.specs.Under.{under}
 use Rattle.am_core.specs.CoreState.{CoreState}
 use Rattle.am_core.specs.CoreContracts.{IsSameNode}
-use Rattle.am_core.specs.Stands.{Stands}
+use Rattle.am_core.specs.Stands.{CoreStands}
 use Rattle.am_core.specs.Known.{is_accepted}
 use Rattle.endpoint_rules.specs.EndpointLocal.{EndpointLocal, IsEndpointKept, core_of}
 use Rattle.endpoint_rules.specs.EndpointRules.{OtherCall, RecordEvent, job_of, told, transition, unless_forbidden}
@@ -46,7 +46,7 @@ pub record EndpointState : Type 0 where
 
 -- what the endpoint keeps is what the record of its node gives
 pub record EndpointStands (endpoint : EndpointState) (node : Node EndpointLocal) : Type 0 where
-  pub core : Stands endpoint.core (under core_of node)
+  pub core : CoreStands endpoint.core (under core_of node)
   pub kept : IsEndpointKept endpoint.core.settings endpoint.core.me node.local
   pub tracks : NodeTracks endpoint.core.settings.version node
   pub transfers : TransfersStand endpoint.transfers node.local.operations

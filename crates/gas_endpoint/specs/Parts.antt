@@ -16,7 +16,7 @@ use Rattle.node_record.specs.declared.answer.SlotRef.{SlotRef}
 use Rattle.node_record.specs.declared.answer.Ticked.{Ticked}
 use Rattle.node_record.specs.declared.answer.Why.{Why}
 use Rattle.named_barrier.specs.Record.{BarrierRecord, SentNote, hear}
-use Rattle.named_barrier.specs.Stands.{Stands as BarrierStands}
+use Rattle.named_barrier.specs.Stands.{BarrierStands}
 use Rattle.put_get.specs.Operation.{Operation, come_back}
 use Rattle.put_get.specs.Stands.{room_of}
 use Rattle.put_get.specs.Stands.{Stands as TransfersStand}
@@ -26,7 +26,7 @@ use Rattle.am_core.specs.Kept.{segment_of}
 use Rattle.am_core.specs.Library.{Work, WorkFits}
 use Rattle.am_core.specs.CoreState.{CoreState}
 use Rattle.am_core.specs.Sizes.{HasSegment}
-use Rattle.am_core.specs.Stands.{Stands}
+use Rattle.am_core.specs.Stands.{CoreStands}
 use Rattle.am_core.specs.CoreContracts.{IsSameNode}
 use Rattle.endpoint_rules.specs.EndpointLocal.{EndpointLocal, core_of}
 use Rattle.endpoint_rules.specs.EndpointRules.{OtherCall, OnCore, OnTransfers, OnBarrier, with_barrier, sending_of}
@@ -79,8 +79,8 @@ pub record IsSameExtended (old new : Extended) : Type 0 where
   pub room : room_of new.transfers ≡ room_of old.transfers
 
 -- what the endpoint keeps is what its node's record gives
-pub record Keeps (endpoint : EndpointState) (node : Node EndpointLocal) : Type 0 where
-  pub core : Stands endpoint.core (under core_of node)
+pub record EndpointKeeps (endpoint : EndpointState) (node : Node EndpointLocal) : Type 0 where
+  pub core : CoreStands endpoint.core (under core_of node)
   pub transfers : TransfersStand endpoint.transfers node.local.operations
   pub regions_are : endpoint.regions ≡ node.local.regions
   pub registers_are : endpoint.registers ≡ node.local.registers
@@ -105,16 +105,17 @@ caller_in core node thread = record {
 }
 
 -- what a call answers and leaves
-abbrev pub Outcome : Type 0
-Outcome = Caller → EndpointLocal → Answer × EndpointLocal
+abbrev pub EndpointOutcome : Type 0
+EndpointOutcome = Caller → EndpointLocal → Answer × EndpointLocal
 
 -- a call of a thread with this outcome
-pub record PartDoes (old : Parts) (thread : ℕ) (outcome : Outcome) (answer : Answer) (new : Parts) : Type 0 where
+pub record PartDoes (old : Parts) (thread : ℕ) (outcome : EndpointOutcome) (answer : Answer) (new : Parts)
+    : Type 0 where
   pub same : IsSameNode old.core new.core
   pub frame : IsSameExtended old.extended new.extended
   pub steps : ForItsRecord (whole old) (λ node.
       (answer ≡ (outcome (caller_in old.core node thread) node.local).0)
-      × Keeps (whole new) (with_local node (outcome (caller_in old.core node thread) node.local).1))
+      × EndpointKeeps (whole new) (with_local node (outcome (caller_in old.core node thread) node.local).1))
 
 -- the beginning of a transfer by a thread
 pub record Beginning : Type 0 where
@@ -128,7 +129,7 @@ pub record PartBegins (old : Parts) (beginning : Beginning) (says : Begun) (new 
   pub steps : ForItsRecord (whole old) (λ node.
       let caller = caller_in old.core node beginning.thread in
       (says ≡ begin_says caller beginning.transfer node.local.operations)
-      × Keeps (whole new)
+      × EndpointKeeps (whole new)
       (with_local node (after_beginning caller beginning.transfer beginning.mode says node.local)))
 
 -- as which kind of call the rule table judges a call that makes no request, if it does
@@ -145,7 +146,7 @@ kind_of (Requests to asking) = None
 kind_of (Performs call) = judged_as call
 
 -- what such a call does where it is allowed
-abbrev pub allowed_does : Meant → Outcome
+abbrev pub allowed_does : Meant → EndpointOutcome
 allowed_does (Performs (OnTransfers call)) caller local = transfer_does caller call local
 allowed_does (Performs (OnBarrier call)) caller local = with_barrier local (barrier_does caller call local.barrier)
 allowed_does (Performs (OnCore (Attempt kind))) caller local = (answers.Allowed, local)
@@ -212,7 +213,7 @@ pub record PartSends (old : Parts) (sent : Sent) (answer : Ticked) (new : Parts)
       let job = job_here meaning (whole old) in
       let sending = sending_in (whole old) node sent in
       (answer ≡ tick_answer job.behaviour.messages node (Sends sending))
-      × Keeps (whole new) (after_sending (site_of job old.core.me) node sent.now sending))
+      × EndpointKeeps (whole new) (after_sending (site_of job old.core.me) node sent.now sending))
 
 -- ---- an endpoint's own calls
 

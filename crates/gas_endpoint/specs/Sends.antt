@@ -16,14 +16,14 @@ use Rattle.endpoint_rules.specs.declared.call.Event.TheVariants as event
 use Rattle.endpoint_rules.specs.declared.answer.Answer.{Answer}
 
 -- the slot of its sender in which a message stands
-abbrev pub slot_of : Packet → SlotRef
-slot_of (Asking place content) = request_slot place.to place.slot
-slot_of (Replying place content) = reply_slot place.from place.slot
+abbrev pub sender_slot : Packet → SlotRef
+sender_slot (Asking place content) = request_slot place.to place.slot
+sender_slot (Replying place content) = reply_slot place.from place.slot
 
 -- the messages are the one of that slot, or none
 abbrev pub AreThatOf : Option SlotRef → List Packet → Type 0
 AreThatOf None packets = packets ≡ []
-AreThatOf (Some at) packets = (packet : Packet) × (packets ≡ packet ∷ []) × (slot_of packet ≡ at)
+AreThatOf (Some at) packets = (packet : Packet) × (packets ≡ packet ∷ []) × (sender_slot packet ≡ at)
 
 -- an event that falls on the node sends the message of the slot that its answer names
 abbrev pub NodeSends : Meaning → EndpointState → Transition RecordEvent Answer → Type 0

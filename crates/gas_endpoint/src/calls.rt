@@ -39,7 +39,8 @@ impl Extended {
         requires may { MayBeCalled core.old.settings thread call.now }
         requires judged { kind_of (meant call.now) ≢ None }
         ensures { PartDoes (record { core = core.old; extended = self.old }) thread
-            (allowed_does (meant call.now)) result (record { core = core.new; extended = self.new }) }
+            (allowed_does (meant call.now)) result
+            (record { core = core.new; extended = self.new }) }
     {
         match *call {
             Call::Poll => Answer::Polled,

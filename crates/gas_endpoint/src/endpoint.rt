@@ -9,7 +9,7 @@ ghost use Rattle.node_record.specs.Credits.{greatest_holding};
 ghost use Rattle.node_record.specs.Held.{held};
 ghost use Rattle.node_record.specs.NodeStep.{Ticks};
 ghost use Rattle.node_record.specs.Record.{opening_node};
-ghost use Rattle.node_record.specs.SlotMessages.{message_at, number_at};
+ghost use Rattle.node_record.specs.SlotMessages.{message_at, number_in_slot};
 ghost use Rattle.put_get.specs.Operation.{has_unissued};
 ghost use Rattle.put_get.specs.Syncs.{issued_answer};
 ghost use Rattle.am_core.specs.Kept.{segment_of};
@@ -136,7 +136,7 @@ impl Endpoint {
     /// The number of the message of a slot, from 1: None exactly where `message` is None.
     pub fn number(&self, at: SlotRef) -> Option<u64>
         ensures { ForItsRecord self.now (λ node.
-            result ≡ number_at self.now.core.settings self.now.core.me node at) }
+            result ≡ number_in_slot self.now.core.settings self.now.core.me node at) }
     {
         self.core.number(at)
     }

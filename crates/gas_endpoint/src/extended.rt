@@ -2,8 +2,8 @@
 
 ghost use Rattle.std.specs.Prelude.{◌≡◌, ◌≢◌, ◌<◌, ◌≤◌, ℕ, true, [], None, IfOk, length, replicate};
 ghost use Rattle.datagram_grammar.specs.Parameters.{credits_of, AreInRange};
-ghost use Rattle.named_barrier.specs.Record.{opened};
-ghost use Rattle.named_barrier.specs.Stands.{Stands as BarrierStands};
+ghost use Rattle.named_barrier.specs.Record.{opened_record};
+ghost use Rattle.named_barrier.specs.Stands.{BarrierStands};
 ghost use Rattle.put_get.specs.Stands.{room_of};
 ghost use Rattle.put_get.specs.Stands.{Stands as TransfersStand, HasOperations};
 ghost use Rattle.node_record.specs.Step.{is_exhausted};
@@ -74,7 +74,7 @@ impl Extended {
             extended.regions ≡ replicate settings.now.threads None) }
         ensures registers { IfOk result (λ extended. extended.registers ≡ replicate 256 invalid) }
         ensures barrier { IfOk result (λ extended.
-            BarrierStands settings.now.nodes me extended.barrier opened) }
+            BarrierStands settings.now.nodes me extended.barrier opened_record) }
         ensures barrier_nodes { IfOk result (λ extended.
             extended.barrier.nodes ≡ settings.now.nodes) }
         ensures range { AreInRange settings.now }

@@ -12,14 +12,14 @@ use Rattle.std.specs.Global.{Vec}
 use Rattle.std.specs.Prelude.{nat_le, slice_index_or}
 use Rattle.std.proofs.lemmas.List.{map-append, get_or-map}
 use Rattle.gas_outside.specs.Memory.{is_listed}
-use Rattle.gas_outside.specs.MemorySpawner.{SpawnerState, told_of, calls_of, children_of, output_of, can_end}
+use Rattle.gas_outside.specs.MemorySpawner.{SpawnerState, told_of, told_calls, children_of, output_of, can_end}
 use Rattle.gas_outside.specs.MemorySpawner.{pending_below, HasRoom}
 use Rattle.gas_outside.specs.declared.spawn_call.SpawnCall.{SpawnCall}
 use Rattle.std.proofs.Math.Bool.{or-false, or-true}
 
 -- a test of the calls, of those in vectors
 pub any_of_calls : (p : ToldCall → Bool) (calls : List SpawnCall)
-    → list_any (λ call. p (told_of call)) calls ≡ list_any p (calls_of calls)
+    → list_any (λ call. p (told_of call)) calls ≡ list_any p (told_calls calls)
 any_of_calls p [] = refl
 any_of_calls p (call ∷ calls) = ap (λ b. p (told_of call) || b) (any_of_calls p calls)
 
@@ -214,31 +214,31 @@ room_for_one ranks rank calls calls_room ends_room was h =
 pending_of : (started finished : Bool) (rank : ℕ) (calls : List SpawnCall)
     → started ≡ list_any (λ call. is_start_of rank (told_of call)) calls
     → finished ≡ list_any (λ call. is_finish_of rank (told_of call)) calls
-    → (started && not finished) ≡ is_pending rank (calls_of calls)
+    → (started && not finished) ≡ is_pending rank (told_calls calls)
 pending_of started finished rank calls e f =
     ap (λ b. b && not finished) (e ∙ any_of_calls (is_start_of rank) calls)
-    ∙ ap (λ b. was_started rank (calls_of calls) && not b) (f ∙ any_of_calls (is_finish_of rank) calls)
+    ∙ ap (λ b. was_started rank (told_calls calls) && not b) (f ∙ any_of_calls (is_finish_of rank) calls)
 
 -- a child that was started is pending where it wasn't finished
 pub pending_started : (started finished : Bool) (rank : ℕ) (calls : List SpawnCall)
     → started ≡ list_any (λ call. is_start_of rank (told_of call)) calls
     → finished ≡ list_any (λ call. is_finish_of rank (told_of call)) calls
-    → started ≡ true → not finished ≡ is_pending rank (calls_of calls)
+    → started ≡ true → not finished ≡ is_pending rank (told_calls calls)
 pending_started started finished rank calls e f was =
     ap (λ b. b && not finished) (sym was) ∙ pending_of started finished rank calls e f
 
 -- and one that wasn't started isn't
 pub pending_unstarted : (started : Bool) (rank : ℕ) (calls : List SpawnCall)
     → started ≡ list_any (λ call. is_start_of rank (told_of call)) calls → started ≡ false
-    → started ≡ is_pending rank (calls_of calls)
+    → started ≡ is_pending rank (told_calls calls)
 pending_unstarted started rank calls e never =
-    never ∙ ap (λ b. b && not (list_any (is_finish_of rank) (calls_of calls))) (sym never ∙ e
+    never ∙ ap (λ b. b && not (list_any (is_finish_of rank) (told_calls calls))) (sym never ∙ e
     ∙ any_of_calls (is_start_of rank) calls)
 
 -- one call more
 pub calls_push : (calls new : List SpawnCall) (call : SpawnCall) → new ≡ calls ++ call ∷ []
-    → calls_of new ≡ calls_of calls ++ told_of call ∷ []
-calls_push calls new call e = ap calls_of e ∙ map-append told_of calls (call ∷ [])
+    → told_calls new ≡ told_calls calls ++ told_of call ∷ []
+calls_push calls new call e = ap told_calls e ∙ map-append told_of calls (call ∷ [])
 
 -- ---- the children in vectors
 

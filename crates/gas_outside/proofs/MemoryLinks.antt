@@ -4,14 +4,14 @@ use Rattle.std.proofs.Common.{slice_index_or, slice_set}
 use Rattle.std.proofs.lemmas.List.{map-set, get_or-map, take_more_set, drop-set-lt, drop_more}
 use Rattle.std.specs.Global.{Vec}
 use Rattle.gas_outside.specs.Datagrams.{bytes_of}
-use Rattle.gas_outside.specs.MemoryLink.{LinkState, called, GivesAt, ReceivesFirst}
+use Rattle.gas_outside.specs.MemoryLink.{LinkState, link_called, GivesDatagramAt, ReceivesFirst}
 
 -- a datagram is cut in its vector
 pub gives_at : (all : List (Vec ℕ)) (datagram cut : Vec ℕ) (place n : ℕ) (room filled : List ℕ)
     → place < length all → datagram ≡ slice_index_or all place datagram
     → n ≡ min (length datagram.items) (length room) → filled ≡ take n datagram.items ++ drop n room
     → cut.items ≡ take n datagram.items
-    → GivesAt (record {
+    → GivesDatagramAt (record {
       place = place;
       count = n;
       old = bytes_of all;
@@ -32,8 +32,8 @@ gives_at all datagram cut place n room filled within chosen count copied front =
 -- the datagrams up to a place were given, and now the one at that place is
 pub receives_first : (old new : LinkState) (all after : List (List ℕ)) (given n : ℕ) (room filled : List ℕ)
     → given < length all → old.waiting ≡ drop given all → old.received ≡ take given all
-    → GivesAt (record { place = given; count = n; old = all; new = after; room = room; filled = filled })
-    → new ≡ record (called old) { received = take (given + 1) after; waiting = drop (given + 1) after }
+    → GivesDatagramAt (record { place = given; count = n; old = all; new = after; room = room; filled = filled })
+    → new ≡ record (link_called old) { received = take (given + 1) after; waiting = drop (given + 1) after }
     → ReceivesFirst old new n room filled
 receives_first old new all after given n room filled within waiting received h new_is =
     let first = slice_index_or all given [] in
@@ -48,6 +48,7 @@ receives_first old new all after given n room filled within waiting received h n
       waiting = waiting ∙ drop_more all given [] within;
       count = h.count;
       filled_is = h.filled_is;
-      new_is = new_is ∙ ap (λ list. record (called old) { received = list; waiting = drop (given + 1) after }) taken
-          ∙ ap (λ list. record (called old) { received = old.received ++ take n first ∷ []; waiting = list }) left;
+      new_is = new_is
+          ∙ ap (λ list. record (link_called old) { received = list; waiting = drop (given + 1) after }) taken
+          ∙ ap (λ list. record (link_called old) { received = old.received ++ take n first ∷ []; waiting = list }) left;
     }

@@ -7,7 +7,7 @@ use Rattle.std.proofs.lemmas.Bool.Decides.{nat_tests}
 use Rattle.gas_outside.specs.Faults.{one_more, Rose}
 use Rattle.gas_outside.specs.Told.{and_all, and_then}
 use Rattle.gas_outside.specs.Link.{SentTold}
-use Rattle.gas_outside.specs.Sieve.{Sieving, Plan, Follows, rule_for, plan_of, next_plan, numbered, is_plain}
+use Rattle.gas_outside.specs.Sieve.{Sieving, Plan, Follows, rule_for, plan_of, next_plan, numbered, is_plain_sieve}
 use Rattle.gas_outside.specs.declared.link.Link.{Ghosts}
 use Rattle.gas_outside.specs.declared.link.LinkAnswer.{LinkAnswer}
 use Rattle.gas_outside.specs.declared.link.LinkAnswer.TheVariants as answer
@@ -116,7 +116,7 @@ zeros : (a b c : ℕ) → ((a == 0) && (b == 0) && (c == 0)) ≡ true → (a ≡
 zeros a b c e = grind (arith, nat_tests)
 
 -- then each datagram is sent once
-plain_plan : {L : Type 0} (sieve : Sieving L) (datagram : ℕ × List ℕ) → is_plain sieve ≡ true
+plain_plan : {L : Type 0} (sieve : Sieving L) (datagram : ℕ × List ℕ) → is_plain_sieve sieve ≡ true
     → (sieve.swap ≡ 0 → sieve.held ≡ None)
     → next_plan sieve datagram ≡ record { own = datagram ∷ []; freed = []; held = None }
 plain_plan sieve datagram plain none =
@@ -138,12 +138,12 @@ untold datagram answer.Done = refl
 untold datagram answer.Failed = refl
 
 same_plain : {L : Type 0} (link : Ghosts L) (plan : Plan) (old new : Sieving L) (said : LinkAnswer)
-    → Follows link plan old said new → is_plain new ≡ is_plain old
-same_plain link plan old new answer.Done h = ap is_plain h.rest
-same_plain link plan old new answer.Failed h = ap is_plain h.rest
+    → Follows link plan old said new → is_plain_sieve new ≡ is_plain_sieve old
+same_plain link plan old new answer.Done h = ap is_plain_sieve h.rest
+same_plain link plan old new answer.Failed h = ap is_plain_sieve h.rest
 
 plain_cases : {L : Type 0} (link : Ghosts L) (datagram : ℕ × List ℕ) (old new : Sieving L) (said : LinkAnswer)
-    (plain : Bool) → is_plain old ≡ plain
+    (plain : Bool) → is_plain_sieve old ≡ plain
     → (old.swap ≡ 0 → old.held ≡ None) → Follows link (next_plan old datagram) (numbered old) said new
     → SentTold said datagram (if plain then link.sent old.inner else None) (if plain then link.sent new.inner else None)
 plain_cases link datagram old new said false e none h = untold datagram said
@@ -154,10 +154,10 @@ plain_cases link datagram old new said true e none h =
 -- what a sieve tells as sent
 pub told_sent : {L : Type 0} (link : Ghosts L) (datagram : ℕ × List ℕ) (old new : Sieving L) (said : LinkAnswer)
     → (old.swap ≡ 0 → old.held ≡ None) → Follows link (next_plan old datagram) (numbered old) said new
-    → SentTold said datagram (if is_plain old then link.sent old.inner else None)
-    (if is_plain new then link.sent new.inner else None)
+    → SentTold said datagram (if is_plain_sieve old then link.sent old.inner else None)
+    (if is_plain_sieve new then link.sent new.inner else None)
 told_sent link datagram old new said none h =
-    subst (λ plain. SentTold said datagram (if is_plain old then link.sent old.inner else None)
+    subst (λ plain. SentTold said datagram (if is_plain_sieve old then link.sent old.inner else None)
     (if plain then link.sent new.inner else None))
     (sym (same_plain link (next_plan old datagram) (numbered old) new said h))
-    (plain_cases link datagram old new said (is_plain old) refl none h)
+    (plain_cases link datagram old new said (is_plain_sieve old) refl none h)

@@ -20,8 +20,8 @@ pub record LinkState : Type 0 where
   pub faults : ℕ
 
 -- the link after a call that did nothing else
-abbrev pub called : LinkState → LinkState
-called state = record state { calls = one_more state.calls }
+abbrev pub link_called : LinkState → LinkState
+link_called state = record state { calls = one_more state.calls }
 
 -- the link after a call that failed
 abbrev pub call_failed : LinkState → LinkState
@@ -30,7 +30,7 @@ call_failed state = record state { calls = one_more state.calls; faults = one_mo
 -- a bind: `Failed` exactly where its number is listed
 abbrev pub BindsNext : LinkState → LinkState → LinkAnswer → ℕ × ℕ × ℕ → Type 0
 BindsNext old new answer.Done place =
-    (is_listed old.fail (one_more old.calls) ≡ false) × (new ≡ record (called old) { bound = Some place })
+    (is_listed old.fail (one_more old.calls) ≡ false) × (new ≡ record (link_called old) { bound = Some place })
 BindsNext old new answer.Failed place =
     (is_listed old.fail (one_more old.calls) ≡ true) × (new ≡ call_failed old)
 
@@ -38,7 +38,8 @@ BindsNext old new answer.Failed place =
 -- want of memory
 abbrev pub SendsNext : LinkState → LinkState → LinkAnswer → ℕ × List ℕ → Type 0
 SendsNext old new answer.Done datagram =
-    (is_listed old.fail (one_more old.calls) ≡ false) × (new ≡ record (called old) { sent = old.sent ++ datagram ∷ [] })
+    (is_listed old.fail (one_more old.calls) ≡ false)
+    × (new ≡ record (link_called old) { sent = old.sent ++ datagram ∷ [] })
 SendsNext old new answer.Failed datagram = new ≡ call_failed old
 
 -- the first of what waits goes into the front of the buffer, as much of it as there is room for
@@ -48,14 +49,14 @@ pub record ReceivesFirst (old new : LinkState) (n : ℕ) (room filled : List ℕ
   pub waiting : old.waiting ≡ first ∷ rest
   pub count : n ≡ min (length first) (length room)
   pub filled_is : filled ≡ take n first ++ drop n room
-  pub new_is : new ≡ record (called old) { received = old.received ++ take n first ∷ []; waiting = rest }
+  pub new_is : new ≡ record (link_called old) { received = old.received ++ take n first ∷ []; waiting = rest }
 
 -- a receive: `Failed` exactly where its number is listed; else `Empty` exactly where nothing waits; else the first
 abbrev pub ReceivesNext : LinkState → LinkState → Received → List ℕ → List ℕ → Type 0
 ReceivesNext old new (received.Got n) room filled =
     (is_listed old.fail (one_more old.calls) ≡ false) × ReceivesFirst old new n room filled
 ReceivesNext old new received.Empty room filled =
-    (is_listed old.fail (one_more old.calls) ≡ false) × (old.waiting ≡ []) × (new ≡ called old) × (filled ≡ room)
+    (is_listed old.fail (one_more old.calls) ≡ false) × (old.waiting ≡ []) × (new ≡ link_called old) × (filled ≡ room)
 ReceivesNext old new received.Failed room filled =
     (is_listed old.fail (one_more old.calls) ≡ true) × (new ≡ call_failed old) × (filled ≡ room)
 
@@ -70,7 +71,7 @@ pub record Giving : Type 0 where
   pub filled : List ℕ
 
 -- the datagram at this place is cut to so many bytes, and they go into the front of the buffer
-pub record GivesAt (giving : Giving) : Type 0 where
+pub record GivesDatagramAt (giving : Giving) : Type 0 where
   pub count : giving.count ≡ min (length (slice_index_or giving.old giving.place [])) (length giving.room)
   pub filled_is : giving.filled
       ≡ take giving.count (slice_index_or giving.old giving.place []) ++ drop giving.count giving.room

@@ -31,8 +31,8 @@ abbrev pub told_of : SpawnCall → ToldCall
 told_of (call.Start rank port input) = Start rank port input.items
 told_of (call.Finish rank) = Finish rank
 
-abbrev pub calls_of : List SpawnCall → List ToldCall
-calls_of calls = map told_of calls
+abbrev pub told_calls : List SpawnCall → List ToldCall
+told_calls calls = map told_of calls
 
 -- what the child of a rank gives, and its exit status
 abbrev pub output_of : List (List ℕ × ℕ) → ℕ → List ℕ
@@ -47,12 +47,12 @@ output_by children rank (finished.Ended status) = output_of children rank
 output_by children rank finished.Failed = []
 output_by children rank finished.NoMemory = []
 
-abbrev pub end_of : List (List ℕ × ℕ) → ℕ → Finished → ChildEnd
-end_of children rank answer =
+abbrev pub child_end_told : List (List ℕ × ℕ) → ℕ → Finished → ChildEnd
+child_end_told children rank answer =
     record { rank = rank; output = output_by children rank answer; answer = answer }
 
 abbrev pub ends_of : List (List ℕ × ℕ) → List (ℕ × Finished) → List ChildEnd
-ends_of children ends = map (λ end. end_of children end.0 end.1) ends
+ends_of children ends = map (λ end. child_end_told children end.0 end.1) ends
 
 -- how many of the ranks below this one have a child that was started, and not finished yet
 abbrev pub pending_below : ℕ → List ToldCall → ℕ
@@ -66,8 +66,8 @@ pub record HasRoom (ranks : ℕ) (calls : List ToldCall) (calls_room ends_room :
   pub there : (rank : ℕ) → is_pending rank calls ≡ true → rank < ranks
 
 -- the spawner after a call that did nothing else
-abbrev pub called : SpawnerState → SpawnerState
-called state = record state { calls = one_more state.calls }
+abbrev pub spawner_called : SpawnerState → SpawnerState
+spawner_called state = record state { calls = one_more state.calls }
 
 -- the spawner after a call that failed
 abbrev pub call_failed : SpawnerState → SpawnerState
@@ -80,7 +80,7 @@ StartsNext rank start old started.Started new =
     (is_listed old.fail (one_more old.calls) ≡ false)
     × (rank < length old.children)
     × (was_started rank old.told.calls ≡ false)
-    × (new ≡ record (called old) { told = told_call start old.told })
+    × (new ≡ record (spawner_called old) { told = told_call start old.told })
 StartsNext rank start old started.Failed new = new ≡ call_failed old
 
 -- a finish of this rank doesn't fail as the call with the last number
@@ -100,10 +100,10 @@ EndsAs rank state finished.NoMemory before after = (can_end rank state ≡ true)
 
 -- the spawner after the end of a child was told
 abbrev pub ended_as : ℕ → Finished → SpawnerState → SpawnerState
-ended_as rank answer state = record state { told = told_end (end_of state.children rank answer) state.told }
+ended_as rank answer state = record state { told = told_end (child_end_told state.children rank answer) state.told }
 
 -- and after the whole finish
 abbrev pub finished_as : ℕ → Finished → SpawnerState → SpawnerState
-finished_as rank (finished.Ended status) old = ended_as rank (finished.Ended status) (called old)
+finished_as rank (finished.Ended status) old = ended_as rank (finished.Ended status) (spawner_called old)
 finished_as rank finished.Failed old = ended_as rank finished.Failed (call_failed old)
-finished_as rank finished.NoMemory old = ended_as rank finished.NoMemory (called old)
+finished_as rank finished.NoMemory old = ended_as rank finished.NoMemory (spawner_called old)

@@ -20,8 +20,8 @@ pub record Sieving (L : Type 0) : Type 0 where
   pub held : Option (ℕ × List ℕ)
 
 -- the three numbers are 0
-abbrev pub is_plain : {L : Type 0} → Sieving L → Bool
-is_plain sieve = (sieve.lose == 0) && (sieve.repeat == 0) && (sieve.swap == 0)
+abbrev pub is_plain_sieve : {L : Type 0} → Sieving L → Bool
+is_plain_sieve sieve = (sieve.lose == 0) && (sieve.repeat == 0) && (sieve.swap == 0)
 
 -- the step isn't 0, and divides the number
 abbrev pub divides : (step number : ℕ) → Bool

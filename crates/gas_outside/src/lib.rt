@@ -49,7 +49,7 @@ mod writing;
 
 pub use buffered::BufferedSink;
 pub use clock::{Clock, FixedClock};
-pub use link::{Link, LinkAnswer, Received};
+pub use link::{Link, LinkAnswer, MAX_DATAGRAM, Received};
 pub use memory::{MemorySink, MemorySource};
 pub use memory_link::MemoryLink;
 pub use memory_spawner::MemorySpawner;

@@ -5,6 +5,9 @@ ghost use Rattle.gas_outside.specs.Faults.{Rose};
 ghost use Rattle.gas_outside.specs.Link.{BoundTold, SentTold, ReceivedTold, WaitingTold, IsFailed};
 ghost use Rattle.gas_outside.specs.Link.{IsReceiveFailed};
 
+/// The most bytes of a datagram that a link before another one keeps or seals.
+pub const MAX_DATAGRAM: usize = 8296;
+
 /// What a link answers to `bind` and `send`.
 #[derive(Clone, Copy, PartialEq, Eq)]
 pub enum LinkAnswer {

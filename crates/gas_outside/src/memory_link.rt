@@ -6,7 +6,7 @@ ghost use Rattle.gas_outside.specs.Faults.{Rose};
 ghost use Rattle.gas_outside.specs.Link.{BoundTold, SentTold, ReceivedTold, WaitingTold, IsFailed};
 ghost use Rattle.gas_outside.specs.Link.{IsReceiveFailed};
 ghost use Rattle.gas_outside.specs.MemoryLink.{LinkState, BindsNext, SendsNext, ReceivesNext};
-ghost use Rattle.gas_outside.specs.MemoryLink.{GivesAt};
+ghost use Rattle.gas_outside.specs.MemoryLink.{GivesDatagramAt};
 
 use crate::link::{Link, LinkAnswer, Received};
 use crate::memory::copy_front;
@@ -185,7 +185,7 @@ impl Link for MemoryLink {
 /// Gives as much of the datagram at this place as there is room for, cuts it to that, and answers how much it is.
 fn give_at(datagrams: &mut Vec<Vec<u8>>, place: usize, buf: &mut [u8]) -> usize
     requires { place < length datagrams.old.items }
-    ensures { GivesAt (record {
+    ensures { GivesDatagramAt (record {
       place = place;
       count = result;
       old = bytes_of datagrams.old.items;

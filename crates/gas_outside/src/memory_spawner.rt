@@ -4,8 +4,8 @@ ghost use Rattle.std.specs.Prelude.{◌≡◌, ◌≤◌, ◌<◌, [], true, fal
 ghost use Rattle.std.specs.Prelude.{length, option_map};
 ghost use Rattle.std.specs.List.{list_any};
 ghost use Rattle.gas_outside.specs.Faults.{Rose};
-ghost use Rattle.gas_outside.specs.MemorySpawner.{SpawnerState, StartsNext, EndsAs, called};
-ghost use Rattle.gas_outside.specs.MemorySpawner.{ended_as, finished_as, calls_of, children_of};
+ghost use Rattle.gas_outside.specs.MemorySpawner.{SpawnerState, StartsNext, EndsAs, spawner_called};
+ghost use Rattle.gas_outside.specs.MemorySpawner.{ended_as, finished_as, told_calls, children_of};
 ghost use Rattle.gas_outside.specs.MemorySpawner.{told_of};
 ghost use Rattle.gas_outside.specs.Spawner.{SpawnTold, StartTold, AppendsOutput, EndsPending};
 ghost use Rattle.gas_outside.specs.Spawner.{IsStartFailed, IsFinishFailed, child_end, told_end};
@@ -38,7 +38,7 @@ pub struct MemorySpawner {
 
 impl Model for MemorySpawner {
     ghost use Rattle.std.specs.Prelude.{◌-◌, vec_capacity, vec_len};
-    ghost use Rattle.gas_outside.specs.MemorySpawner.{SpawnerState, HasRoom, calls_of, children_of};
+    ghost use Rattle.gas_outside.specs.MemorySpawner.{SpawnerState, HasRoom, told_calls, children_of};
     ghost use Rattle.gas_outside.specs.MemorySpawner.{ends_of};
 
     ghost Value = { SpawnerState };
@@ -46,7 +46,7 @@ impl Model for MemorySpawner {
     ghost view = { λ s. record {
       children = children_of s.children.items;
       told = record {
-        calls = calls_of s.told.items;
+        calls = told_calls s.told.items;
         ended = ends_of (children_of s.children.items) s.ends.items;
       };
       fail = s.fail.items;
@@ -54,7 +54,7 @@ impl Model for MemorySpawner {
       faults = s.faults;
     } };
 
-    ghost invariant = { λ s. HasRoom (vec_len s.children) (calls_of s.told.items)
+    ghost invariant = { λ s. HasRoom (vec_len s.children) (told_calls s.told.items)
         (vec_capacity s.told - vec_len s.told) (vec_capacity s.ends - vec_len s.ends) };
 }
 
@@ -89,7 +89,7 @@ impl MemorySpawner {
 
     /// The starts and finishes that it tells, in order.
     pub fn calls(&self) -> &[SpawnCall]
-        ensures { calls_of result.now ≡ self.now.told.calls }
+        ensures { told_calls result.now ≡ self.now.told.calls }
     {
         &self.told
     }
@@ -178,7 +178,7 @@ fn was_finished(calls: &[SpawnCall], rank: u16) -> bool
 
 /// Whether it was started, and not finished yet.
 fn is_pending(calls: &[SpawnCall], rank: u16) -> bool
-    ensures { result ≡ is_told_pending rank (calls_of calls.now) }
+    ensures { result ≡ is_told_pending rank (told_calls calls.now) }
 {
     was_started(calls, rank) && !was_finished(calls, rank)
 }
@@ -220,7 +220,7 @@ impl Spawner for MemorySpawner {
         ensures pending { EndsPending result rank (Some self.old.told) }
         ensures later { self.old.faults ≤ self.new.faults }
         ensures cause { IsFinishFailed result → Rose self.old.faults self.new.faults }
-        ensures ends { EndsAs rank (called self.old) result into.old.items into.new.items }
+        ensures ends { EndsAs rank (spawner_called self.old) result into.old.items into.new.items }
         ensures exact { self.new ≡ finished_as rank result self.old }
     {
         self.calls = self.calls.saturating_add(1);

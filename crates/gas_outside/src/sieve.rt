@@ -5,16 +5,13 @@ ghost use Rattle.std.specs.Prelude.{option_to_list, if◌then◌else◌};
 ghost use Rattle.gas_outside.specs.Faults.{Rose};
 ghost use Rattle.gas_outside.specs.Link.{BoundTold, SentTold, ReceivedTold, WaitingTold, IsFailed};
 ghost use Rattle.gas_outside.specs.Link.{IsReceiveFailed};
-ghost use Rattle.gas_outside.specs.Sieve.{Sieving, Plan, Follows, KeepsInner, next_plan, numbered, is_plain};
+ghost use Rattle.gas_outside.specs.Sieve.{Sieving, Plan, Follows, KeepsInner, next_plan, numbered, is_plain_sieve};
 ghost use Rattle.gas_outside.specs.Sieve.{rule_for, divides as divides_exactly};
 
-use crate::link::{Link, LinkAnswer, Received};
+use crate::link::{Link, LinkAnswer, MAX_DATAGRAM, Received};
 use crate::sieve_rule::SieveRule;
 use std::alloc::Global;
 use std::marker::Model;
-
-/// The longest datagram that a sieve holds back.
-const ROOM: usize = 8296;
 
 /// A link that loses, repeats and swaps some of the datagrams that it sends by the link behind it.
 ///
@@ -70,7 +67,7 @@ impl<L: Link> Sieve<L> {
           held = None;
         } in MatchResult result (λ sieve. sieve ≡ made) (λ back. back ≡ inner) }
     {
-        match Vec::with_capacity(alloc, ROOM) {
+        match Vec::with_capacity(alloc, MAX_DATAGRAM) {
             Err(_) => Err(inner),
             Ok(buffer) => Ok(Sieve {
                 inner,
@@ -124,7 +121,7 @@ impl<L: Link> Sieve<L> {
             SieveRule::Lose
         } else if divides(self.repeat, self.number) {
             SieveRule::Repeat
-        } else if divides(self.swap, self.number) && len <= ROOM {
+        } else if divides(self.swap, self.number) && len <= MAX_DATAGRAM {
             SieveRule::HoldBack
         } else {
             SieveRule::Pass
@@ -187,11 +184,11 @@ fn divides(step: u32, number: u64) -> bool
 
 impl<L: Link> Link for Sieve<L> {
     ghost use Rattle.std.specs.Prelude.{if◌then◌else◌, None};
-    ghost use Rattle.gas_outside.specs.Sieve.{is_plain};
+    ghost use Rattle.gas_outside.specs.Sieve.{is_plain_sieve};
 
     ghost bound = { λ s. L.bound s.inner };
 
-    ghost sent = { λ s. if is_plain s then L.sent s.inner else None };
+    ghost sent = { λ s. if is_plain_sieve s then L.sent s.inner else None };
 
     ghost received = { λ s. L.received s.inner };
 
@@ -203,8 +200,8 @@ impl<L: Link> Link for Sieve<L> {
     fn bind(&mut self, rank: u16, nodes: u16, port: u16) -> LinkAnswer
         ensures bound { BoundTold result (rank, nodes, port) (L.bound self.old.inner)
             (L.bound self.new.inner) }
-        ensures sent { (if is_plain self.new then L.sent self.new.inner else None)
-            ≡ (if is_plain self.old then L.sent self.old.inner else None) }
+        ensures sent { (if is_plain_sieve self.new then L.sent self.new.inner else None)
+            ≡ (if is_plain_sieve self.old then L.sent self.old.inner else None) }
         ensures unsent { L.sent self.new.inner ≡ L.sent self.old.inner }
         ensures received { L.received self.new.inner ≡ L.received self.old.inner }
         ensures waiting { L.waiting self.new.inner ≡ L.waiting self.old.inner }
@@ -219,8 +216,8 @@ impl<L: Link> Link for Sieve<L> {
     /// Sends a datagram by the rule for its number, as `hand` does.
     fn send(&mut self, to: u16, bytes: &[u8]) -> LinkAnswer
         ensures sent { SentTold result (to, bytes.now)
-            (if is_plain self.old then L.sent self.old.inner else None)
-            (if is_plain self.new then L.sent self.new.inner else None) }
+            (if is_plain_sieve self.old then L.sent self.old.inner else None)
+            (if is_plain_sieve self.new then L.sent self.new.inner else None) }
         ensures bound { L.bound self.new.inner ≡ L.bound self.old.inner }
         ensures received { L.received self.new.inner ≡ L.received self.old.inner }
         ensures waiting { L.waiting self.new.inner ≡ L.waiting self.old.inner }
@@ -240,8 +237,8 @@ impl<L: Link> Link for Sieve<L> {
         ensures waiting { WaitingTold result buf.new (L.waiting self.old.inner)
             (L.waiting self.new.inner) }
         ensures bound { L.bound self.new.inner ≡ L.bound self.old.inner }
-        ensures sent { (if is_plain self.new then L.sent self.new.inner else None)
-            ≡ (if is_plain self.old then L.sent self.old.inner else None) }
+        ensures sent { (if is_plain_sieve self.new then L.sent self.new.inner else None)
+            ≡ (if is_plain_sieve self.old then L.sent self.old.inner else None) }
         ensures unsent { L.sent self.new.inner ≡ L.sent self.old.inner }
         ensures later { L.faults self.old.inner ≤ L.faults self.new.inner }
         ensures cause { IsReceiveFailed result

@@ -6,7 +6,7 @@ use Rattle.std.specs.List.{list_any}
 use Rattle.std.proofs.Math.Nat.{zero-mul, mul-zero, mul_comm, mul_assoc, le-mul_of_pos_right}
 use Rattle.std.proofs.lemmas.Bool.{cases_Bool, eqb-true, eqb-false}
 use Rattle.gas_strided.specs.declared.shapes.Level.{Level}
-use Rattle.gas_strided.specs.Pairs.{Pair, joined, level_pairs, vectors}
+use Rattle.gas_strided.specs.Pairs.{Pair, joined_lists, level_pairs, vectors}
 use Rattle.gas_strided.specs.Runs.{AreFew, is_none}
 
 le-mul_of_pos_left : (a b : ℕ) → 0 < a → b ≤ a * b
@@ -91,7 +91,7 @@ many_then levels place so_far none within are some many =
 
 -- ---- no pairs
 
-no_joined : (list : ℕ → List Pair) (many : ℕ) → ((index : ℕ) → list index ≡ []) → joined list many ≡ []
+no_joined : (list : ℕ → List Pair) (many : ℕ) → ((index : ℕ) → list index ≡ []) → joined_lists list many ≡ []
 no_joined list zero none = refl
 no_joined list (suc many) none = ap₂ (λ a b. a ++ b) (no_joined list many none) (none many)
 
@@ -108,13 +108,14 @@ no_pairs (level ∷ deeper) remote local len none =
     by_rest (vectors deeper) refl (λ index is.
     no_pairs deeper (remote + index * level.remote) (local + index * level.local) len is)
   where
-    by_count : (count rest : ℕ) → level.count ≡ count → vectors deeper ≡ suc rest → joined (at_index level deeper remote local len) level.count ≡ []
-    by_count zero rest no_count some = ap (joined (at_index level deeper remote local len)) no_count
+    by_count : (count rest : ℕ) → level.count ≡ count → vectors deeper ≡ suc rest
+        → joined_lists (at_index level deeper remote local len) level.count ≡ []
+    by_count zero rest no_count some = ap (joined_lists (at_index level deeper remote local len)) no_count
     by_count (suc count) rest some_count some =
         let all = some_product level.count (vectors deeper) (omega (arith, some_count)) (omega (arith, some)) in
         absurd (omega (arith, all, none))
 
     by_rest : (rest : ℕ) → vectors deeper ≡ rest → ((index : ℕ) → vectors deeper ≡ 0 → at_index level deeper remote local len index ≡ [])
-        → joined (at_index level deeper remote local len) level.count ≡ []
+        → joined_lists (at_index level deeper remote local len) level.count ≡ []
     by_rest zero is later = no_joined (at_index level deeper remote local len) level.count (λ index. later index is)
     by_rest (suc rest) is later = by_count level.count rest refl is

@@ -8,7 +8,7 @@ use Rattle.gas_strided.specs.declared.shapes.Level.{Level}
 use Rattle.gas_strided.specs.declared.shapes.Piece.{Piece}
 use Rattle.gas_strided.specs.declared.shapes.PlanFault.{PlanFault}
 use Rattle.gas_strided.specs.declared.runs.Run.{Run}
-use Rattle.gas_strided.specs.Pairs.{Pair, joined, pairs_from, level_pairs}
+use Rattle.gas_strided.specs.Pairs.{Pair, joined_lists, pairs_from, level_pairs}
 use Rattle.gas_strided.specs.Pieces.{pieces_of, with_run}
 use Rattle.gas_strided.specs.Runs.{Added, Adds, IsFull, piece_in}
 use Rattle.gas_strided.proofs.Counting.{at_index}
@@ -53,22 +53,22 @@ only_run (Err why) old new levels run none is full =
 
 -- those of one index more
 pub adds_index : (old between new : List Piece) (level : Level) (deeper : List Level) (remote local len index : ℕ)
-    → Adds old (joined (at_index level deeper remote local len) index) between
+    → Adds old (joined_lists (at_index level deeper remote local len) index) between
     → Adds between (at_index level deeper remote local len index) new
-    → Adds old (joined (at_index level deeper remote local len) (index + 1)) new
+    → Adds old (joined_lists (at_index level deeper remote local len) (index + 1)) new
 adds_index old between new level deeper remote local len index one other =
-    rw add-one (adds_more old between new (joined (at_index level deeper remote local len) index)
+    rw add-one (adds_more old between new (joined_lists (at_index level deeper remote local len) index)
     (at_index level deeper remote local len index) one other)
 
 -- those of all
 pub adds_all : (old new : List Piece) (levels : List Level) (level : Level) (deeper : List Level)
     (remote local len index : ℕ) → levels ≡ level ∷ deeper → level.count ≤ index → index ≤ level.count
-    → Adds old (joined (at_index level deeper remote local len) index) new
+    → Adds old (joined_lists (at_index level deeper remote local len) index) new
     → Adds old (level_pairs levels remote local len) new
 adds_all old new levels level deeper remote local len index is most least adds =
     let same : index ≡ level.count = omega (arith, most, least) in
     let P : List Level → Type 0 = λ ls. Adds old (level_pairs ls remote local len) new in
-    let Q : ℕ → Type 0 = λ n. Adds old (joined (at_index level deeper remote local len) n) new in
+    let Q : ℕ → Type 0 = λ n. Adds old (joined_lists (at_index level deeper remote local len) n) new in
     subst P (sym is) (subst Q same adds)
 
 -- the pairs of one index, by the numbers of the code
@@ -86,24 +86,24 @@ adds_at between new level deeper remote local len index far_index far near_index
 
 -- lists up to one of them, and the others
 joined_parts : (list : ℕ → List Pair) (index count : ℕ) → index < count
-    → (rest : List Pair) × (joined list count ≡ (joined list index ++ list index) ++ rest)
+    → (rest : List Pair) × (joined_lists list count ≡ (joined_lists list index ++ list index) ++ rest)
 joined_parts list index zero below = absurd (omega (arith, below))
 joined_parts list index (suc count) below = elim (cases_lt index count) [
   | inl before ↦ (
       let parts = joined_parts list index count before in (
         parts.0 ++ list count,
         ap (λ ps. ps ++ list count) parts.1
-            ∙ append_assoc (joined list index ++ list index) parts.0 (list count),
+            ∙ append_assoc (joined_lists list index ++ list index) parts.0 (list count),
       ))
   | inr after ↦ (
       let same : count ≡ index = omega (arith, below, after) in
-      ([], ap (λ n. joined list n ++ list n) same ∙ sym (append-nil (joined list index ++ list index))))
+      ([], ap (λ n. joined_lists list n ++ list n) same ∙ sym (append-nil (joined_lists list index ++ list index))))
 ]
 
 -- where those of one index are too many, all are
 pub full_index : (old between : List Piece) (levels : List Level) (level : Level) (deeper : List Level)
     (remote local len index : ℕ) (why : PlanFault) → levels ≡ level ∷ deeper → index < level.count
-    → Adds old (joined (at_index level deeper remote local len) index) between
+    → Adds old (joined_lists (at_index level deeper remote local len) index) between
     → ((pairs : List Pair) → between ≡ pieces_of pairs
     → IsFull (length (pieces_of (pairs ++ at_index level deeper remote local len index))) why)
     → (pairs : List Pair) → old ≡ pieces_of pairs
@@ -111,13 +111,14 @@ pub full_index : (old between : List Piece) (levels : List Level) (level : Level
 full_index old between levels level deeper remote local len index why is below adds full pairs were =
     let list = at_index level deeper remote local len in
     let parts = joined_parts list index level.count below in
-    let here = full (pairs ++ joined list index) (adds pairs were) in
-    let all : ((pairs ++ joined list index) ++ list index) ++ parts.0 ≡ pairs ++ level_pairs levels remote local len
-    = ap (λ ps. ps ++ parts.0) (append_assoc pairs (joined list index) (list index))
-    ∙ append_assoc pairs (joined list index ++ list index) parts.0 ∙ ap (λ ps. pairs ++ ps) (sym parts.1)
+    let here = full (pairs ++ joined_lists list index) (adds pairs were) in
+    let all :
+    ((pairs ++ joined_lists list index) ++ list index) ++ parts.0 ≡ pairs ++ level_pairs levels remote local len
+    = ap (λ ps. ps ++ parts.0) (append_assoc pairs (joined_lists list index) (list index))
+    ∙ append_assoc pairs (joined_lists list index ++ list index) parts.0 ∙ ap (λ ps. pairs ++ ps) (sym parts.1)
     ∙ ap (λ ls. pairs ++ level_pairs ls remote local len) (sym is) in
     subst (λ ps. IsFull (length (pieces_of ps)) why) all
-    (full_more ((pairs ++ joined list index) ++ list index) parts.0 why here)
+    (full_more ((pairs ++ joined_lists list index) ++ list index) parts.0 why here)
 
 -- by the numbers of the code
 pub full_at : (between : List Piece) (level : Level) (deeper : List Level) (remote local len index : ℕ)

@@ -4,7 +4,7 @@ use Rattle.std.proofs.Common.{ap, ap₂, ◌∙◌, arith, zero-add, add-zero, a
 use Rattle.std.proofs.Math.Nat.{suc-add}
 use Rattle.std.proofs.lemmas.List.{append-nil, nil_from_length}
 use Rattle.gas_strided.specs.declared.shapes.Piece.{Piece}
-use Rattle.gas_strided.specs.Pairs.{Pair, pair, pairs_from, bytes_from, bytes_of, paired, range_pairs}
+use Rattle.gas_strided.specs.Pairs.{Pair, pair, pairs_from, bytes_from, range_bytes, paired, range_pairs}
 use Rattle.gas_strided.specs.Pieces.{pieces_of}
 use Rattle.gas_strided.specs.declared.shapes.PlanFault.{PlanFault}
 use Rattle.gas_strided.specs.Runs.{Adds, IsFull}
@@ -41,7 +41,8 @@ pub record Walks (old : List Piece) (all : List Pair) (far far_len : ℕ) (remot
     (locals : List (ℕ × ℕ)) (new : List Piece) : Type 0 where
   pub done : List Pair
   pub adds : Adds old done new
-  pub rest : done ++ paired (bytes_from far far_len ++ bytes_of remotes) (bytes_from near near_len ++ bytes_of locals)
+  pub rest : done ++ paired (bytes_from far far_len ++ range_bytes remotes)
+      (bytes_from near near_len ++ range_bytes locals)
       ≡ all
 
 pub walks_first : (old : List Piece) (remotes locals : List (ℕ × ℕ))
@@ -62,9 +63,10 @@ walks_far old all far far_len remotes near near_len locals new first len later r
   adds = walks.adds;
   rest =
       let empty : bytes_from far far_len ≡ [] = ap (bytes_from far) none in
-      ap₂ (λ f l. walks.done ++ paired (bytes_from f l ++ bytes_of later) (bytes_from near near_len ++ bytes_of locals))
+      ap₂ (λ f l. walks.done ++ paired (bytes_from f l ++ range_bytes later)
+      (bytes_from near near_len ++ range_bytes locals))
       one two
-      ∙ ap₂ (λ bs rs. walks.done ++ paired (bs ++ bytes_of rs) (bytes_from near near_len ++ bytes_of locals))
+      ∙ ap₂ (λ bs rs. walks.done ++ paired (bs ++ range_bytes rs) (bytes_from near near_len ++ range_bytes locals))
       (sym empty) (sym are)
       ∙ walks.rest;
 }
@@ -79,9 +81,10 @@ walks_near old all far far_len remotes near near_len locals new first len later 
   adds = walks.adds;
   rest =
       let empty : bytes_from near near_len ≡ [] = ap (bytes_from near) none in
-      ap₂ (λ f l. walks.done ++ paired (bytes_from far far_len ++ bytes_of remotes) (bytes_from f l ++ bytes_of later))
+      ap₂ (λ f l. walks.done ++ paired (bytes_from far far_len ++ range_bytes remotes)
+      (bytes_from f l ++ range_bytes later))
       one two
-      ∙ ap₂ (λ bs rs. walks.done ++ paired (bytes_from far far_len ++ bytes_of remotes) (bs ++ bytes_of rs))
+      ∙ ap₂ (λ bs rs. walks.done ++ paired (bytes_from far far_len ++ range_bytes remotes) (bs ++ range_bytes rs))
       (sym empty) (sym are)
       ∙ walks.rest;
 }
@@ -92,20 +95,20 @@ whole part all within = omega (arith, within)
 -- what is left of both sides begins with a run
 run_first : (far far_len : ℕ) (remotes : List (ℕ × ℕ)) (near near_len : ℕ) (locals : List (ℕ × ℕ)) (len : ℕ)
     → len ≤ far_len → len ≤ near_len
-    → paired (bytes_from far far_len ++ bytes_of remotes) (bytes_from near near_len ++ bytes_of locals)
-    ≡ pairs_from far near len ++ paired (bytes_from (far + len) (far_len - len) ++ bytes_of remotes)
-    (bytes_from (near + len) (near_len - len) ++ bytes_of locals)
+    → paired (bytes_from far far_len ++ range_bytes remotes) (bytes_from near near_len ++ range_bytes locals)
+    ≡ pairs_from far near len ++ paired (bytes_from (far + len) (far_len - len) ++ range_bytes remotes)
+    (bytes_from (near + len) (near_len - len) ++ range_bytes locals)
 run_first far far_len remotes near near_len locals len less few =
     let far_parts : bytes_from far far_len ≡ bytes_from far len ++ bytes_from (far + len) (far_len - len)
     = ap (bytes_from far) (sym (whole len far_len less)) ∙ bytes_from-add len (far_len - len) far in
     let near_parts : bytes_from near near_len ≡ bytes_from near len ++ bytes_from (near + len) (near_len - len)
     = ap (bytes_from near) (sym (whole len near_len few)) ∙ bytes_from-add len (near_len - len) near in
-    let far_rest = bytes_from (far + len) (far_len - len) ++ bytes_of remotes in
-    let near_rest = bytes_from (near + len) (near_len - len) ++ bytes_of locals in
-    ap₂ paired (ap (λ bs. bs ++ bytes_of remotes) far_parts
-    ∙ append_assoc (bytes_from far len) (bytes_from (far + len) (far_len - len)) (bytes_of remotes))
-    (ap (λ bs. bs ++ bytes_of locals) near_parts
-    ∙ append_assoc (bytes_from near len) (bytes_from (near + len) (near_len - len)) (bytes_of locals))
+    let far_rest = bytes_from (far + len) (far_len - len) ++ range_bytes remotes in
+    let near_rest = bytes_from (near + len) (near_len - len) ++ range_bytes locals in
+    ap₂ paired (ap (λ bs. bs ++ range_bytes remotes) far_parts
+    ∙ append_assoc (bytes_from far len) (bytes_from (far + len) (far_len - len)) (range_bytes remotes))
+    (ap (λ bs. bs ++ range_bytes locals) near_parts
+    ∙ append_assoc (bytes_from near len) (bytes_from (near + len) (near_len - len)) (range_bytes locals))
     ∙ paired-run len far near far_rest near_rest
 
 -- a run of both sides
@@ -121,8 +124,8 @@ walks_run old all far far_len remotes near near_len locals between new len walks
       ∙ ap pieces_of (append_assoc pairs walks.done (pairs_from far near len));
   rest =
       append_assoc walks.done (pairs_from far near len)
-      (paired (bytes_from (far + len) (far_len - len) ++ bytes_of remotes)
-      (bytes_from (near + len) (near_len - len) ++ bytes_of locals))
+      (paired (bytes_from (far + len) (far_len - len) ++ range_bytes remotes)
+      (bytes_from (near + len) (near_len - len) ++ range_bytes locals))
       ∙ ap (λ ps. walks.done ++ ps) (sym (run_first far far_len remotes near near_len locals len less few))
       ∙ walks.rest;
 }
@@ -136,8 +139,8 @@ pub walks_full : (old : List Piece) (all : List Pair) (far far_len : ℕ) (remot
     → (pairs : List Pair) → old ≡ pieces_of pairs → IsFull (length (pieces_of (pairs ++ all))) why
 walks_full old all far far_len remotes near near_len locals between len why walks less few full pairs were =
     let run = pairs_from far near len in
-    let rest = paired (bytes_from (far + len) (far_len - len) ++ bytes_of remotes)
-    (bytes_from (near + len) (near_len - len) ++ bytes_of locals) in
+    let rest = paired (bytes_from (far + len) (far_len - len) ++ range_bytes remotes)
+    (bytes_from (near + len) (near_len - len) ++ range_bytes locals) in
     let all_is : ((pairs ++ walks.done) ++ run) ++ rest ≡ pairs ++ all
     = append_assoc (pairs ++ walks.done) run rest ∙ append_assoc pairs walks.done (run ++ rest)
     ∙ ap (λ ps. pairs ++ ps) (ap (λ ps. walks.done ++ ps)
@@ -153,7 +156,8 @@ walked_far old all far far_len remotes near near_len locals new walks none no_ra
     let empty : bytes_from far far_len ≡ [] = ap (bytes_from far) none in
     walks.adds pairs is
     ∙ ap (λ ps. pieces_of (pairs ++ ps)) (sym (append-nil walks.done)
-    ∙ sym (ap₂ (λ bs rs. walks.done ++ paired (bs ++ bytes_of rs) (bytes_from near near_len ++ bytes_of locals)) empty
+    ∙ sym (ap₂
+    (λ bs rs. walks.done ++ paired (bs ++ range_bytes rs) (bytes_from near near_len ++ range_bytes locals)) empty
     (nil_from_length remotes no_range)) ∙ walks.rest)
 
 -- nor on the local side
@@ -162,11 +166,11 @@ pub walked_near : (old : List Piece) (all : List Pair) (far far_len : ℕ) (remo
     → near_len ≡ 0 → length locals ≡ 0 → Adds old all new
 walked_near old all far far_len remotes near near_len locals new walks none no_range pairs is =
     let empty : bytes_from near near_len ≡ [] = ap (bytes_from near) none in
-    let front = bytes_from far far_len ++ bytes_of remotes in
+    let front = bytes_from far far_len ++ range_bytes remotes in
     walks.adds pairs is
     ∙ ap (λ ps. pieces_of (pairs ++ ps)) (sym (append-nil walks.done)
     ∙ ap (λ ps. walks.done ++ ps) (sym (paired-nil front))
-    ∙ sym (ap₂ (λ bs rs. walks.done ++ paired front (bs ++ bytes_of rs)) empty
+    ∙ sym (ap₂ (λ bs rs. walks.done ++ paired front (bs ++ range_bytes rs)) empty
     (nil_from_length locals no_range)) ∙ walks.rest)
 
 -- 1 where something is left

@@ -20,7 +20,7 @@ use Rattle.gas_strided.specs.Plans.{PlanState}
 use Rattle.gas_strided.specs.Beginning.{BeginCall, beginning, beginnings, calls_made, first_refused, in_region, is_refused}
 use Rattle.gas_strided.specs.Beginning.{on_transfers, transfer_of, vis_by}
 use Rattle.gas_strided.specs.Begins.{Begins}
-use Rattle.gas_strided.specs.Opening.{Closes, Opens, Tries, tried}
+use Rattle.gas_strided.specs.Opening.{Closes, Opens, TriesPlan, tried}
 
 -- ---- lists
 
@@ -216,7 +216,7 @@ made_by caller old new asked (Some next) made = elim (cases_Bool (next == asked.
 
 pub begins_all : {K : Type 0} (caller : Ghosts K) → Follows caller → (old opened tried_by new : K) (asked : BeginCall)
     (refused : Option ℕ) → Opens caller old asked.thread (Ok None) opened
-    → Tries caller opened asked.plan asked.thread asked.from (Ok refused) tried_by
+    → TriesPlan caller opened asked.plan asked.thread asked.from (Ok refused) tried_by
     → Closes caller tried_by asked.thread asked.register (Ok tt) new
     → Begins caller old asked (vis_by asked.from refused) new
 begins_all caller follows old opened tried_by new asked refused opens tries closes =

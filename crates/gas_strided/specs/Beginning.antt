@@ -14,7 +14,7 @@ use Rattle.node_caller.specs.Answer.{Answer}
 use Rattle.node_caller.specs.Answer.TheVariants as answers
 use Rattle.node_caller.specs.Begun.TheVariants as begun
 use Rattle.node_caller.specs.Region.TheVariants as region
-use Rattle.node_caller.specs.Sites.{Site, ThreadCall, event_of, job_at}
+use Rattle.node_caller.specs.Sites.{Site, ThreadCall, record_event_of, job_at}
 use Rattle.gas_strided.specs.declared.shapes.Way.TheVariants.{Put, Get}
 use Rattle.gas_strided.specs.declared.shapes.Piece.{Piece}
 use Rattle.gas_strided.specs.declared.shapes.Vis.{Vis}
@@ -85,10 +85,10 @@ node_at site = record { job = job_at site; node = site.node; now = site.now }
 
 -- how it answers a call, where it has this record, and the record that the call leaves
 abbrev pub answer_of_call : NodeAt → Node EndpointLocal → ThreadCall → Answer
-answer_of_call at node call = told (node_answer at.job at.node node at.now (event_of call))
+answer_of_call at node call = told (node_answer at.job at.node node at.now (record_event_of call))
 
 abbrev pub record_after_call : NodeAt → Node EndpointLocal → ThreadCall → Node EndpointLocal
-record_after_call at node call = node_after at.job at.node node at.now (event_of call)
+record_after_call at node call = node_after at.job at.node node at.now (record_event_of call)
 
 -- The first of these calls that is refused so, where the node has this record; the first call has this number, and the
 -- others the next ones

@@ -41,13 +41,13 @@ tried from None pieces = pieces
 tried from (Some next) pieces = take (next + 1 - from) pieces
 
 -- the pieces were begun, up to the first one that was refused
-abbrev pub Tries : {K : Type 0} → (caller : Ghosts K) → K → PlanState → (thread from : ℕ)
+abbrev pub TriesPlan : {K : Type 0} → (caller : Ghosts K) → K → PlanState → (thread from : ℕ)
     → Result (Option ℕ) OutOfMemory → K → Type 0
-Tries caller old plan thread from (Ok refused) new =
+TriesPlan caller old plan thread from (Ok refused) new =
     Makes caller old (beginnings plan thread (tried from refused (drop from plan.pieces))) new
     × ForItsNode caller old (λ node. refused
     ≡ first_refused (caller.site old) node from (beginnings plan thread (drop from plan.pieces)))
-Tries caller old plan thread from (Err lacking) new = IsAsBefore caller old new × Never caller old
+TriesPlan caller old plan thread from (Err lacking) new = IsAsBefore caller old new × Never caller old
 
 -- the region was ended
 abbrev pub Closes : {K : Type 0} → (caller : Ghosts K) → K → (thread register : ℕ)

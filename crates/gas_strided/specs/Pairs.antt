@@ -21,16 +21,17 @@ pairs_from remote local (suc len) = pair remote local ∷ pairs_from (suc remote
 -- ---- strided transfers
 
 -- the lists at 0, 1 and so on, of so many numbers, one behind the other
-abbrev pub joined : (ℕ → List Pair) → (many : ℕ) → List Pair
-joined list zero = []
-joined list (suc many) = joined list many ++ list many
+abbrev pub joined_lists : (ℕ → List Pair) → (many : ℕ) → List Pair
+joined_lists list zero = []
+joined_lists list (suc many) = joined_lists list many ++ list many
 
 -- For each vector of indexes below the counts of the levels, the last level fastest, `len` pairs in a row. They begin
 -- behind these two bytes by the sum of each index times its level's stride
 abbrev pub level_pairs : List Level → (remote local len : ℕ) → List Pair
 level_pairs [] remote local len = pairs_from remote local len
 level_pairs (level ∷ deeper) remote local len =
-    joined (λ index. level_pairs deeper (remote + index * level.remote) (local + index * level.local) len) level.count
+    joined_lists
+    (λ index. level_pairs deeper (remote + index * level.remote) (local + index * level.local) len) level.count
 
 -- how many vectors of indexes there are
 abbrev pub vectors : List Level → ℕ
@@ -48,9 +49,9 @@ bytes_from first zero = []
 bytes_from first (suc len) = first ∷ bytes_from (suc first) len
 
 -- those of ranges, each a first byte and a length, one range behind the other
-abbrev pub bytes_of : List (ℕ × ℕ) → List ℕ
-bytes_of [] = []
-bytes_of (range ∷ ranges) = bytes_from range.0 range.1 ++ bytes_of ranges
+abbrev pub range_bytes : List (ℕ × ℕ) → List ℕ
+range_bytes [] = []
+range_bytes (range ∷ ranges) = bytes_from range.0 range.1 ++ range_bytes ranges
 
 -- how many they are
 abbrev pub total : List (ℕ × ℕ) → ℕ
@@ -65,7 +66,7 @@ paired (remote ∷ remotes) (local ∷ locals) = pair remote local ∷ paired re
 
 -- the bytes of the remote ranges with those of the local ones
 abbrev pub range_pairs : (remote local : List (ℕ × ℕ)) → List Pair
-range_pairs remote local = paired (bytes_of remote) (bytes_of local)
+range_pairs remote local = paired (range_bytes remote) (range_bytes local)
 
 abbrev pub indexed_pairs : Indexed → List Pair
 indexed_pairs transfer = range_pairs transfer.remote.now transfer.local.now

@@ -32,15 +32,15 @@ IsApart first [] = Unit {0}
 IsApart first (second ∷ pieces) = continues first second ≡ false
 
 -- no piece is continued by the next one
-abbrev pub AreApart : List Piece → Type 0
-AreApart [] = Unit {0}
-AreApart (piece ∷ pieces) = IsApart piece pieces × AreApart pieces
+abbrev pub AreUnjoined : List Piece → Type 0
+AreUnjoined [] = Unit {0}
+AreUnjoined (piece ∷ pieces) = IsApart piece pieces × AreUnjoined pieces
 
 -- the pieces have these pairs, in order; none is empty, and none continues the one before it on both sides
 pub record IsCut (pieces : List Piece) (pairs : List Pair) : Type 0 where
   pub spells : spelled pieces ≡ pairs
   pub filled : AreFilled pieces
-  pub apart : AreApart pieces
+  pub apart : AreUnjoined pieces
 
 -- ---- the one cut of pairs
 

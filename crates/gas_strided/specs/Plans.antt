@@ -9,7 +9,7 @@ use Rattle.gas_strided.specs.declared.shapes.Indexed.{Indexed}
 use Rattle.gas_strided.specs.declared.shapes.PlanFault.{PlanFault}
 use Rattle.gas_strided.specs.declared.shapes.PlanFault.TheVariants.{NoMemory}
 use Rattle.gas_strided.specs.Pairs.{strided_pairs, indexed_pairs}
-use Rattle.gas_strided.specs.Pieces.{AreFilled, AreApart, pieces_of}
+use Rattle.gas_strided.specs.Pieces.{AreFilled, AreUnjoined, pieces_of}
 
 -- the settings of its job, which way the bytes go, the target, and the pieces
 pub record PlanState : Type 0 where
@@ -28,7 +28,7 @@ pub record IsPlan (plan : PlanState) : Type 0 where
   pub there : plan.to < plan.settings.nodes
   pub few : length plan.pieces ≤ 1024
   pub filled : AreFilled plan.pieces
-  pub apart : AreApart plan.pieces
+  pub apart : AreUnjoined plan.pieces
   pub inside : All (IsInside plan.settings) plan.pieces
 
 abbrev pub strided_plan : Parameters → Strided → PlanState

@@ -4,7 +4,7 @@ ghost use Rattle.std.specs.Prelude.{◌≡◌, ◌<◌, ◌≤◌, IfSome, lengt
 ghost use Rattle.node_caller.specs.Sites.{IsThere};
 ghost use Rattle.gas_strided.specs.Beginning.{is_refused, vis_by, vis_of};
 ghost use Rattle.gas_strided.specs.Begins.{Begins};
-ghost use Rattle.gas_strided.specs.Opening.{Closes, IsAlone, Opens, Tries};
+ghost use Rattle.gas_strided.specs.Opening.{Closes, IsAlone, Opens, TriesPlan};
 ghost use Rattle.gas_strided.specs.declared.shapes.Vis.{Vis as AVis};
 
 use crate::plan::Plan;
@@ -76,7 +76,7 @@ impl Plan {
         requires there { IsThere (K.site caller.old) }
         requires thread { thread < (K.site caller.old).settings.threads }
         requires from { from ≤ length self.now.pieces }
-        ensures { Tries K.Caller caller.old self.now thread from result caller.new }
+        ensures { TriesPlan K.Caller caller.old self.now thread from result caller.new }
     {
         for place in from..self.pieces() {
             let call = Call::BeginImplicit {

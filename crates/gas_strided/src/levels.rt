@@ -27,7 +27,8 @@ fn has_none(levels: &[Level]) -> bool
 /// How many vectors of indexes the levels have. `None` where they are more than 65,536.
 #[tactic(auto, using(crate::proofs::Counting::no_vectors, crate::proofs::Counting::some_vectors))]
 pub fn few_vectors(levels: &[Level]) -> Option<u64>
-    ensures vectors { MatchOption result (65536 < vectors_of levels.now) (λ n. n ≡ vectors_of levels.now) }
+    ensures vectors { MatchOption result (65536 < vectors_of levels.now)
+        (λ n. n ≡ vectors_of levels.now) }
     ensures few { IfSome result (λ n. n ≤ 65536) }
 {
     if has_none(levels) {
@@ -50,7 +51,8 @@ pub fn few_vectors(levels: &[Level]) -> Option<u64>
 fn add_levels(runs: &mut Runs, levels: &[Level], first: Run) -> Result<(), PlanFault>
     requires few { AreFew levels.now }
     requires near { IsNear (length levels.now) first }
-    ensures { Added runs.old (level_pairs levels.now first.remote first.local first.len) result runs.new }
+    ensures { Added runs.old (level_pairs levels.now first.remote first.local first.len) result
+        runs.new }
 {
     let Some((level, deeper)) = levels.split_first() else {
         return runs.add(first);

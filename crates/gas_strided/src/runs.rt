@@ -114,7 +114,8 @@ impl Runs {
 /// Whether some run ends behind the local segment.
 fn some_source(settings: &Settings, runs: &[Run]) -> bool
     requires { All EndsSoon runs.now }
-    ensures { result ≡ list_any (λ run. ends_behind settings.now.segment run.local run.len) runs.now }
+    ensures { result ≡ list_any (λ run. ends_behind settings.now.segment run.local run.len)
+        runs.now }
 {
     let segment = u128::from(settings.segment());
     for run in runs {
@@ -128,7 +129,8 @@ fn some_source(settings: &Settings, runs: &[Run]) -> bool
 /// Whether some run ends behind the target's segment.
 fn some_offset(settings: &Settings, runs: &[Run]) -> bool
     requires { All EndsSoon runs.now }
-    ensures { result ≡ list_any (λ run. ends_behind settings.now.segment run.remote run.len) runs.now }
+    ensures { result ≡ list_any (λ run. ends_behind settings.now.segment run.remote run.len)
+        runs.now }
 {
     let segment = u128::from(settings.segment());
     for run in runs {

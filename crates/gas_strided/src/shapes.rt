@@ -1,6 +1,8 @@
 //! What is asked of a plan, what it is made of, why it is refused, and how its beginning is answered.
 
 use handler_rules::Forbidden;
+use std::error::Error;
+use std::fmt;
 
 /// Which segment is read, and which is written.
 #[derive(Clone, Copy, Debug)]
@@ -85,6 +87,26 @@ pub enum PlanFault {
     /// Memory ran out.
     NoMemory,
 }
+
+impl fmt::Display for PlanFault {
+    fn fmt<W: fmt::Write>(&self, f: &mut fmt::Formatter<W>) -> fmt::Result {
+        match *self {
+            PlanFault::Node => write!(f, "the target is no node"),
+            PlanFault::Shape => write!(f, "more than 4 levels, or more than 256 ranges on a side"),
+            PlanFault::Length => write!(f, "the sides have different numbers of bytes"),
+            PlanFault::Pieces => write!(
+                f,
+                "more than 65536 vectors of indexes, or more than 1024 pieces"
+            ),
+            PlanFault::Source => write!(f, "a byte lies outside the local segment"),
+            PlanFault::Offset => write!(f, "a byte lies outside the target's segment"),
+            PlanFault::Overlap => write!(f, "a byte would be written twice"),
+            PlanFault::NoMemory => write!(f, "no memory"),
+        }
+    }
+}
+
+impl Error for PlanFault {}
 
 /// How the beginning of a plan is answered.
 #[derive(Clone, Copy, Debug)]

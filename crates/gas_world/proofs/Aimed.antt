@@ -9,10 +9,11 @@ use Rattle.handler_rules.specs.Runs.{Meaning, IsLawfulMeaning}
 use Rattle.plain_world.specs.World.{IsAmong, world_after}
 use Rattle.endpoint_rules.specs.EndpointRules.{transition, timed}
 use Rattle.gas_world.specs.WorldState.{WorldState}
-use Rattle.gas_world.specs.EventScopes.{EventScope, EventScopeSteps, CallFalls, IsCallable, IsPlanned, node_of, ChangesOne, IsHeld}
+use Rattle.gas_world.specs.EventScopes.{EventScope, EventScopeSteps, CallFalls, IsCallable, IsPlanned, event_node}
+use Rattle.gas_world.specs.EventScopes.{ChangesOne, IsHeld}
 use Rattle.endpoint_rules.specs.Called.{Meant, Requests, Performs, meant, event_at, is_to_other}
-use Rattle.gas_world.specs.Events.{Steps, event_of, job_in}
-use Rattle.gas_world.specs.Stands.{IsFounded, IsWhole}
+use Rattle.gas_world.specs.Events.{StepsInWorld, event_of, job_in}
+use Rattle.gas_world.specs.Stands.{IsFounded, IsWholeWorld}
 use Rattle.gas_endpoint.specs.EndpointState.{EndpointState, MayBeCalled}
 use Rattle.gas_world.specs.ExchangesState.{ExchangesState}
 use Rattle.gas_world.proofs.EventScopes.{falls_at, pair_place}
@@ -41,7 +42,8 @@ caller_in s node thread (Performs call) l = l
 pub aimed_steps : (meaning : Meaning) (v z : WorldState) (now : ℕ) (e : WorldEvent) (aim : Aim) (a : WorldAnswer)
     (old new : EventScope) → IsLawfulMeaning meaning → IsFounded v → IsAmong v.settings (event_of e) → FallsAt v now e aim
     → Falls v z aim.node (aim.from * v.settings.nodes + aim.to) old new
-    → EventScopeSteps meaning v.endpoints old (transition now e a) new → Steps meaning v (transition now (event_of e) a) z
+    → EventScopeSteps meaning v.endpoints old (transition now e a) new
+    → StepsInWorld meaning v (transition now (event_of e) a) z
 aimed_steps meaning v z now (world_event.Call node thread k) aim a old new lawful founded among at F C =
     call_falls meaning v z now node aim.to thread k a old new lawful (caller_in v.settings node thread (meant k) among)
     (at.target.to_in (caller_in v.settings node thread (meant k) among)) at.target.to_is
@@ -69,7 +71,7 @@ aimed_steps meaning v z now (world_event.Tick i) aim a old new lawful founded am
 
 -- an event that falls nowhere is the delivery of a message of a node to itself
 pub unaimed_steps : (meaning : Meaning) (v : WorldState) (now : ℕ) (e : WorldEvent) → FallsNowhere e
-    → Steps meaning v (transition now (event_of e) world_answers.Unsent) v
+    → StepsInWorld meaning v (transition now (event_of e) world_answers.Unsent) v
 unaimed_steps meaning v now (world_event.Call node thread k) at = absurd at
 unaimed_steps meaning v now (world_event.Request i j k) at = own_request_steps meaning v now i j k at
 unaimed_steps meaning v now (world_event.Reply i j k) at = own_reply_steps meaning v now i j k at
@@ -108,14 +110,14 @@ aim_among v now (world_event.Tick i) aim among at = let s = v.settings in (
     target_in nodes i (Some to) low there = there to refl
 
 -- the node of an event is that of where it falls
-pub aims_node : (v : WorldState) (now : ℕ) (e : WorldEvent) (aim : Aim) → FallsAt v now e aim → node_of e ≡ aim.node
+pub aims_node : (v : WorldState) (now : ℕ) (e : WorldEvent) (aim : Aim) → FallsAt v now e aim → event_node e ≡ aim.node
 aims_node v now (world_event.Call node thread k) aim at = sym at.node_is
 aims_node v now (world_event.Request i j k) aim at = sym at.1.node_is
 aims_node v now (world_event.Reply i j k) aim at = sym at.1.node_is
 aims_node v now (world_event.Tick i) aim at = sym at.node_is
 
 -- a call may be made at its node
-pub callable : (v : WorldState) (e : WorldEvent) → IsWhole v → MayFall v.settings e → IsCallable v.endpoints e
+pub callable : (v : WorldState) (e : WorldEvent) → IsWholeWorld v → MayFall v.settings e → IsCallable v.endpoints e
 callable v (world_event.Call node thread k) whole may = λ endpoint at.
     subst (λ s. MayBeCalled s thread k) (sym (whole.sized.nodes node endpoint at).settings_are) may
 callable v (world_event.Request i j k) whole may = tt
@@ -132,7 +134,7 @@ planned v now (world_event.Tick i) aim at = at.sends
 
 -- what a world stands for after a step
 pub founded_after : (meaning : Meaning) (old new : WorldState) (now : ℕ) (e : WorldEvent) (a : WorldAnswer)
-    → IsFounded old → Steps meaning old (transition now (event_of e) a) new → IsFounded new
+    → IsFounded old → StepsInWorld meaning old (transition now (event_of e) a) new → IsFounded new
 founded_after meaning old new now e (world_answers.Node answer) F steps = record {
   records = world_after (job_in meaning old) F.records (timed now (event_of e));
   most = most_then old.settings (world_after (job_in meaning old) F.records (timed now (event_of e))) F.most;
@@ -168,7 +170,7 @@ pub record Happened (meaning : Meaning) (inside : WorldState) (old : EventScope)
 -- what the event does to its scope it does to the world
 pub recorded : (meaning : Meaning) (inside v z : WorldState) (now : ℕ) (e : WorldEvent) (aim : Aim) (a : WorldAnswer)
     (ends : List EndpointState) (node place : ℕ) (old new : EventScope) → IsLawfulMeaning meaning → inside ≡ v
-    → IsWhole inside → IsAmong v.settings (event_of e)
+    → IsWholeWorld inside → IsAmong v.settings (event_of e)
     → Happened meaning inside old (transition now e a) new aim node place
     → ChangesOne inside.endpoints ends node old.endpoint new.endpoint
     → record {
@@ -178,7 +180,7 @@ pub recorded : (meaning : Meaning) (inside v z : WorldState) (now : ℕ) (e : Wo
       exchanges = set inside.exchanges place new.exchanges;
       most = set inside.most node new.most;
     } ≡ z
-    → Steps meaning v (transition now (event_of e) a) z
+    → StepsInWorld meaning v (transition now (event_of e) a) z
 recorded meaning inside v z now e aim a ends node place old new lawful view whole among it changes after =
     let at : FallsAt v now e aim = subst (λ (w : WorldState). FallsAt w now e aim) view it.aims in
     let low = aim_among v now e aim among at in
@@ -191,7 +193,7 @@ recorded meaning inside v z now e aim a ends node place old new lawful view whol
 
 -- the message that it delivers was held
 pub spot_held : (meaning : Meaning) (inside v : WorldState) (e : WorldEvent) (now : ℕ) (aim : Aim) (node place : ℕ)
-    (exchanges : ExchangesState) (most : ℕ) → IsLawfulMeaning meaning → inside ≡ v → IsWhole inside
+    (exchanges : ExchangesState) (most : ℕ) → IsLawfulMeaning meaning → inside ≡ v → IsWholeWorld inside
     → IsAmong v.settings (event_of e) → FallsAt inside now e aim
     → Spot inside aim node place exchanges most → IsHeld inside.endpoints exchanges.list e
 spot_held meaning inside v e now aim node place exchanges most lawful view whole among aims spot =

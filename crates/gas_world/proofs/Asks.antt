@@ -28,8 +28,8 @@ use Rattle.gas_endpoint.specs.EndpointState.{EndpointState, EndpointStands, Node
 use Rattle.gas_endpoint.specs.EndpointState.{IsNodeOf}
 use Rattle.gas_world.specs.WorldState.{WorldState}
 use Rattle.gas_world.specs.EventScopes.{EventScope, IsSame, MostIs, asked_list, AskFalls, AloneFallsIn, CallFalls}
-use Rattle.gas_world.specs.Stands.{StandsForPair, Stands}
-use Rattle.gas_world.specs.Events.{Accepts, Steps, job_in}
+use Rattle.gas_world.specs.Stands.{StandsForPair, WorldStands}
+use Rattle.gas_world.specs.Events.{Accepts, StepsInWorld, job_in}
 use Rattle.gas_world.specs.declared.exchanges.Exchange.{Exchange}
 use Rattle.endpoint_rules.specs.declared.call.Call.{Call}
 use Rattle.endpoint_rules.specs.declared.call.Event.TheVariants as event
@@ -74,7 +74,7 @@ caller_among v i thread (Performs call) low = low
 
 -- a call of a thread is an event of its node
 call_steps : (meaning : Meaning) (v z : WorldState) (now i b thread : ℕ) (m : Meant) (answer : Answer) (old new : EventScope)
-    (w : Records) (most : ℕ → ℕ) → IsLawfulMeaning meaning → Stands v w most → i < v.settings.nodes
+    (w : Records) (most : ℕ → ℕ) → IsLawfulMeaning meaning → WorldStands v w most → i < v.settings.nodes
     → b < v.settings.nodes → Falls v z i (i * v.settings.nodes + b) old new
     → Stepping meaning v w now i (node_event thread m) answer new.endpoint
     → new.most ≡ max old.most (held v.settings i (node_after (job_in meaning v) i (w i) now (node_event thread m)))
@@ -89,7 +89,7 @@ alone_steps : (meaning : Meaning) (v z : WorldState) (now i b thread : ℕ) (k :
     (old new : EventScope) → IsLawfulMeaning meaning → i < v.settings.nodes → b < v.settings.nodes
     → ((to : ℕ) → HasTarget k to → to ≡ i) → Falls v z i (i * v.settings.nodes + b) old new
     → AloneFallsIn meaning old (transition now (event.Call thread k) a) new
-    → Steps meaning v (transition now (called_at i thread k) a) z
+    → StepsInWorld meaning v (transition now (called_at i thread k) a) z
 alone_steps meaning v z now i b thread k (world_answers.Node answer) old new lawful low b_in own F C = λ w most S.
     let N = scope_steps meaning v z w most now i (i * v.settings.nodes + b) (called thread k) answer old new S F low
     C.steps in
@@ -104,7 +104,7 @@ alone_steps meaning v z now i b thread k world_answers.Unsent old new lawful low
 
 -- one that is accepted
 accepted_sends : (meaning : Meaning) (v z : WorldState) (now i p q n : ℕ) (ask : Ask) (old new : EventScope) (w : Records)
-    (most : ℕ → ℕ) → Stands v w most → i < v.settings.nodes
+    (most : ℕ → ℕ) → WorldStands v w most → i < v.settings.nodes
     → Falls v z i (i * v.settings.nodes + ask.to) old new
     → request_answer (site_of (job_in meaning v) i) (w i) ask ≡ asked.Accepted p q n
     → new.exchanges.list ≡ asked_list old.exchanges.list (answers.Asked (asked.Accepted p q n))
@@ -133,7 +133,7 @@ accepted_sends meaning v z now i p q n ask old new w most S i_in F e list =
 
 -- by its answer: the pair is that of the node and of the target, where that is there
 request_sends : (meaning : Meaning) (v z : WorldState) (now i b : ℕ) (ask : Ask) (answer : Answer) (old new : EventScope)
-    (w : Records) (most : ℕ → ℕ) → Stands v w most → i < v.settings.nodes → b < v.settings.nodes
+    (w : Records) (most : ℕ → ℕ) → WorldStands v w most → i < v.settings.nodes → b < v.settings.nodes
     → (ask.to < v.settings.nodes → b ≡ ask.to) → Falls v z i (i * v.settings.nodes + b) old new
     → Stepping meaning v w now i (Asks ask) answer new.endpoint
     → new.exchanges.list ≡ asked_list old.exchanges.list answer
@@ -152,7 +152,7 @@ request_sends meaning v z now i b ask answer old new w most S i_in b_in target F
 
 -- one that isn't accepted
 declined_sends : (meaning : Meaning) (v z : WorldState) (now i b : ℕ) (ask : Ask) (old new : EventScope) (w : Records)
-    (most : ℕ → ℕ) → Stands v w most → i < v.settings.nodes → b < v.settings.nodes
+    (most : ℕ → ℕ) → WorldStands v w most → i < v.settings.nodes → b < v.settings.nodes
     → Falls v z i (i * v.settings.nodes + b) old new → new.exchanges.list ≡ old.exchanges.list
     → (a : AskedAnswer) → request_answer (site_of (job_in meaning v) i) (w i) ask ≡ a → false ≡ is_accepted a
     → Sends w (put w i (after_request (site_of (job_in meaning v) i) (w i) now ask a)) i b new
@@ -203,7 +203,7 @@ ask_told meaning old now thread k world_answers.Unsent new C = absurd C
 
 -- what it sends, where it was made or declined
 ask_sends : (meaning : Meaning) (v z : WorldState) (now i b : ℕ) (ask : Ask) (answer : Answer) (old new : EventScope)
-    (w : Records) (most : ℕ → ℕ) → Stands v w most → i < v.settings.nodes → b < v.settings.nodes
+    (w : Records) (most : ℕ → ℕ) → WorldStands v w most → i < v.settings.nodes → b < v.settings.nodes
     → (ask.to < v.settings.nodes → b ≡ ask.to) → Falls v z i (i * v.settings.nodes + b) old new
     → Stepping meaning v w now i (Asks ask) answer new.endpoint
     → (new.exchanges.list ≡ asked_list old.exchanges.list answer)
@@ -239,7 +239,7 @@ ask_steps : (meaning : Meaning) (v z : WorldState) (now i b thread : ℕ) (m : M
     → IsLawfulMeaning meaning → i < v.settings.nodes → b < v.settings.nodes
     → ((to : ℕ) → IsAskedOf m to → to < v.settings.nodes → b ≡ to) → Falls v z i (i * v.settings.nodes + b) old new
     → is_of_another i m ≡ true → AskTold meaning old now thread m a new
-    → Steps meaning v (transition now (event_at i thread m) a) z
+    → StepsInWorld meaning v (transition now (event_at i thread m) a) z
 ask_steps meaning v z now i b thread (Performs call) a old new lawful i_in b_in target F e C =
     absurd (true≢false (sym e))
 ask_steps meaning v z now i b thread (Requests to asking) (world_answers.Node answer) old new lawful i_in b_in target F
@@ -271,7 +271,7 @@ pub call_falls : (meaning : Meaning) (v z : WorldState) (now i b thread : ℕ) (
     → ((to : ℕ) → HasTarget k to → to < v.settings.nodes → b ≡ to) → Falls v z i (i * v.settings.nodes + b) old new
     → (is_ask : Bool) → is_to_other i k ≡ is_ask
     → CallFalls meaning old is_ask (transition now (event.Call thread k) a) new
-    → Steps meaning v (transition now (called_at i thread k) a) z
+    → StepsInWorld meaning v (transition now (called_at i thread k) a) z
 call_falls meaning v z now i b thread k a old new lawful low b_in target F false e C =
     alone_steps meaning v z now i b thread k a old new lawful low b_in (no_other i (meant k) e) F C
 call_falls meaning v z now i b thread k a old new lawful low b_in target F true e C =

@@ -38,8 +38,8 @@ use Rattle.gas_world.specs.WorldState.{WorldState}
 use Rattle.gas_world.specs.EventScopes.{EventScope, ran_list, returned_list, request_envelope, reply_envelope}
 use Rattle.gas_world.specs.EventScopes.{RequestFalls, RequestRuns, RequestRepeats, repeated}
 use Rattle.gas_world.specs.EventScopes.{ReplyFalls, ReplyReturns, ReplyIsLate}
-use Rattle.gas_world.specs.Stands.{StandsForPair, Stands}
-use Rattle.gas_world.specs.Events.{Steps, job_in}
+use Rattle.gas_world.specs.Stands.{StandsForPair, WorldStands}
+use Rattle.gas_world.specs.Events.{StepsInWorld, job_in}
 use Rattle.gas_world.specs.declared.exchanges.Exchange.{Exchange}
 use Rattle.endpoint_rules.specs.declared.answer.Answer.{Answer}
 use Rattle.endpoint_rules.specs.declared.answer.Answer.TheVariants as answers
@@ -82,7 +82,7 @@ not_back s refuses w i j k x holds at none = elim (cases_Bool x.back) [
 
 -- one that runs
 ran_sends : (meaning : Meaning) (v z : WorldState) (now i j k : ℕ) (x : Request) (old new : EventScope) (w : Records)
-    (most : ℕ → ℕ) → Stands v w most → i < v.settings.nodes → j < v.settings.nodes → i ≢ j
+    (most : ℕ → ℕ) → WorldStands v w most → i < v.settings.nodes → j < v.settings.nodes → i ≢ j
     → Falls v z j (i * v.settings.nodes + j) old new
     → numbered ((w i).asked j) k ≡ Some x → run_of k ((w j).ran i) ≡ None
     → new.exchanges.list ≡ with_ran old.exchanges.list k
@@ -122,7 +122,8 @@ ran_listed version list k content at = elim (cases_Bool (content.handler == note
 
 -- by what becomes of it
 delivered_sends : (meaning : Meaning) (v z : WorldState) (now i j k : ℕ) (x : Request) (answer : Answer)
-    (old new : EventScope) (w : Records) (most : ℕ → ℕ) → Stands v w most → i < v.settings.nodes → j < v.settings.nodes
+    (old new : EventScope) (w : Records) (most : ℕ → ℕ) → WorldStands v w most → i < v.settings.nodes
+    → j < v.settings.nodes
     → i ≢ j → Falls v z j (i * v.settings.nodes + j) old new
     → numbered ((w i).asked j) k ≡ Some x → run_of k ((w j).ran i) ≡ None → is_request x.content.kind ≡ true
     → Stepping meaning v w now j (Comes (request_message v.settings i j k x)) answer new.endpoint
@@ -146,7 +147,8 @@ delivered_sends meaning v z now i j k x answer old new w most S i_in j_in apart 
 
 -- one that didn't run: its message stands at its node
 first_steps : (meaning : Meaning) (v z : WorldState) (now i j k : ℕ) (x : Request) (sender : EndpointState)
-    (answer : Answer) (old new : EventScope) (w : Records) (most : ℕ → ℕ) → IsLawfulMeaning meaning → Stands v w most
+    (answer : Answer) (old new : EventScope) (w : Records) (most : ℕ → ℕ) → IsLawfulMeaning meaning
+    → WorldStands v w most
     → i < v.settings.nodes → j < v.settings.nodes → i ≢ j → Falls v z j (i * v.settings.nodes + j) old new
     → slice_get v.endpoints i ≡ Some sender → numbered ((w i).asked j) k ≡ Some x
     → run_of k ((w j).ran i) ≡ None
@@ -192,7 +194,7 @@ in_range from me slot nodes credits is_last low other below =
 
 -- one that ran
 again_steps : (meaning : Meaning) (v z : WorldState) (now i j k : ℕ) (x : Request) (t : Run) (answer : Answer)
-    (old new : EventScope) (w : Records) (most : ℕ → ℕ) → IsLawfulMeaning meaning → Stands v w most
+    (old new : EventScope) (w : Records) (most : ℕ → ℕ) → IsLawfulMeaning meaning → WorldStands v w most
     → i < v.settings.nodes → j < v.settings.nodes → i ≢ j → Falls v z j (i * v.settings.nodes + j) old new
     → numbered ((w i).asked j) k ≡ Some x → run_of k ((w j).ran i) ≡ Some t
     → RequestRepeats x.slot old (transition now (request_envelope i j k) answer) new
@@ -223,7 +225,7 @@ pub request_steps : (meaning : Meaning) (v z : WorldState) (now i j k : ℕ) (se
     (old new : EventScope) → IsLawfulMeaning meaning → i < v.settings.nodes → j < v.settings.nodes → i ≢ j
     → Falls v z j (i * v.settings.nodes + j) old new → slice_get v.endpoints i ≡ Some sender
     → RequestFalls meaning sender old (transition now (request_envelope i j k) a) new
-    → Steps meaning v (transition now (RequestComes i j k) a) z
+    → StepsInWorld meaning v (transition now (RequestComes i j k) a) z
 request_steps meaning v z now i j k sender (world_answers.Node answer) old new lawful i_in j_in apart F lent R =
     λ w most S.
     let step = transition now (request_envelope i j k) answer in
@@ -250,7 +252,7 @@ request_steps meaning v z now i j k sender world_answers.Unsent old new lawful i
 
 -- one that comes back
 returned_sends : (meaning : Meaning) (v z : WorldState) (i j k : ℕ) (r : Run) (l : EndpointLocal) (old new : EventScope)
-    (w : Records) (most : ℕ → ℕ) → Stands v w most → i < v.settings.nodes → j < v.settings.nodes → i ≢ j
+    (w : Records) (most : ℕ → ℕ) → WorldStands v w most → i < v.settings.nodes → j < v.settings.nodes → i ≢ j
     → Falls v z i (i * v.settings.nodes + j) old new
     → r.number ≡ k → 1 ≤ k → new.exchanges.list ≡ with_returned old.exchanges.list k
     → Sends w (put w i (with_back (w i) j r.number l)) i j new
@@ -272,7 +274,7 @@ returned_sends meaning v z i j k r l old new w most S i_in j_in apart F number s
 
 -- by what becomes of it
 replied_sends : (meaning : Meaning) (v z : WorldState) (now i j k : ℕ) (r : Run) (answer : Answer) (old new : EventScope)
-    (w : Records) (most : ℕ → ℕ) → Stands v w most → i < v.settings.nodes → j < v.settings.nodes → i ≢ j
+    (w : Records) (most : ℕ → ℕ) → WorldStands v w most → i < v.settings.nodes → j < v.settings.nodes → i ≢ j
     → Falls v z i (i * v.settings.nodes + j) old new
     → r.number ≡ k → 1 ≤ k → is_request r.reply.kind ≡ false
     → Stepping meaning v w now i (Comes (reply_message v.settings i j r)) answer new.endpoint
@@ -301,7 +303,8 @@ no_request false c e = refl
 
 -- one to a request that isn't back: it stands at the node that ran the request
 take_steps : (meaning : Meaning) (v z : WorldState) (now i j k : ℕ) (x : Request) (r : Run) (sender : EndpointState)
-    (answer : Answer) (old new : EventScope) (w : Records) (most : ℕ → ℕ) → IsLawfulMeaning meaning → Stands v w most
+    (answer : Answer) (old new : EventScope) (w : Records) (most : ℕ → ℕ) → IsLawfulMeaning meaning
+    → WorldStands v w most
     → i < v.settings.nodes → j < v.settings.nodes → i ≢ j → Falls v z i (i * v.settings.nodes + j) old new
     → slice_get v.endpoints j ≡ Some sender → numbered ((w i).asked j) k ≡ Some x → x.back ≡ false
     → run_of k ((w j).ran i) ≡ Some r
@@ -329,7 +332,7 @@ take_steps meaning v z now i j k x r sender answer old new w most lawful S i_in 
 
 -- one to a request that is back
 late_steps : (meaning : Meaning) (v z : WorldState) (now i j k : ℕ) (x : Request) (r : Run) (answer : Answer)
-    (old new : EventScope) (w : Records) (most : ℕ → ℕ) → IsLawfulMeaning meaning → Stands v w most
+    (old new : EventScope) (w : Records) (most : ℕ → ℕ) → IsLawfulMeaning meaning → WorldStands v w most
     → i < v.settings.nodes → j < v.settings.nodes → Falls v z i (i * v.settings.nodes + j) old new
     → numbered ((w i).asked j) k ≡ Some x → x.back ≡ true → run_of k ((w j).ran i) ≡ Some r
     → ReplyIsLate old answer new → Stepped meaning v now (ReplyComes i j k) (world_answers.Node answer) z w most
@@ -353,7 +356,7 @@ pub reply_steps : (meaning : Meaning) (v z : WorldState) (now i j k : ℕ) (send
     (old new : EventScope) → IsLawfulMeaning meaning → i < v.settings.nodes → j < v.settings.nodes → i ≢ j
     → Falls v z i (i * v.settings.nodes + j) old new → slice_get v.endpoints j ≡ Some sender
     → ReplyFalls meaning sender old (transition now (reply_envelope i j k) a) new
-    → Steps meaning v (transition now (ReplyComes i j k) a) z
+    → StepsInWorld meaning v (transition now (ReplyComes i j k) a) z
 reply_steps meaning v z now i j k sender (world_answers.Node answer) old new lawful i_in j_in apart F lent R =
     λ w most S.
     let step = transition now (reply_envelope i j k) answer in
@@ -374,7 +377,7 @@ reply_steps meaning v z now i j k sender world_answers.Unsent old new lawful i_i
     (same_stands v z w most i (i * v.settings.nodes + j) old new S F R.same)
     (ap (reply_event v.settings i j) (none_there w most S (run_of k ((w j).ran i)) refl))
   where
-    none_there : (w : Records) (most : ℕ → ℕ) → Stands v w most → (o : Option Run) → run_of k ((w j).ran i) ≡ o
+    none_there : (w : Records) (most : ℕ → ℕ) → WorldStands v w most → (o : Option Run) → run_of k ((w j).ran i) ≡ o
         → run_of k ((w j).ran i) ≡ None
     none_there w most S None ran = ran
     none_there w most S (Some r) ran =
@@ -388,7 +391,7 @@ reply_steps meaning v z now i j k sender world_answers.Unsent old new lawful i_i
 
 -- a request of a node to itself was never sent
 pub own_request_steps : (meaning : Meaning) (v : WorldState) (now i j k : ℕ) → i ≡ j
-    → Steps meaning v (transition now (RequestComes i j k) world_answers.Unsent) v
+    → StepsInWorld meaning v (transition now (RequestComes i j k) world_answers.Unsent) v
 own_request_steps meaning v now i j k same =
     λ w most S. nowhere_steps meaning v v now (RequestComes i j k) w most refl S
     (ap (request_event v.settings i j k)
@@ -396,7 +399,7 @@ own_request_steps meaning v now i j k same =
 
 -- a reply of a node to itself was never sent
 pub own_reply_steps : (meaning : Meaning) (v : WorldState) (now i j k : ℕ) → i ≡ j
-    → Steps meaning v (transition now (ReplyComes i j k) world_answers.Unsent) v
+    → StepsInWorld meaning v (transition now (ReplyComes i j k) world_answers.Unsent) v
 own_reply_steps meaning v now i j k same = λ w most S. nowhere_steps meaning v v now (ReplyComes i j k) w most refl S
     (ap (λ rs. reply_event v.settings i j (run_of k rs))
     (none_ran (limits_of v.settings i j) (content_refusal v.settings v.table) ((w i).asked j) ((w j).ran i)

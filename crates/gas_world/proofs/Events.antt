@@ -24,7 +24,7 @@ use Rattle.gas_world.specs.ExchangesState.{ExchangesState}
 use Rattle.gas_endpoint.specs.EndpointState.{EndpointState, EndpointStands, NodeSteps, sent_to, IsNodeOf}
 use Rattle.gas_world.specs.WorldState.{WorldState}
 use Rattle.gas_world.specs.EventScopes.{EventScope, MostIs, IsSame}
-use Rattle.gas_world.specs.Stands.{StandsForPair, Stands}
+use Rattle.gas_world.specs.Stands.{StandsForPair, WorldStands}
 use Rattle.gas_world.specs.Events.{job_in}
 use Rattle.endpoint_rules.specs.declared.answer.Answer.{Answer}
 use Rattle.gas_world.specs.declared.event.WorldAnswer.{WorldAnswer}
@@ -42,13 +42,14 @@ use Rattle.lists.proofs.Cases.{none_some}
 abbrev pub Stepped : Meaning → WorldState → (now : ℕ) → RecordsEvent → WorldAnswer → WorldState → Records → (ℕ → ℕ)
     → Type 0
 Stepped meaning v now e a z w most = (a ≡ world_told (world_answer (job_in meaning v) w (timed now e)))
-    × Stands z (world_after (job_in meaning v) w (timed now e))
+    × WorldStands z (world_after (job_in meaning v) w (timed now e))
     (most_then v.settings (world_after (job_in meaning v) w (timed now e)) most)
 
 -- ---- what was there
 
 -- the endpoint stood for its node's record
-pub scope_node : (v z : WorldState) (w : Records) (most : ℕ → ℕ) (i place : ℕ) (old new : EventScope) → Stands v w most
+pub scope_node : (v z : WorldState) (w : Records) (most : ℕ → ℕ) (i place : ℕ) (old new : EventScope)
+    → WorldStands v w most
     → Falls v z i place old new → i < v.settings.nodes
     → IsNodeOf v.settings v.table i old.endpoint × EndpointStands old.endpoint (w i)
 scope_node v z w most i place old new S F low =
@@ -57,7 +58,8 @@ scope_node v z w most i place old new S F low =
     (same_Some _ _ (sym it.1 ∙ F.endpoint_was)) (it.2, it.3)
 
 -- the exchanges stood for the pair
-pub scope_pair : (v z : WorldState) (w : Records) (most : ℕ → ℕ) (node i j : ℕ) (old new : EventScope) → Stands v w most
+pub scope_pair : (v z : WorldState) (w : Records) (most : ℕ → ℕ) (node i j : ℕ) (old new : EventScope)
+    → WorldStands v w most
     → Falls v z node (i * v.settings.nodes + j) old new → i < v.settings.nodes → j < v.settings.nodes
     → StandsForPair old.exchanges.list ((w i).asked j) ((w j).ran i)
 scope_pair v z w most node i j old new S F i_in j_in =
@@ -67,12 +69,13 @@ scope_pair v z w most node i j old new S F i_in j_in =
     (ap (λ (x : ExchangesState). x.list) same) it.3
 
 -- the greatest number held
-pub scope_most : (v z : WorldState) (w : Records) (most : ℕ → ℕ) (i place : ℕ) (old new : EventScope) → Stands v w most
+pub scope_most : (v z : WorldState) (w : Records) (most : ℕ → ℕ) (i place : ℕ) (old new : EventScope)
+    → WorldStands v w most
     → Falls v z i place old new → i < v.settings.nodes → old.most ≡ most i
 scope_most v z w most i place old new S F low = same_Some _ _ (sym F.most_was ∙ S.most_is i low)
 
 -- the endpoint of another node stood for that node's record
-pub other_node : (v : WorldState) (w : Records) (most : ℕ → ℕ) (i : ℕ) (e : EndpointState) → Stands v w most
+pub other_node : (v : WorldState) (w : Records) (most : ℕ → ℕ) (i : ℕ) (e : EndpointState) → WorldStands v w most
     → slice_get v.endpoints i ≡ Some e → i < v.settings.nodes
     → IsNodeOf v.settings v.table i e × EndpointStands e (w i)
 other_node v w most i e S at low =
@@ -99,7 +102,7 @@ pub record Stepping (meaning : Meaning) (v : WorldState) (w : Records) (now i : 
 
 -- the endpoint of a scope does
 pub scope_steps : (meaning : Meaning) (v z : WorldState) (w : Records) (most : ℕ → ℕ) (now i place : ℕ)
-    (ne : RecordEvent) (answer : Answer) (old new : EventScope) → Stands v w most → Falls v z i place old new
+    (ne : RecordEvent) (answer : Answer) (old new : EventScope) → WorldStands v w most → Falls v z i place old new
     → i < v.settings.nodes
     → NodeSteps meaning old.endpoint (transition now ne answer) new.endpoint
     → Stepping meaning v w now i ne answer new.endpoint
@@ -122,7 +125,8 @@ scope_steps meaning v z w most now i place ne answer old new S F low N =
 -- an event that falls on a node, where what it sends stands
 pub event_steps : (meaning : Meaning) (v z : WorldState) (now : ℕ) (e : RecordsEvent) (i a b : ℕ) (ne : RecordEvent)
     (answer : Answer) (old new : EventScope) (w : Records) (most : ℕ → ℕ)
-    → IsLawfulMeaning meaning → Stands v w most → IsAmong v.settings e → i < v.settings.nodes → b < v.settings.nodes
+    → IsLawfulMeaning meaning → WorldStands v w most → IsAmong v.settings e → i < v.settings.nodes
+    → b < v.settings.nodes
     → Falls v z i (a * v.settings.nodes + b) old new
     → falls v.settings w e ≡ Some (record { node = i; event = ne }) → Stepping meaning v w now i ne answer new.endpoint
     → new.most ≡ max old.most (held v.settings i (node_after (job_in meaning v) i (w i) now ne))
@@ -147,7 +151,7 @@ event_steps meaning v z now e i a b ne answer old new w most lawful S among i_in
       ap (λ n. world_answers.Node n) N.answer_is
           ∙ sym (ap (λ o. world_told (answer_at job w now o)) at),
       subst
-          (λ (y : Records). Stands z y (most_then s y most)) (sym after_is)
+          (λ (y : Records). WorldStands z y (most_then s y most)) (sym after_is)
           (moves_stand v z w most i a b x old new S b_in F M A),
     )
 
@@ -161,7 +165,8 @@ most_raised s table i x old new N S H =
 
 -- nothing is sent that is new
 pub quiet_sends : (v z : WorldState) (w : Records) (most : ℕ → ℕ) (i a b : ℕ) (x : Node EndpointLocal) (old new : EventScope)
-    → Stands v w most → a < v.settings.nodes → b < v.settings.nodes → Falls v z i (a * v.settings.nodes + b) old new
+    → WorldStands v w most → a < v.settings.nodes → b < v.settings.nodes
+    → Falls v z i (a * v.settings.nodes + b) old new
     → new.exchanges.list ≡ old.exchanges.list → IsQuiet (w i) x
     → SendsAt w (put w i x) a b new
 quiet_sends v z w most i a b x old new S a_in b_in F list Q = record {
@@ -210,7 +215,8 @@ choice_quiet meaning v i now r Rests none = same_quiet r r refl refl
 -- one that falls on a node, of which its endpoint knows the answer
 pub still_steps : (meaning : Meaning) (v z : WorldState) (now : ℕ) (e : RecordsEvent) (i a b : ℕ) (ne : RecordEvent)
     (answer : Answer) (old new : EventScope) (w : Records) (most : ℕ → ℕ)
-    → IsLawfulMeaning meaning → Stands v w most → IsAmong v.settings e → i < v.settings.nodes → a < v.settings.nodes
+    → IsLawfulMeaning meaning → WorldStands v w most → IsAmong v.settings e → i < v.settings.nodes
+    → a < v.settings.nodes
     → b < v.settings.nodes → Falls v z i (a * v.settings.nodes + b) old new
     → falls v.settings w e ≡ Some (record { node = i; event = ne })
     → answer ≡ told (node_answer (job_in meaning v) i (w i) now ne)
@@ -242,13 +248,13 @@ still_steps meaning v z now e i a b ne answer old new w most lawful S among i_in
 
 -- an event that falls nowhere changes no record
 pub nowhere_steps : (meaning : Meaning) (v z : WorldState) (now : ℕ) (e : RecordsEvent) (w : Records) (most : ℕ → ℕ)
-    → z.settings ≡ v.settings → Stands z w most → falls v.settings w e ≡ None
+    → z.settings ≡ v.settings → WorldStands z w most → falls v.settings w e ≡ None
     → Stepped meaning v now e world_answers.Unsent z w most
 nowhere_steps meaning v z now e w most same S none =
     let job = job_in meaning v in
     let after_is : world_after job w (timed now e) ≡ w = ap (after_at job w now) none in (
       sym (ap (λ o. world_told (answer_at job w now o)) none),
       subst
-          (λ (y : Records). Stands z y (most_then v.settings y most)) (sym after_is)
+          (λ (y : Records). WorldStands z y (most_then v.settings y most)) (sym after_is)
           (still_stands z v.settings w most same S),
     )

@@ -12,7 +12,7 @@ use Rattle.gas_endpoint.specs.EndpointState.{EndpointState}
 use Rattle.gas_world.specs.WorldState.{WorldState}
 use Rattle.gas_world.specs.EventScopes.{HoldsMessage, HoldsRequest, HoldsReply, IsHeld, IsBetween}
 use Rattle.gas_world.specs.EventScopes.{request_envelope, reply_envelope}
-use Rattle.gas_world.specs.Stands.{Stands, StandsForPair}
+use Rattle.gas_world.specs.Stands.{WorldStands, StandsForPair}
 use Rattle.gas_world.specs.declared.exchanges.Exchange.{Exchange}
 use Rattle.gas_world.specs.Aims.{FallsAt}
 use Rattle.gas_world.specs.Events.{event_of}
@@ -26,7 +26,7 @@ use Rattle.gas_world.proofs.Messages.{request_stands, run_stands, held_there}
 use Rattle.gas_world.proofs.Deliveries.{not_ran, did_run, not_back}
 
 -- the exchanges of a pair stand for it
-pair_there : (v : WorldState) (w : Records) (most : ℕ → ℕ) (i j : ℕ) (exchanges : ExchangesState) → Stands v w most
+pair_there : (v : WorldState) (w : Records) (most : ℕ → ℕ) (i j : ℕ) (exchanges : ExchangesState) → WorldStands v w most
     → i < v.settings.nodes → j < v.settings.nodes
     → slice_get v.exchanges (i * v.settings.nodes + j) ≡ Some exchanges
     → StandsForPair exchanges.list ((w i).asked j) ((w j).ran i)
@@ -37,7 +37,7 @@ pair_there v w most i j exchanges S i_in j_in at =
 
 -- a request that didn't run
 pub request_held : (v : WorldState) (w : Records) (most : ℕ → ℕ) (i j k : ℕ) (exchanges : ExchangesState)
-    (sender : EndpointState) → Stands v w most → i < v.settings.nodes → j < v.settings.nodes → i ≢ j
+    (sender : EndpointState) → WorldStands v w most → i < v.settings.nodes → j < v.settings.nodes → i ≢ j
     → slice_get v.exchanges (i * v.settings.nodes + j) ≡ Some exchanges → slice_get v.endpoints i ≡ Some sender
     → HoldsRequest exchanges.list sender (request_envelope i j k)
 request_held v w most i j k exchanges sender S i_in j_in apart pair lent = λ exchange at out.
@@ -53,7 +53,7 @@ request_held v w most i j k exchanges sender S i_in j_in apart pair lent = λ ex
 
 -- the reply to a request that ran and isn't back
 pub reply_held : (meaning : Meaning) (v : WorldState) (w : Records) (most : ℕ → ℕ) (i j k : ℕ)
-    (exchanges : ExchangesState) (sender : EndpointState) → IsLawfulMeaning meaning → Stands v w most
+    (exchanges : ExchangesState) (sender : EndpointState) → IsLawfulMeaning meaning → WorldStands v w most
     → i < v.settings.nodes → j < v.settings.nodes
     → slice_get v.exchanges (i * v.settings.nodes + j) ≡ Some exchanges → slice_get v.endpoints j ≡ Some sender
     → HoldsReply exchanges.list sender (reply_envelope i j k)
@@ -71,7 +71,7 @@ reply_held meaning v w most i j k exchanges sender lawful S i_in j_in pair lent 
 -- what an event delivers, where it falls on this pair
 pub event_held : (meaning : Meaning) (v : WorldState) (w : Records) (most : ℕ → ℕ) (e : WorldEvent) (now : ℕ)
     (aim : Aim)
-    (exchanges : ExchangesState) → IsLawfulMeaning meaning → Stands v w most → IsAmong v.settings (event_of e)
+    (exchanges : ExchangesState) → IsLawfulMeaning meaning → WorldStands v w most → IsAmong v.settings (event_of e)
     → FallsAt v now e aim
     → slice_get v.exchanges (aim.from * v.settings.nodes + aim.to) ≡ Some exchanges
     → IsHeld v.endpoints exchanges.list e

@@ -7,8 +7,8 @@ use Rattle.handler_rules.specs.Runs.{Meaning}
 use Rattle.plain_world.specs.World.{Timed, world_after, run}
 use Rattle.plain_world.specs.MostHeld.{most_then, most_after}
 use Rattle.endpoint_rules.specs.EndpointRules.{OtherCall, Records, RecordsEvent, timed, transition, job_of}
-use Rattle.gas_world.specs.Events.{Steps, job_in}
-use Rattle.gas_world.specs.Stands.{Stands}
+use Rattle.gas_world.specs.Events.{StepsInWorld, job_in}
+use Rattle.gas_world.specs.Stands.{WorldStands}
 use Rattle.gas_world.specs.WorldState.{WorldState}
 use Rattle.gas_world.specs.Settling.{WorldJob, Moves, in_turn}
 use Rattle.gas_world.specs.declared.event.WorldAnswer.{WorldAnswer}
@@ -38,7 +38,7 @@ most_append job (x ∷ xs) ys w most =
 
 -- the world stands for what follows these events
 abbrev pub StandsAfter : WorldJob → WorldState → List (Timed OtherCall) → Records → (ℕ → ℕ) → Type 0
-StandsAfter job v events w most = Stands v (run job events w) (most_after job events w most)
+StandsAfter job v events w most = WorldStands v (run job events w) (most_after job events w most)
 
 -- for what follows one list and then another, for what follows both
 pub stands_both : (job : WorldJob) (v : WorldState) (xs ys : List (Timed OtherCall)) (w : Records) (most : ℕ → ℕ)
@@ -57,7 +57,7 @@ moves_then job events more old mid new h k = λ w most stands.
 
 -- of which an answer tells that it happened
 pub step_moves : (meaning : Meaning) (old new : WorldState) (now : ℕ) (e : RecordsEvent) (answer : WorldAnswer)
-    → (answer ≡ answers.NoMemory → ⊥) → Steps meaning old (transition now e answer) new
+    → (answer ≡ answers.NoMemory → ⊥) → StepsInWorld meaning old (transition now e answer) new
     → Moves (job_in meaning old) (λ w. timed now e ∷ []) old new
 step_moves meaning old new now e (answers.Node answer) n steps = λ w most h. (steps w most h).1
 step_moves meaning old new now e answers.Unsent n steps = λ w most h. (steps w most h).1

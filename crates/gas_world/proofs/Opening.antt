@@ -14,7 +14,7 @@ use Rattle.endpoint_rules.specs.EndpointRules.{at_the_opening}
 use Rattle.gas_world.specs.ExchangesState.{ExchangesState}
 use Rattle.gas_endpoint.specs.EndpointState.{EndpointState, EndpointStands, IsNodeOf}
 use Rattle.gas_world.specs.Sizes.{IsWorldSized, AreOpening, AreEmpty}
-use Rattle.gas_world.specs.Stands.{Stands, StandsForPair, IsWhole}
+use Rattle.gas_world.specs.Stands.{WorldStands, StandsForPair, IsWholeWorld}
 use Rattle.gas_world.specs.declared.exchanges.Exchange.{Exchange}
 use Rattle.plain_world.proofs.Worlds.{opening_keeps}
 use Rattle.gas_world.proofs.EventScopes.{pair_place}
@@ -43,7 +43,7 @@ pub stands_opening : (s : Parameters) (table : List (Option Entry)) (es : List E
     (xs : List ExchangesState) (most : List ℕ)
     → AreInRange s → length es ≡ s.nodes → AreOpening s table es → length xs ≡ s.nodes * s.nodes → AreEmpty xs
     → most ≡ replicate s.nodes 0
-    → Stands (record { settings = s; table = table; endpoints = es; exchanges = xs; most = most })
+    → WorldStands (record { settings = s; table = table; endpoints = es; exchanges = xs; most = most })
     (at_the_opening s) (λ i. 0)
 stands_opening s table es xs most range count A pairs E zeros = record {
   range = range;
@@ -77,7 +77,7 @@ pub whole_opening : (s : Parameters) (table : List (Option Entry)) (es : List En
     (xs : List ExchangesState) (most : List ℕ)
     → AreInRange s → length es ≡ s.nodes → AreOpening s table es → length xs ≡ s.nodes * s.nodes → AreEmpty xs
     → most ≡ replicate s.nodes 0
-    → IsWhole (record { settings = s; table = table; endpoints = es; exchanges = xs; most = most })
+    → IsWholeWorld (record { settings = s; table = table; endpoints = es; exchanges = xs; most = most })
 whole_opening s table es xs most range count A pairs E zeros = record {
   sized = sized_opening s table es xs most count A pairs zeros;
   founded = record {

@@ -9,8 +9,8 @@ use Rattle.endpoint_rules.specs.EndpointRules.{Records, RecordsEvent, timed, tra
 use Rattle.gas_world.specs.WorldTold.{world_told}
 use Rattle.endpoint_rules.proofs.Sound.{rules_sound}
 use Rattle.gas_world.specs.WorldState.{WorldState}
-use Rattle.gas_world.specs.Stands.{Stands}
-use Rattle.gas_world.specs.Events.{job_in, Steps, StepsPlainly}
+use Rattle.gas_world.specs.Stands.{WorldStands}
+use Rattle.gas_world.specs.Events.{job_in, StepsInWorld, StepsPlainly}
 use Rattle.plain_world.specs.Laws.{IsLawful}
 use Rattle.gas_world.specs.declared.event.WorldAnswer.{WorldAnswer}
 use Rattle.gas_world.specs.declared.event.WorldAnswer.TheVariants as answers
@@ -20,7 +20,7 @@ use Rattle.plain_world.proofs.PlainSteps.{step_plain}
 -- an answer that is the records' is that of a step of the plain world
 answers_plainly : (meaning : Meaning) (v : WorldState) (now : ℕ) (e : RecordsEvent) (a : WorldAnswer) (w : Records)
     (most : ℕ → ℕ)
-    → IsLawfulMeaning meaning → Stands v w most → a ≡ world_told (world_answer (job_in meaning v) w (timed now e))
+    → IsLawfulMeaning meaning → WorldStands v w most → a ≡ world_told (world_answer (job_in meaning v) w (timed now e))
     → (a ≡ world_told (world_answer (job_in meaning v) w (timed now e)))
     × PlainStep (job_in meaning v) (plain_of w) e (world_answer (job_in meaning v) w (timed now e))
     (plain_of (world_after (job_in meaning v) w (timed now e)))
@@ -33,7 +33,7 @@ answers_plainly meaning v now e a w most lawful S is = (
 
 -- a step of the world is one of the plain world
 pub plainly : (meaning : Meaning) (old : WorldState) (now : ℕ) (e : RecordsEvent) (a : WorldAnswer) (new : WorldState)
-    → IsLawfulMeaning meaning → Steps meaning old (transition now e a) new
+    → IsLawfulMeaning meaning → StepsInWorld meaning old (transition now e a) new
     → StepsPlainly meaning old (transition now e a)
 plainly meaning old now e answers.NoMemory new sound steps = tt
 plainly meaning old now e (answers.Node answer) new sound steps =
@@ -43,7 +43,7 @@ plainly meaning old now e answers.Unsent new sound steps =
 
 -- the records for which a world stands are lawful
 pub stands_lawful : (meaning : Meaning) (v : WorldState) (w : Records) (most : ℕ → ℕ) → IsLawfulMeaning meaning
-    → Stands v w most → IsLawful (job_in meaning v) w
+    → WorldStands v w most → IsLawful (job_in meaning v) w
 stands_lawful meaning v w most sound S =
     lawful (job_in meaning v) (IsEndpointKept v.settings) w (rules_sound v.settings v.table meaning S.range sound)
     S.invariant_

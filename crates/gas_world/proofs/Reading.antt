@@ -12,7 +12,7 @@ use Rattle.gas_world.specs.ExchangesState.{ExchangesState}
 use Rattle.gas_endpoint.specs.EndpointState.{EndpointState, EndpointStands, IsTickTarget}
 use Rattle.gas_world.specs.Sizes.{IsWorldSized}
 use Rattle.gas_world.specs.WorldState.{WorldState}
-use Rattle.gas_world.specs.Stands.{StandsForPair, Stands, IsWhole}
+use Rattle.gas_world.specs.Stands.{StandsForPair, WorldStands, IsWholeWorld}
 use Rattle.gas_world.specs.Aims.{IsAimOfTick}
 use Rattle.plain_world.specs.Plain.{is_back}
 use Rattle.gas_world.specs.declared.exchanges.Exchange.{Exchange}
@@ -30,7 +30,7 @@ pub endpoint_read : (s : Parameters) (table : List (Option Entry)) (v : WorldSta
     (xs : List ExchangesState) (most : List ℕ) (node : ℕ) (e : EndpointState)
     → world_of s table es xs most ≡ v → IsWorldSized s table es xs most → node < v.settings.nodes
     → e ≡ get_or es node e
-    → (w : Records) (greatest : ℕ → ℕ) → Stands v w greatest → EndpointStands e (w node)
+    → (w : Records) (greatest : ℕ → ℕ) → WorldStands v w greatest → EndpointStands e (w node)
 endpoint_read s table v es xs most node e view sized low read w greatest S =
     let it = S.endpoints node low in
     let within : node < length es = omega
@@ -45,7 +45,7 @@ pub pair_read : (s : Parameters) (table : List (Option Entry)) (v : WorldState) 
     (xs : List ExchangesState) (most : List ℕ) (i j place : ℕ) (x : ExchangesState)
     → world_of s table es xs most ≡ v → IsWorldSized s table es xs most → i < v.settings.nodes
     → j < v.settings.nodes → place ≡ i * s.nodes + j → x ≡ get_or xs place x
-    → (w : Records) (greatest : ℕ → ℕ) → Stands v w greatest
+    → (w : Records) (greatest : ℕ → ℕ) → WorldStands v w greatest
     → StandsForPair x.list ((w i).asked j) ((w j).ran i)
 pair_read s table v es xs most i j place x view sized i_in j_in is read w greatest S =
     let it = S.exchanges i j i_in j_in in
@@ -65,7 +65,7 @@ pub most_read : (s : Parameters) (table : List (Option Entry)) (v : WorldState) 
     (xs : List ExchangesState) (most : List ℕ) (node m : ℕ)
     → world_of s table es xs most ≡ v → IsWorldSized s table es xs most → node < v.settings.nodes
     → m ≡ get_or most node m
-    → (w : Records) (greatest : ℕ → ℕ) → Stands v w greatest → m ≡ greatest node
+    → (w : Records) (greatest : ℕ → ℕ) → WorldStands v w greatest → m ≡ greatest node
 most_read s table v es xs most node m view sized low read w greatest S =
     let within : node < length most = omega
     (arith, low, sized.most_are, ap (λ (t : WorldState). t.settings.nodes) view) in
@@ -74,7 +74,7 @@ most_read s table v es xs most node m view sized low read w greatest S =
 
 -- where a tick falls, by the node to which its endpoint says that it sends
 pub tick_aim : (inside v : WorldState) (now node : ℕ) (e : EndpointState) (target : Option ℕ) (to : ℕ)
-    → inside ≡ v → IsWhole inside → node < v.settings.nodes → e ≡ get_or inside.endpoints node e
+    → inside ≡ v → IsWholeWorld inside → node < v.settings.nodes → e ≡ get_or inside.endpoints node e
     → IsTickTarget e now target → IfSome target (λ t. t < e.core.settings.nodes) → IfSome target (λ t. t ≢ e.core.me)
     → to ≡ unwrap_or target node
     → IsAimOfTick v now node (record { node = node; from = node; to = to; target = target })

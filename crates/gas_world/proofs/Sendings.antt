@@ -27,11 +27,12 @@ use Rattle.endpoint_rules.specs.declared.answer.Answer.{Answer}
 use Rattle.endpoint_rules.specs.declared.answer.Answer.TheVariants as answers
 use Rattle.gas_endpoint.specs.EndpointState.{EndpointState, EndpointStands, IsNodeOf, IsTickTarget, sent_to}
 use Rattle.gas_world.specs.WorldState.{WorldState}
-use Rattle.gas_world.specs.EventScopes.{EventScope, Stage, scope_with, Happens, IsPlanned, asked_list, CallFalls, AloneFallsIn}
+use Rattle.gas_world.specs.EventScopes.{EventScope, ScopeStage, scope_with, Happens, IsPlanned, asked_list, CallFalls}
+use Rattle.gas_world.specs.EventScopes.{AloneFallsIn}
 use Rattle.gas_world.specs.EventScopes.{AskFalls}
 use Rattle.gas_world.specs.Exchanges.{requested}
-use Rattle.gas_world.specs.Stands.{StandsForPair, Stands}
-use Rattle.gas_world.specs.Events.{Accepts, Steps, job_in}
+use Rattle.gas_world.specs.Stands.{StandsForPair, WorldStands}
+use Rattle.gas_world.specs.Events.{Accepts, StepsInWorld, job_in}
 use Rattle.gas_world.specs.declared.exchanges.Exchange.{Exchange}
 use Rattle.am_core.specs.CoreContracts.{IsSameNode}
 use Rattle.gas_world.specs.declared.event.WorldEvent.{WorldEvent}
@@ -96,7 +97,7 @@ accepts_at meaning v i now r to e =
     (sent_accepts it.sending.content (request_slot it.sending.to (next_claim (r.asked it.sending.to)).slot))
 
 -- what a tick does to the scope of its node, it does to the stage
-pub tick_happens : (meaning : Meaning) (old : Stage) (now node : ℕ) (planned : WorldEvent) (target : Option ℕ)
+pub tick_happens : (meaning : Meaning) (old : ScopeStage) (now node : ℕ) (planned : WorldEvent) (target : Option ℕ)
     (answer : WorldAnswer) (was : EndpointState) (new : EventScope)
     → planned ≡ world_event.Tick node → slice_get old.endpoints node ≡ Some was
     → IsSameNode was.core new.endpoint.core → IsPlanned old.endpoints (transition now planned target)
@@ -123,7 +124,7 @@ tick_happens meaning old now node planned target answer was new e there same sen
 
 -- the request is accepted: its pair is that of the node and its target
 sending_sends : (meaning : Meaning) (v z : WorldState) (now i : ℕ) (sending : Sending) (old new : EventScope) (w : Records)
-    (most : ℕ → ℕ) → Stands v w most → i < v.settings.nodes → sending.to < v.settings.nodes → sending.to ≢ i
+    (most : ℕ → ℕ) → WorldStands v w most → i < v.settings.nodes → sending.to < v.settings.nodes → sending.to ≢ i
     → Falls v z i (i * v.settings.nodes + sending.to) old new
     → new.exchanges.list ≡ old.exchanges.list ++ requested (next_claim ((w i).asked sending.to)).slot ∷ []
     → SendsAt w (put w i (after_sending (site_of (job_in meaning v) i) (w i) now sending)) i sending.to new
@@ -149,7 +150,7 @@ sending_sends meaning v z now i sending old new w most S i_in to_in other F list
 
 -- by what the tick does: it sends to this node
 tick_sends : (meaning : Meaning) (v z : WorldState) (now i to : ℕ) (answer : Answer) (old new : EventScope) (w : Records)
-    (most : ℕ → ℕ) → Stands v w most → i < v.settings.nodes → to < v.settings.nodes → to ≢ i
+    (most : ℕ → ℕ) → WorldStands v w most → i < v.settings.nodes → to < v.settings.nodes → to ≢ i
     → Falls v z i (i * v.settings.nodes + to) old new
     → Stepping meaning v w now i NodeTicks answer new.endpoint
     → new.exchanges.list ≡ asked_list old.exchanges.list answer
@@ -174,7 +175,7 @@ tick_sends meaning v z now i to answer old new w most S i_in to_in other F N lis
 
 -- one that sends to no node
 still_sends : (meaning : Meaning) (v z : WorldState) (now i b : ℕ) (old new : EventScope) (w : Records) (most : ℕ → ℕ)
-    → Stands v w most → i < v.settings.nodes → b < v.settings.nodes
+    → WorldStands v w most → i < v.settings.nodes → b < v.settings.nodes
     → Falls v z i (i * v.settings.nodes + b) old new → new.exchanges.list ≡ old.exchanges.list
     → None ≡ sent_to (choice_at meaning v now i (w i))
     → SendsAt w (put w i (node_after (job_in meaning v) i (w i) now NodeTicks)) i b new
@@ -188,7 +189,7 @@ still_sends meaning v z now i b old new w most S i_in b_in F list none =
 rest_steps : (meaning : Meaning) (v z : WorldState) (now i b : ℕ) (a : WorldAnswer) (old new : EventScope)
     → IsLawfulMeaning meaning → i < v.settings.nodes → b < v.settings.nodes
     → Falls v z i (i * v.settings.nodes + b) old new → IsTickTarget old.endpoint now None
-    → AloneFallsIn meaning old (transition now event.Tick a) new → Steps meaning v (transition now (Ticks i) a) z
+    → AloneFallsIn meaning old (transition now event.Tick a) new → StepsInWorld meaning v (transition now (Ticks i) a) z
 rest_steps meaning v z now i b (world_answers.Node answer) old new lawful low b_in F T C = λ w most S.
     let place = i * v.settings.nodes + b in
     let was = scope_node v z w most i place old new S F low in
@@ -204,7 +205,7 @@ rest_steps meaning v z now i b world_answers.Unsent old new lawful low b_in F T 
 send_steps : (meaning : Meaning) (v z : WorldState) (now i to : ℕ) (a : WorldAnswer) (old new : EventScope)
     → IsLawfulMeaning meaning → i < v.settings.nodes → to < v.settings.nodes → to ≢ i
     → Falls v z i (i * v.settings.nodes + to) old new → IsTickTarget old.endpoint now (Some to)
-    → AskFalls meaning old (transition now event.Tick a) new → Steps meaning v (transition now (Ticks i) a) z
+    → AskFalls meaning old (transition now event.Tick a) new → StepsInWorld meaning v (transition now (Ticks i) a) z
 send_steps meaning v z now i to (world_answers.Node answer) old new lawful low to_in other F T (inl C) = λ w most S.
     let place = i * v.settings.nodes + to in
     let was = scope_node v z w most i place old new S F low in
@@ -232,7 +233,7 @@ pub tick_steps : (meaning : Meaning) (v z : WorldState) (now i : ℕ) (a : World
     → ((to : ℕ) → target ≡ Some to → (to < v.settings.nodes) × (to ≢ i))
     → Falls v z i (i * v.settings.nodes + unwrap_or target i) old new → IsTickTarget old.endpoint now target
     → CallFalls meaning old (is_some target) (transition now event.Tick a) new
-    → Steps meaning v (transition now (Ticks i) a) z
+    → StepsInWorld meaning v (transition now (Ticks i) a) z
 tick_steps meaning v z now i a None old new lawful low there F T C =
     rest_steps meaning v z now i i a old new lawful low low F T C
 tick_steps meaning v z now i a (Some to) old new lawful low there F T C =

@@ -22,7 +22,7 @@ use Rattle.gas_endpoint.specs.EndpointState.{EndpointStands}
 use Rattle.gas_endpoint.specs.EndpointState.{IsNodeOf}
 use Rattle.gas_world.specs.WorldState.{WorldState}
 use Rattle.gas_world.specs.EventScopes.{EventScope, IsSame}
-use Rattle.gas_world.specs.Stands.{StandsForPair, Stands}
+use Rattle.gas_world.specs.Stands.{StandsForPair, WorldStands}
 use Rattle.gas_world.specs.declared.exchanges.Exchange.{Exchange}
 use Rattle.plain_world.proofs.Laws.{holding_few as few_records}
 
@@ -178,9 +178,9 @@ pub record Moves (v : WorldState) (w : Records) (most : ℕ → ℕ) (i : ℕ) (
 
 -- a world of the same settings and table, by its other parts
 with_settings : (v z : WorldState) (w : Records) (most : ℕ → ℕ) → z.settings ≡ v.settings → z.table ≡ v.table
-    → Stands (record z { settings = v.settings; table = v.table }) w most → Stands z w most
+    → WorldStands (record z { settings = v.settings; table = v.table }) w most → WorldStands z w most
 with_settings v z w most e f S =
-    subst (λ (t : WorldState). Stands t w most)
+    subst (λ (t : WorldState). WorldStands t w most)
     (ap₂ (λ (s : Parameters) (t : List (Option Entry)). record z { settings = s; table = t }) (sym e) (sym f)) S
 
 -- what was the greatest is so still
@@ -193,9 +193,10 @@ max_few a b c low few = omega arith
 
 -- the world stands where one node changed, and what it sent stands
 pub moves_stand : (v z : WorldState) (w : Records) (most : ℕ → ℕ) (i a b : ℕ) (x : Node EndpointLocal) (old new : EventScope)
-    → Stands v w most → b < v.settings.nodes → Falls v z i (a * v.settings.nodes + b) old new → Moves v w most i x new
+    → WorldStands v w most → b < v.settings.nodes → Falls v z i (a * v.settings.nodes + b) old new
+    → Moves v w most i x new
     → Sends w (put w i x) a b new
-    → Stands z (put w i x) (most_then v.settings (put w i x) most)
+    → WorldStands z (put w i x) (most_then v.settings (put w i x) most)
 moves_stand v z w most i a b x old new S b_in F M A =
     let s = v.settings in
     let w' = put w i x in
@@ -257,8 +258,9 @@ moves_stand v z w most i a b x old new S b_in F M A =
 -- ---- nothing changed
 
 -- the same, where only the room changed
-pub same_stands : (v z : WorldState) (w : Records) (most : ℕ → ℕ) (node place : ℕ) (old new : EventScope) → Stands v w most
-    → Falls v z node place old new → IsSame old new → Stands z w most
+pub same_stands : (v z : WorldState) (w : Records) (most : ℕ → ℕ) (node place : ℕ) (old new : EventScope)
+    → WorldStands v w most
+    → Falls v z node place old new → IsSame old new → WorldStands z w most
 same_stands v z w most node place old new S F I =
     let s = v.settings in
     with_settings v z w most F.settings F.table (record {
@@ -304,8 +306,9 @@ same_stands v z w most node place old new S F I =
     ]
 
 -- after an event that changed no record
-pub still_stands : (z : WorldState) (s : Parameters) (w : Records) (most : ℕ → ℕ) → z.settings ≡ s → Stands z w most
-    → Stands z w (most_then s w most)
+pub still_stands : (z : WorldState) (s : Parameters) (w : Records) (most : ℕ → ℕ) → z.settings ≡ s
+    → WorldStands z w most
+    → WorldStands z w (most_then s w most)
 still_stands z s w most e S = record {
   range = S.range;
   invariant_ = S.invariant_;

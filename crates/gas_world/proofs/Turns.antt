@@ -17,7 +17,7 @@ use Rattle.node_record.proofs.Lists.{run_of_there}
 use Rattle.node_record.proofs.Puts.{put_same, put_other}
 use Rattle.node_record.specs.NodeStep.{Comes, node_after, site_of}
 use Rattle.plain_world.specs.Plain.{plain_of, labelled, is_back}
-use Rattle.gas_world.specs.Stands.{Stands}
+use Rattle.gas_world.specs.Stands.{WorldStands}
 use Rattle.gas_world.specs.WorldState.{WorldState}
 use Rattle.plain_world.specs.World.{RequestComes, ReplyComes, Timed, request_event, reply_event, after_at}
 use Rattle.plain_world.specs.World.{world_after, run}
@@ -169,7 +169,7 @@ events_skip turn (suc place) back =
 pub record Halfway (turn : Turn) (v : WorldState) (rest : List (Timed OtherCall)) : Type 0 where
   pub records : Records
   pub most_now : ℕ → ℕ
-  pub stands : Stands v records most_now
+  pub stands : WorldStands v records most_now
   pub ends : run turn.job rest records ≡ run turn.job (events_of turn) turn.world
   pub most_ends : most_after turn.job rest records most_now
       ≡ most_after turn.job (events_of turn) turn.world turn.most
@@ -274,8 +274,8 @@ turn_ends turn v place high h =
     let half = h.half in
     let ends = ap (λ es. run turn.job es half.records) (sym none) ∙ half.ends in
     let most_ends = ap (λ es. most_after turn.job es half.records half.most_now) (sym none) ∙ half.most_ends in
-    subst (λ m. Stands v (run turn.job (events_of turn) turn.world) m) most_ends
-    (subst (λ r. Stands v r half.most_now) ends half.stands)
+    subst (λ m. WorldStands v (run turn.job (events_of turn) turn.world) m) most_ends
+    (subst (λ r. WorldStands v r half.most_now) ends half.stands)
 
 -- a node has nothing to send to itself
 pub own_turn : (job : WorldJob) (v : WorldState) (now from to : ℕ) → from ≡ to
@@ -293,7 +293,7 @@ back_listed xs place h =
     ap (option_map (λ (x : Request). x.back)) it.1 ∙ ap Some it.2
 
 -- the turn of a pair begins at its first request that is out
-pub turn_begins : (turn : Turn) (v : WorldState) (first : ℕ) → Stands v turn.world turn.most
+pub turn_begins : (turn : Turn) (v : WorldState) (first : ℕ) → WorldStands v turn.world turn.most
     → IsFirstOut (plain_of turn.world) turn.from turn.to first → TurnLeft turn v (first - 1)
 turn_begins turn v first h out = record {
   half = record {

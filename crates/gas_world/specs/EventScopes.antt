@@ -89,7 +89,8 @@ abbrev pub asked_list : List Exchange → Answer → List Exchange
 asked_list list answer = with_accepted list (accepted_slot answer)
 
 -- a request of the pair, for which there is room
-pub record IsAsked (meaning : Meaning) (old : EventScope) (step : Transition Event Answer) (new : EventScope) : Type 0 where
+pub record IsAskedInScope (meaning : Meaning) (old : EventScope) (step : Transition Event Answer) (new : EventScope)
+    : Type 0 where
   pub steps : EndpointSteps meaning old.endpoint step new.endpoint
   pub list : new.exchanges.list ≡ asked_list old.exchanges.list step.answer
   pub most_is : MostIs old.most new.endpoint new.most
@@ -106,7 +107,7 @@ pub record HasNoRoom (old : EventScope) (now : ℕ) (event : Event) (new : Event
 
 abbrev pub AskFalls : Meaning → EventScope → Transition Event WorldAnswer → EventScope → Type 0
 AskFalls meaning old step new = elim step.answer [
-  | world_answers.Node answer ↦ IsAsked meaning old (transition step.now step.event answer) new
+  | world_answers.Node answer ↦ IsAskedInScope meaning old (transition step.now step.event answer) new
       ⊎ IsDeclined meaning old (transition step.now step.event answer) new
   | world_answers.NoMemory ↦ HasNoRoom old step.now step.event new
   | world_answers.Unsent ↦ ⊥
@@ -306,11 +307,11 @@ EventScopeSteps meaning endpoints old step new = elim step.event [
 ]
 
 -- the node on which an event falls
-abbrev pub node_of : WorldEvent → ℕ
-node_of (world_event.Call node thread call) = node
-node_of (world_event.Request from to number) = to
-node_of (world_event.Reply from to number) = from
-node_of (world_event.Tick node) = node
+abbrev pub event_node : WorldEvent → ℕ
+event_node (world_event.Call node thread call) = node
+event_node (world_event.Request from to number) = to
+event_node (world_event.Reply from to number) = from
+event_node (world_event.Tick node) = node
 
 -- there are endpoints for its nodes, and a message goes between two different ones
 abbrev pub IsBetween : (count : ℕ) → WorldEvent → Type 0
@@ -349,13 +350,13 @@ IsHeld endpoints exchanges (world_event.Reply from to number) =
 IsHeld endpoints exchanges (world_event.Tick node) = Unit {0}
 
 -- the endpoints, with the exchanges of a pair and the greatest number that a node held
-pub record Stage : Type 0 where
+pub record ScopeStage : Type 0 where
   pub endpoints : List EndpointState
   pub exchanges : ExchangesState
   pub most : ℕ
 
 -- with one endpoint of them
-abbrev pub scope_with : Stage → EndpointState → EventScope
+abbrev pub scope_with : ScopeStage → EndpointState → EventScope
 scope_with stage endpoint = record { endpoint = endpoint; exchanges = stage.exchanges; most = stage.most }
 
 -- one endpoint changes alone, to this one, and stays that of its node
@@ -365,15 +366,17 @@ pub record ChangesOne (old new : List EndpointState) (node : ℕ) (was is : Endp
   pub same : IsSameNode was.core is.core
 
 -- an event falls on its node's endpoint
-pub record Happens (meaning : Meaning) (old : Stage) (step : Transition WorldEvent WorldAnswer) (new : Stage) : Type 0
+pub record Happens (meaning : Meaning) (old : ScopeStage) (step : Transition WorldEvent WorldAnswer)
+    (new : ScopeStage) : Type 0
   where
     pub was : EndpointState
     pub is : EndpointState
-    pub changes : ChangesOne old.endpoints new.endpoints (node_of step.event) was is
+    pub changes : ChangesOne old.endpoints new.endpoints (event_node step.event) was is
     pub steps : EventScopeSteps meaning old.endpoints (scope_with old was) step (scope_with new is)
 
 -- a message comes to its receiver's endpoint
-pub record Delivers (meaning : Meaning) (old : Stage) (step : Transition Envelope WorldAnswer) (new : Stage) : Type 0
+pub record DeliversInScope (meaning : Meaning) (old : ScopeStage) (step : Transition Envelope WorldAnswer)
+    (new : ScopeStage) : Type 0
   where
     pub was : EndpointState
     pub is : EndpointState

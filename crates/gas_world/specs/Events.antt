@@ -19,7 +19,7 @@ use Rattle.gas_world.specs.WorldTold.{world_told}
 use Rattle.node_record.specs.Transition.{Transition}
 use Rattle.endpoint_rules.specs.declared.answer.Answer.{Answer}
 use Rattle.gas_world.specs.WorldState.{WorldState}
-use Rattle.gas_world.specs.Stands.{Stands}
+use Rattle.gas_world.specs.Stands.{WorldStands}
 use Rattle.endpoint_rules.specs.Called.{called_at}
 use Rattle.gas_world.specs.declared.event.WorldEvent.{WorldEvent}
 use Rattle.gas_world.specs.declared.event.WorldEvent.TheVariants as event
@@ -51,7 +51,7 @@ RunsHaveTheLaws world =
 
 -- this holds of all records for which the world stands, and of what the nodes held at most
 abbrev pub ForItsRecords : WorldState → (Records → (ℕ → ℕ) → Type 0) → Type 0
-ForItsRecords world Holds = (records : Records) (most : ℕ → ℕ) → Stands world records most → Holds records most
+ForItsRecords world Holds = (records : Records) (most : ℕ → ℕ) → WorldStands world records most → Holds records most
 
 -- the event of a transition at its time
 abbrev pub timed_of : Transition RecordsEvent WorldAnswer → Timed OtherCall
@@ -61,7 +61,7 @@ timed_of step = timed step.now step.event
 abbrev pub StepsOn : Meaning → WorldState → Transition RecordsEvent WorldAnswer → WorldState → Type 0
 StepsOn meaning old step new = ForItsRecords old (λ records most.
     (step.answer ≡ world_told (world_answer (job_in meaning old) records (timed_of step)))
-    × Stands new (world_after (job_in meaning old) records (timed_of step))
+    × WorldStands new (world_after (job_in meaning old) records (timed_of step))
     (most_then old.settings (world_after (job_in meaning old) records (timed_of step)) most))
 
 -- a request is accepted: one that a thread makes, or one that a tick sends for the first time
@@ -83,12 +83,12 @@ pub record WantsMemory (meaning : Meaning) (old : WorldState) (event : Timed Oth
   pub accepts : ForItsRecords old (λ records most. Accepts (world_answer (job_in meaning old) records event))
 
 -- so it does for all records for which it stood; where memory ran out, they accept, and it stands for the same records
-abbrev pub Steps : Meaning → WorldState → Transition RecordsEvent WorldAnswer → WorldState → Type 0
-Steps meaning old step new = elim step.answer [
+abbrev pub StepsInWorld : Meaning → WorldState → Transition RecordsEvent WorldAnswer → WorldState → Type 0
+StepsInWorld meaning old step new = elim step.answer [
   | answers.Node answer ↦ StepsOn meaning old step new
   | answers.Unsent ↦ StepsOn meaning old step new
   | answers.NoMemory ↦ WantsMemory meaning old (timed_of step)
-      × ForItsRecords old (λ records most. Stands new records most)
+      × ForItsRecords old (λ records most. WorldStands new records most)
 ]
 
 -- read as a plain world, it steps by this event with this answer to what its next record is

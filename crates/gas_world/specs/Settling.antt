@@ -8,7 +8,7 @@ use Rattle.plain_world.specs.World.{RequestComes, ReplyComes, Ticks, Timed, run}
 use Rattle.plain_world.specs.MostHeld.{most_after}
 use Rattle.endpoint_rules.specs.EndpointRules.{OtherCall, Records, timed}
 use Rattle.gas_world.specs.Events.{ForItsRecords}
-use Rattle.gas_world.specs.Stands.{Stands}
+use Rattle.gas_world.specs.Stands.{WorldStands}
 use Rattle.gas_world.specs.WorldState.{WorldState}
 use Rattle.endpoint_rules.specs.declared.answer.Answer.{Answer}
 
@@ -20,7 +20,7 @@ WorldJob = Job EndpointLocal OtherCall Answer
 -- which the records decide
 abbrev pub Moves : WorldJob → (events : Records → List (Timed OtherCall)) → WorldState → WorldState → Type 0
 Moves job events old new = ForItsRecords old (λ records most.
-    Stands new (run job (events records) records) (most_after job (events records) records most))
+    WorldStands new (run job (events records) records) (most_after job (events records) records most))
 
 -- the events of each number below the count, in rising order, each decided by the records that the earlier ones leave
 abbrev pub in_turn : WorldJob → (events : ℕ → Records → List (Timed OtherCall)) → (count : ℕ) → Records

@@ -34,7 +34,7 @@ pub record StandsForPair (exchanges : List Exchange) (requests : List Request) (
 
 -- the world stands for these records, where each node holds at most so much, and that is at most the bound of
 -- that node (`greatest_holding`)
-pub record Stands (world : WorldState) (records : Records) (most : ℕ → ℕ) : Type 0 where
+pub record WorldStands (world : WorldState) (records : Records) (most : ℕ → ℕ) : Type 0 where
   pub range : AreInRange world.settings
   pub invariant_ : WorldInvariant
       world.settings (content_refusal world.settings world.table) (IsEndpointKept world.settings) records
@@ -53,9 +53,9 @@ pub record Stands (world : WorldState) (records : Records) (most : ℕ → ℕ) 
 pub record IsFounded (world : WorldState) : Type 0 where
   pub records : Records
   pub most : ℕ → ℕ
-  pub stands : Stands world records most
+  pub stands : WorldStands world records most
 
 -- the world has its sizes, and stands for some records
-pub record IsWhole (world : WorldState) : Type 0 where
+pub record IsWholeWorld (world : WorldState) : Type 0 where
   pub sized : IsWorldSized world.settings world.table world.endpoints world.exchanges world.most
   pub founded : IsFounded world

@@ -9,13 +9,13 @@ ghost use Rattle.plain_world.specs.Plain.{plain_of, IsFirstOut};
 ghost use Rattle.plain_world.specs.Laws.{IsLawful};
 ghost use Rattle.node_record.specs.Credits.{greatest_holding};
 ghost use Rattle.gas_endpoint.specs.EndpointState.{EndpointStands};
-ghost use Rattle.gas_world.specs.Stands.{Stands};
+ghost use Rattle.gas_world.specs.Stands.{WorldStands};
 ghost use Rattle.gas_world.specs.Aims.{AimsAt, MayFall, IsTargetOf};
 ghost use Rattle.gas_world.specs.Events.{event_of, ForItsRecords, job_in, RunsHaveTheHeadline};
 ghost use Rattle.gas_world.specs.Events.{RunsHaveTheLaws};
 ghost use Rattle.transfer_laws.specs.TransferLaws.{TransfersHold};
 ghost use Rattle.barrier_laws.specs.BarrierLaws.{BarrierHolds};
-ghost use Rattle.gas_world.specs.Events.{Steps, StepsPlainly};
+ghost use Rattle.gas_world.specs.Events.{StepsInWorld, StepsPlainly};
 
 use crate::event::{WorldAnswer, WorldEvent};
 use crate::exchanges::Exchanges;
@@ -43,7 +43,7 @@ pub struct World {
 
 impl Model for World {
     ghost use Rattle.gas_world.specs.WorldState.{WorldState};
-    ghost use Rattle.gas_world.specs.Stands.{IsWhole};
+    ghost use Rattle.gas_world.specs.Stands.{IsWholeWorld};
 
     ghost Value = { WorldState };
 
@@ -55,7 +55,7 @@ impl Model for World {
       most = w.most.items;
     } };
 
-    ghost invariant = { λ w. IsWhole (record {
+    ghost invariant = { λ w. IsWholeWorld (record {
       settings = w.settings;
       table = w.table;
       endpoints = w.endpoints.items;
@@ -73,7 +73,7 @@ impl World {
     pub fn new(alloc: Global, settings: &Settings, table: &Table) -> Result<World, AllocError>
         ensures settings { IfOk result (λ v. v.settings ≡ settings.now) }
         ensures table { IfOk result (λ v. v.table ≡ table.now) }
-        ensures stands { IfOk result (λ v. Stands v (at_the_opening settings.now) (λ i. 0)) }
+        ensures stands { IfOk result (λ v. WorldStands v (at_the_opening settings.now) (λ i. 0)) }
         ensures headline { IfOk result RunsHaveTheHeadline }
         ensures laws { IfOk result RunsHaveTheLaws }
     {
@@ -114,7 +114,7 @@ impl World {
         requires called { MayFall self.old.settings event.now }
         ensures settings { self.new.settings ≡ self.old.settings }
         ensures table { self.new.table ≡ self.old.table }
-        ensures steps { Steps (H.meaning handlers.now) self.old
+        ensures steps { StepsInWorld (H.meaning handlers.now) self.old
             (transition now (event_of event.now) result) self.new }
         ensures plain { StepsPlainly (H.meaning handlers.now) self.old
             (transition now (event_of event.now) result) }
@@ -299,7 +299,7 @@ impl World {
         requires called { MayFall self.old.settings event.now }
         ensures settings { self.new.settings ≡ self.old.settings }
         ensures table { self.new.table ≡ self.old.table }
-        ensures steps { Steps (H.meaning handlers.now) self.old
+        ensures steps { StepsInWorld (H.meaning handlers.now) self.old
             (transition now (event_of event.now) result) self.new }
     {
         let Some(aim) = self.aim(now, event) else {

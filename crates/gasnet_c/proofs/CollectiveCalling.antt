@@ -5,22 +5,24 @@ use Rattle.collective_area.specs.declared.shape.CollectiveKind.{CollectiveKind}
 use Rattle.gas_endpoint.specs.EndpointState.{EndpointState}
 use Rattle.gas_collectives.specs.CollectivesState.{CollectivesState}
 use Rattle.gasnet_c.specs.CollectiveCalls.{Handles, Held, StartsAs, StartsFor, StartsOf, WhereHeld, WhereLive, both}
-use Rattle.gasnet_c.specs.CollectiveCalls.{kind_of, pair, pair_of, start_of}
+use Rattle.gasnet_c.specs.CollectiveCalls.{collective_kind_of, pair, pair_of, start_asked_by}
 use Rattle.gasnet_c.specs.Telling.{IsNumber}
 use Rattle.gasnet_c.specs.declared.collective_node.Collective.{Collective}
 use Rattle.gasnet_c.specs.declared.told.Told.{Told}
 
 -- a kind has the number
 pub starts_kind : (now : ℕ) (what : Collective) (one : CollectiveKind) (old new : Held) (told : Told)
-    → Some one ≡ kind_of what.kind → StartsAs now (start_of what one) old told new → StartsFor now what old told new
+    → Some one ≡ collective_kind_of what.kind → StartsAs now (start_asked_by what one) old told new
+    → StartsFor now what old told new
 starts_kind now what one old new told is starts =
-    subst (λ (found : Option CollectiveKind). StartsOf now (option_map (start_of what) found) old told new) is starts
+    subst (λ (found : Option CollectiveKind). StartsOf now (option_map (start_asked_by what) found) old told new) is
+    starts
 
 -- none has it
-pub starts_none : (now : ℕ) (what : Collective) (old : Held) (told : Told) → None ≡ kind_of what.kind
+pub starts_none : (now : ℕ) (what : Collective) (old : Held) (told : Told) → None ≡ collective_kind_of what.kind
     → IsNumber 5 0 told → StartsFor now what old told old
 starts_none now what old told is bad =
-    subst (λ (found : Option CollectiveKind). StartsOf now (option_map (start_of what) found) old told old) is
+    subst (λ (found : Option CollectiveKind). StartsOf now (option_map (start_asked_by what) found) old told old) is
     (bad, refl)
 
 -- ---- what both handles hold

@@ -80,18 +80,18 @@ ticked_code (ticked.Retransmission at) = 21
 ticked_code (ticked.Note at) = 24
 ticked_code (ticked.Chunk at) = 25
 
-abbrev pub code_of : Answer → ℕ
-code_of (answers.Asked x) = asked_code x
-code_of (answers.Begun x) = begun_code x
-code_of (answers.Started x) = begun_code x
-code_of (answers.Synced x) = synced_code x
-code_of (answers.Region x) = region_code x
-code_of (answers.Notified x) = notified_code x
-code_of (answers.Barrier x) = barrier_code x
-code_of (answers.Delivered x) = delivered_code x
-code_of (answers.Ticked x) = ticked_code x
-code_of (answers.Forbidden x) = 22
-code_of _ = 23
+abbrev pub answer_code : Answer → ℕ
+answer_code (answers.Asked x) = asked_code x
+answer_code (answers.Begun x) = begun_code x
+answer_code (answers.Started x) = begun_code x
+answer_code (answers.Synced x) = synced_code x
+answer_code (answers.Region x) = region_code x
+answer_code (answers.Notified x) = notified_code x
+answer_code (answers.Barrier x) = barrier_code x
+answer_code (answers.Delivered x) = delivered_code x
+answer_code (answers.Ticked x) = ticked_code x
+answer_code (answers.Forbidden x) = 22
+answer_code _ = 23
 
 -- the handle of a transfer or of a region, or 0
 abbrev pub value_of : Answer → ℕ
@@ -101,9 +101,9 @@ value_of (answers.Region (region.Handle handle)) = handle.serial
 value_of _ = 0
 
 -- the slot of the datagram that is sent, or of the request that is back
-abbrev pub place_of : Answer → Option SlotRef
-place_of (answers.Delivered (delivered.Returned to slot number)) = Some (request_slot to slot)
-place_of answer = sends answer
+abbrev pub slot_told : Answer → Option SlotRef
+slot_told (answers.Delivered (delivered.Returned to slot number)) = Some (request_slot to slot)
+slot_told answer = sends answer
 
 -- its node and its number; zeros where there is none
 abbrev pub told_at : Option SlotRef → ℕ × ℕ

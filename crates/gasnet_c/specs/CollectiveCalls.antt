@@ -85,19 +85,19 @@ all_kinds =
     ∷ kind.AllMax ∷ []
 
 -- the kind that C names by a number
-abbrev pub kind_of : (code : ℕ) → Option CollectiveKind
-kind_of code = slice_get all_kinds code
+abbrev pub collective_kind_of : (code : ℕ) → Option CollectiveKind
+collective_kind_of code = slice_get all_kinds code
 
 -- the start that C asks, of this kind
-abbrev pub start_of : Collective → CollectiveKind → StartAsked
-start_of what one = record {
+abbrev pub start_asked_by : Collective → CollectiveKind → StartAsked
+start_asked_by what one = record {
   thread = 0;
   shape = record { kind = one; root = what.root; len = what.len };
   from = what.from;
 }
 
 -- a caller at the node at this time, which sends nothing yet
-pub record IsAt (node : EndpointState) (now : ℕ) (at : Sender) : Type 0 where
+pub record IsCallerAt (node : EndpointState) (now : ℕ) (at : Sender) : Type 0 where
   pub node_is : at.endpoint.now ≡ node
   pub now_is : at.now ≡ now
   pub sends_none : at.sends ≡ None
@@ -107,7 +107,7 @@ pub record StartsAs (now : ℕ) (asked : StartAsked) (old : Held) (told : Told) 
   pub answer : StartAnswer
   pub from : Sender
   pub to : Sender
-  pub at : IsAt old.node now from
+  pub at : IsCallerAt old.node now from
   pub starts : Starts ghosts old.collectives from asked answer new.collectives to
   pub node_is : new.node ≡ to.endpoint.now
   pub told_is : IsNumber (start_code answer) 0 told
@@ -118,14 +118,15 @@ StartsOf now None old told new = IsNumber 5 0 told × (new ≡ old)
 StartsOf now (Some asked) old told new = StartsAs now asked old told new
 
 abbrev pub StartsFor : (now : ℕ) → Collective → Held → Told → Held → Type 0
-StartsFor now what old told new = StartsOf now (option_map (start_of what) (kind_of what.kind)) old told new
+StartsFor now what old told new =
+    StartsOf now (option_map (start_asked_by what) (collective_kind_of what.kind)) old told new
 
 -- the node's thread made a step, and C is told the answer and the datagram that its last call sends
 pub record StepsFor (now : ℕ) (buffer : List ℕ) (old : Held) (told : Told) (new : Held) : Type 0 where
   pub answer : StepAnswer
   pub from : Sender
   pub to : Sender
-  pub at : IsAt old.node now from
+  pub at : IsCallerAt old.node now from
   pub steps : Steps ghosts 0 old.collectives from answer new.collectives to
   pub node_is : new.node ≡ to.endpoint.now
   pub told_is : IsToldStep new.node answer to.sends told buffer
@@ -135,7 +136,7 @@ pub record EndsFor (now dest : ℕ) (old : Held) (told : Told) (new : Held) : Ty
   pub answer : EndAnswer
   pub from : Sender
   pub to : Sender
-  pub at : IsAt old.node now from
+  pub at : IsCallerAt old.node now from
   pub ends : Ends ghosts old.collectives from (record { thread = 0; dest = dest }) answer new.collectives to
   pub node_is : new.node ≡ to.endpoint.now
   pub told_is : IsNumber (end_code answer) (end_node answer) told

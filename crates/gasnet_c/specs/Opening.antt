@@ -33,21 +33,21 @@ abbrev pub ServesAll : List (Option Entry) → Type 0
 ServesAll table = (index : ℕ) → 128 ≤ index → index < 256 → entry_at table index ≡ Some (client_entry index)
 
 -- it is the node `me` of such a job, which serves each index, asked and ran nothing, and began nothing
-pub record IsOpened (settings : Parameters) (me : ℕ) (endpoint : EndpointState) : Type 0 where
+pub record IsOpenedNode (settings : Parameters) (me : ℕ) (endpoint : EndpointState) : Type 0 where
   pub settings_are : endpoint.core.settings ≡ settings
   pub me_is : endpoint.core.me ≡ me
   pub serves : ServesAll endpoint.core.table
   pub stands : EndpointStands endpoint (opening_node (nothing_begun settings))
 
 -- the setup is within its limits
-abbrev pub IsWithin : Setup → Type 0
-IsWithin setup = AreInRange (settings_of setup) × (setup.me < setup.nodes)
+abbrev pub IsSetupWithin : Setup → Type 0
+IsSetupWithin setup = AreInRange (settings_of setup) × (setup.me < setup.nodes)
 
 -- a dead handle has a node where the setup is within its limits and there is memory; a live one stays as it is
 abbrev pub Opens : Setup → Option EndpointState → (answer : ℕ) → Option EndpointState → Type 0
-Opens setup None answer None = ((answer ≡ 1) × (IsWithin setup → ⊥)) ⊎ ((answer ≡ 2) × IsWithin setup)
+Opens setup None answer None = ((answer ≡ 1) × (IsSetupWithin setup → ⊥)) ⊎ ((answer ≡ 2) × IsSetupWithin setup)
 Opens setup None answer (Some endpoint) =
-    (answer ≡ 0) × IsWithin setup × IsOpened (settings_of setup) setup.me endpoint
+    (answer ≡ 0) × IsSetupWithin setup × IsOpenedNode (settings_of setup) setup.me endpoint
 Opens setup (Some old) answer new = (answer ≡ 3) × (new ≡ Some old)
 
 -- how many bytes the segment has of a node that is held

@@ -12,7 +12,7 @@ use Rattle.endpoint_rules.specs.declared.call.Event.{Event}
 use Rattle.endpoint_rules.specs.declared.call.Event.TheVariants as event
 use Rattle.gas_endpoint.specs.EndpointState.{EndpointState, EndpointSteps, ForItsRecord}
 use Rattle.gas_collectives.specs.declared.answers.StepAnswer.{StepAnswer}
-use Rattle.gasnet_c.specs.Codes.{code_of, place_of, step_code, told_at, value_of}
+use Rattle.gasnet_c.specs.Codes.{answer_code, slot_told, step_code, told_at, value_of}
 use Rattle.gasnet_c.specs.Replayed.{both_replayed_by, mark_of}
 use Rattle.gasnet_c.specs.declared.replay.Run.{Run}
 use Rattle.gasnet_c.specs.declared.told.Told.{Told}
@@ -20,14 +20,14 @@ use Rattle.gasnet_c.specs.declared.told.Told.{Told}
 -- ---- the datagram
 
 -- the buffer begins with these bytes, where they fit in
-pub record BeginsWith (bytes : List ℕ) (len : ℕ) (buffer : List ℕ) : Type 0 where
+pub record BufferBeginsWith (bytes : List ℕ) (len : ℕ) (buffer : List ℕ) : Type 0 where
   pub whole : length bytes ≤ length buffer → (len ≡ length bytes) × (take len buffer ≡ bytes)
   pub short : length buffer < length bytes → len ≡ 0
 
 -- so it is of a datagram that is there
 abbrev pub IsCopied : Option (List ℕ) → (len : ℕ) → List ℕ → Type 0
 IsCopied None len buffer = len ≡ 0
-IsCopied (Some bytes) len buffer = BeginsWith bytes len buffer
+IsCopied (Some bytes) len buffer = BufferBeginsWith bytes len buffer
 
 -- the buffer begins with the message of the slot that sends
 abbrev pub IsSent : EndpointState → Option SlotRef → (len : ℕ) → List ℕ → Type 0
@@ -38,10 +38,10 @@ IsSent endpoint (Some at) len buffer = ForItsRecord endpoint (λ node.
 -- ---- what is told
 
 -- C is told this answer, and what it sends
-pub record IsTold (endpoint : EndpointState) (answer : Answer) (told : Told) (buffer : List ℕ) : Type 0 where
-  pub code : told.code ≡ code_of answer
+pub record IsToldToC (endpoint : EndpointState) (answer : Answer) (told : Told) (buffer : List ℕ) : Type 0 where
+  pub code : told.code ≡ answer_code answer
   pub value : told.value ≡ value_of answer
-  pub place : (told.to, told.slot) ≡ told_at (place_of answer)
+  pub place : (told.to, told.slot) ≡ told_at (slot_told answer)
   pub sent : IsSent endpoint (sends answer) told.len buffer
 
 -- C is told that the handle is dead
@@ -65,7 +65,7 @@ pub record IsToldStep (endpoint : EndpointState) (answer : StepAnswer) (sends : 
 -- this event happened to the node, its handlers mean this, and C is told the answer
 abbrev pub TellsOf : Meaning → EndpointState → (now : ℕ) → Event → Told → List ℕ → EndpointState → Type 0
 TellsOf meaning old now event told buffer new =
-    (answer : Answer) × EndpointSteps meaning old (transition now event answer) new × IsTold new answer told buffer
+    (answer : Answer) × EndpointSteps meaning old (transition now event answer) new × IsToldToC new answer told buffer
 
 -- so it is of a node that is held; else nothing happened
 abbrev pub Tells : Meaning → Option EndpointState → (now : ℕ) → Event → Told → List ℕ → Option EndpointState → Type 0

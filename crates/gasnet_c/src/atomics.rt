@@ -53,7 +53,8 @@ pub fn batch_for(settings: &Settings, what: &Operation) -> Option<Batch>
 
 /// The request of a batch, with these arguments and this payload.
 pub fn request<'a>(to: u16, args: &'a [i32], payload: &'a [u8]) -> Call<'a>
-    ensures call { meant result ≡ Requests to (medium_asking batch_handler args.now (Lent payload.now)) }
+    ensures call { meant result ≡ Requests to
+        (medium_asking batch_handler args.now (Lent payload.now)) }
     ensures may { IsForOne (event.Call 0 result) }
 {
     Call::Medium {

@@ -4,7 +4,7 @@ ghost use Rattle.std.specs.Prelude.{◌≡◌, IfSome, IfNone};
 ghost use Rattle.collective_area.specs.Area.{IsArea};
 ghost use Rattle.gas_collectives.specs.CollectivesState.{IsFresh};
 ghost use Rattle.gasnet_c.specs.CollectiveCalls.{AreOf, EndsFor, StartsAs, StartsFor, StepsFor};
-ghost use Rattle.gasnet_c.specs.CollectiveCalls.{area_at, kind_of, pair};
+ghost use Rattle.gasnet_c.specs.CollectiveCalls.{area_at, collective_kind_of, pair};
 
 use crate::node::Node;
 use crate::sender::Sender;
@@ -28,7 +28,7 @@ pub struct Collective {
 
 /// The kind with this number.
 fn kind_of(code: u32) -> Option<CollectiveKind>
-    ensures { result ≡ kind_of code }
+    ensures { result ≡ collective_kind_of code }
 {
     match code {
         0 => Some(CollectiveKind::Broadcast),

@@ -99,7 +99,8 @@ pub extern "C" fn gasnet_c_request(
 ) -> Told
     requires { IsWhole handle.old }
     ensures whole { IsWhole handle.new }
-    ensures tells { IsToAnother handle.old.slot.held ask.now.to → (meaning : Meaning) → Tells meaning
+    ensures tells { IsToAnother handle.old.slot.held ask.now.to → (meaning : Meaning)
+        → Tells meaning
         handle.old.slot.held now (event.Call 0 (asked_call ask.now)) result buffer.new
         handle.new.slot.held }
 {

@@ -93,7 +93,8 @@ impl Node {
 
     /// Its thread asks an operation on a word. What it sends is copied into the buffer, where it fits.
     pub fn ask(&mut self, now: u64, what: &Operation, buffer: &mut [u8]) -> Told
-        ensures { AsksBatch (batch_for self.old.core.settings what.now) self.old now result buffer.new
+        ensures { AsksBatch (batch_for self.old.core.settings what.now) self.old now result
+            buffer.new
             self.new }
     {
         let Some(batch) = batch_for(&self.settings, what) else {

@@ -3,7 +3,7 @@
 ghost use Rattle.std.specs.Prelude.{◌≡◌, ◌<◌, None, IfOk, IfSome, MatchOption, replicate};
 ghost use Rattle.datagram_grammar.specs.Parameters.{AreInRange};
 ghost use Rattle.gasnet_c.specs.Whole.{IsWhole};
-ghost use Rattle.gasnet_c.specs.Opening.{IsOpened, IsSegmentIn, Opens, ServesAll, settings_of};
+ghost use Rattle.gasnet_c.specs.Opening.{IsOpenedNode, IsSegmentIn, Opens, ServesAll, settings_of};
 
 use crate::handle::{Handle, put, taken};
 use crate::memory::Memory;
@@ -75,7 +75,7 @@ fn made(
     requires threads { settings.now.threads ≡ 1 }
     requires version { settings.now.version ≡ 1 }
     requires zeros { memory.items ≡ replicate settings.now.segment 0 }
-    ensures { IfOk result (λ node. IsOpened settings.now me node.value) }
+    ensures { IfOk result (λ node. IsOpenedNode settings.now me node.value) }
 {
     let table = table(alloc)?;
     // Its nodes are among the limits, so is its segment.

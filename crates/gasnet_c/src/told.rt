@@ -1,10 +1,10 @@
 //! What an export tells C of an event.
 
 ghost use Rattle.std.specs.Prelude.{◌≡◌, option_copied};
-ghost use Rattle.gasnet_c.specs.Codes.{asked_code, barrier_code, begun_code, code_of, delivered_code};
-ghost use Rattle.gasnet_c.specs.Codes.{notified_code, place_of, region_code, synced_code, ticked_code};
+ghost use Rattle.gasnet_c.specs.Codes.{asked_code, barrier_code, begun_code, answer_code, delivered_code};
+ghost use Rattle.gasnet_c.specs.Codes.{notified_code, slot_told, region_code, synced_code, ticked_code};
 ghost use Rattle.gasnet_c.specs.Codes.{end_code, end_node, start_code, step_code, told_at, value_of};
-ghost use Rattle.gasnet_c.specs.Telling.{IsCopied, IsDead, IsNumber, IsSent, IsTold, IsToldStep};
+ghost use Rattle.gasnet_c.specs.Telling.{IsCopied, IsDead, IsNumber, IsSent, IsToldToC, IsToldStep};
 
 use am_core::{Asked, Delivered, Side, SlotRef};
 use endpoint_rules::{Answer, Begun, Region, Ticked};
@@ -166,7 +166,7 @@ fn barrier_code(barrier: &BarrierAnswer) -> u32
 
 /// The number of an answer.
 fn code_of(answer: &Answer) -> u32
-    ensures { result ≡ code_of answer.now }
+    ensures { result ≡ answer_code answer.now }
 {
     match answer {
         Answer::Asked(asked) => asked_code(asked),
@@ -196,7 +196,7 @@ fn value_of(answer: &Answer) -> u64
 
 /// The slot that an answer is about: that of the datagram that is sent, or of the request that is back.
 fn place_of(answer: &Answer) -> Option<SlotRef>
-    ensures { result ≡ place_of answer.now }
+    ensures { result ≡ slot_told answer.now }
 {
     match answer {
         Answer::Delivered(Delivered::Returned { to, slot, .. }) => Some(SlotRef {
@@ -244,7 +244,7 @@ fn sent(endpoint: &Endpoint, place: Option<SlotRef>, buffer: &mut [u8]) -> u64
 
 /// What C is told of an answer. The datagram that it sends is copied into the buffer, where it fits.
 pub fn tell(endpoint: &Endpoint, answer: &Answer, buffer: &mut [u8]) -> Told
-    ensures { IsTold endpoint.now answer.now result buffer.new }
+    ensures { IsToldToC endpoint.now answer.now result buffer.new }
 {
     let (to, slot) = told_at(place_of(answer));
     let len = sent(endpoint, answer.sends(), buffer);

@@ -18,7 +18,7 @@ use Rattle.hsl_locks.specs.declared.answer.LockAnswer.TheVariants as lock_answer
 use Rattle.hsl_locks.specs.declared.answer.LockFault.{LockFault}
 use Rattle.hsl_locks.specs.Locks.{is_owner, is_thread, is_listed, is_of, is_blocking, holder, holds, without}
 use Rattle.hsl_locks.specs.Locks.{without_lock}
-use Rattle.hsl_locks.specs.Locks.{blocked, lock_answer, answer_by, after_lock, unlock_fault, unlock_answer}
+use Rattle.hsl_locks.specs.Locks.{blocked, lock_answer, answer_by_owner, after_lock, unlock_fault, unlock_answer}
 use Rattle.hsl_locks.specs.Locks.{after_unlock}
 use Rattle.std.proofs.lemmas.Bool.{or_parts}
 
@@ -128,12 +128,12 @@ never_held held lock listed free = elim (cases_Bool (nat_lt lock 64)) [
   ]
   | inr isnt ↦ rw isnt (λ same. absurd cc)
 ] where
-  own : (other : Owner) → (is_thread other && true) ≡ false → answer_by (Some other) Handler ≢ lock_answers.Held
+  own : (other : Owner) → (is_thread other && true) ≡ false → answer_by_owner (Some other) Handler ≢ lock_answers.Held
   own (Thread thread) none = absurd (true≢false none)
   own Handler none = λ same. absurd cc
 
   found : (held : List Held) → list_any (is_blocking listed) held ≡ false → is_listed listed lock ≡ true
-      → answer_by (holder held lock) Handler ≢ lock_answers.Held
+      → answer_by_owner (holder held lock) Handler ≢ lock_answers.Held
   found [] free listed_here = λ same. absurd cc
   found (one ∷ held) free listed_here =
       let told = or_parts (is_blocking listed one) (list_any (is_blocking listed) held) free in

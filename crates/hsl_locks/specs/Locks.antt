@@ -82,9 +82,10 @@ blocked held listed = reduce min (map (λ one. one.lock) (filter (is_blocking li
 -- ---- taking a lock
 
 -- the answer for a lock that there is, and that the owner may take, by who holds it
-abbrev pub answer_by : Option Owner → Owner → LockAnswer
-answer_by None owner = lock_answers.Taken
-answer_by (Some other) owner = if is_owner other owner then lock_answers.Refused fault.Recursive else lock_answers.Held
+abbrev pub answer_by_owner : Option Owner → Owner → LockAnswer
+answer_by_owner None owner = lock_answers.Taken
+answer_by_owner (Some other) owner =
+    if is_owner other owner then lock_answers.Refused fault.Recursive else lock_answers.Held
 
 -- `listed`: the locks that the owner's entry lists, where the owner is a handler
 abbrev pub lock_answer : List Held → Owner → (lock listed : ℕ) → LockAnswer
@@ -93,7 +94,7 @@ lock_answer held owner lock listed =
     then lock_answers.Refused fault.BadIndex
     else if not (may_take owner listed lock)
     then lock_answers.Refused fault.NotListed
-    else answer_by (holder held lock) owner
+    else answer_by_owner (holder held lock) owner
 
 abbrev pub after_lock : List Held → Owner → (lock listed : ℕ) → List Held
 after_lock held owner lock listed = elim (lock_answer held owner lock listed) [

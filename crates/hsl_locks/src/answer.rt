@@ -3,6 +3,9 @@
 ghost use Rattle.std.specs.Prelude.{◌≡◌};
 ghost use Rattle.hsl_locks.specs.Locks.{is_owner, is_thread};
 
+use std::error::Error;
+use std::fmt;
+
 /// Who takes locks and gives them back.
 #[derive(Clone, Copy)]
 pub enum Owner {
@@ -63,6 +66,23 @@ pub enum LockFault {
     /// The owner took another lock after this one, and still holds it: locks are given back in the reverse order.
     OutOfOrder,
 }
+
+impl fmt::Display for LockFault {
+    fn fmt<W: fmt::Write>(&self, f: &mut fmt::Formatter<W>) -> fmt::Result {
+        match *self {
+            LockFault::BadIndex => write!(f, "no such lock: they are numbered from 0 to 63"),
+            LockFault::NotListed => write!(f, "the handler's entry doesn't list the lock"),
+            LockFault::Recursive => write!(f, "the owner holds the lock already"),
+            LockFault::NotHeld => write!(f, "the owner doesn't hold the lock"),
+            LockFault::OutOfOrder => write!(
+                f,
+                "the owner took another lock after this one, and still holds it"
+            ),
+        }
+    }
+}
+
+impl Error for LockFault {}
 
 /// What a call that takes a lock answers.
 #[derive(Clone, Copy, PartialEq, Eq, Debug)]

@@ -14,7 +14,7 @@ use Rattle.gasnet_trace.specs.declared.output.Output.{Output}
 use Rattle.job_text.specs.declared.job.Job.{Job as JobState}
 use Rattle.lists.proofs.Appended.{get-append_kept, get-append_right}
 use Rattle.lists.proofs.Cases.{none_some}
-use Rattle.launch_run.specs.Children.{AreRanked, SpawnerSeen, Spawns, end_of, ends_of}
+use Rattle.launch_run.specs.Children.{AreRanked, SpawnerSeen, Spawns, end_of_child, ends_of}
 use Rattle.launch_run.specs.LaunchEnds.{EndsLaunch, HasEnds, Launch}
 use Rattle.launch_run.specs.Outputs.{AreGiven, GiveOrNot, GivesOrNot, GivesOutput, IsFirstFailing, SomeFailed}
 use Rattle.launch_run.specs.declared.children.Child.{Child}
@@ -31,21 +31,21 @@ all_at P xs place x all there =
 
 -- the end of the child at a place
 pub end_at : (children : List Child) (place : ℕ) (child : Child) → slice_get children place ≡ Some child
-    → slice_get (ends_of children) place ≡ Some (end_of child)
-end_at children place child there = slice_get-map end_of children place ∙ ap (option_map end_of) there
+    → slice_get (ends_of children) place ≡ Some (end_of_child child)
+end_at children place child there = slice_get-map end_of_child children place ∙ ap (option_map end_of_child) there
 
 -- the child whose end stands at a place
 pub child_at : (children : List Child) (place : ℕ) (end : ChildEnd) → slice_get (ends_of children) place ≡ Some end
-    → (child : Child) × (slice_get children place ≡ Some child) × (end_of child ≡ end)
+    → (child : Child) × (slice_get children place ≡ Some child) × (end_of_child child ≡ end)
 child_at children place end there = elim (slice_get_cases children place).1 [
   | inl found ↦ (
     found.0,
     found.2,
-    same_Some (end_of found.0) end (sym (end_at children place found.0 found.2) ∙ there),
+    same_Some (end_of_child found.0) end (sym (end_at children place found.0 found.2) ∙ there),
   )
   | inr past ↦
       absurd
-      (none_some (sym (slice_get-map end_of children place ∙ ap (option_map end_of) past.1) ∙ there))
+      (none_some (sym (slice_get-map end_of_child children place ∙ ap (option_map end_of_child) past.1) ∙ there))
 ]
 
 -- ---- faults
@@ -92,7 +92,7 @@ rose_at ends before after unfinished some =
 -- each child before this place gave the output at its place
 abbrev pub Gave : JobState → List Child → List Output → ℕ → Type 0
 Gave job children outputs count = (place : ℕ) → place < count → (child : Child) → slice_get children place ≡ Some child
-    → IsSomeAnd (slice_get outputs place) (λ (output : Output). GivesOutput job (end_of child) output)
+    → IsSomeAnd (slice_get outputs place) (λ (output : Output). GivesOutput job (end_of_child child) output)
 
 some_output : (o : Option Output) (P : Output → Type 0) → IsSomeAnd o P → (output : Output) × P output
 some_output None P h = absurd h
@@ -109,14 +109,14 @@ kept outputs output place P h = elim (slice_get_cases outputs place).1 [
 ]
 
 pub gave_one_more : (job : JobState) (children : List Child) (outputs new : List Output) (count : ℕ) (child : Child)
-    (output : Output) → slice_get children count ≡ Some child → GivesOutput job (end_of child) output
+    (output : Output) → slice_get children count ≡ Some child → GivesOutput job (end_of_child child) output
     → length outputs ≡ count → new ≡ outputs ++ output ∷ [] → Gave job children outputs count
     → Gave job children new (count + 1)
 gave_one_more job children outputs new count child output there gives all is gave place low other at =
     subst (λ (all : List Output). IsSomeAnd (slice_get all place) P) (sym is) so
   where
     P : Output → Type 0
-    P one = GivesOutput job (end_of other) one
+    P one = GivesOutput job (end_of_child other) one
 
     last : slice_get (outputs ++ output ∷ []) count ≡ Some output
     last =
@@ -128,7 +128,7 @@ gave_one_more job children outputs new count child output there gives all is gav
       | inl same ↦
           let one : child ≡ other =
           same_Some child other (sym there ∙ ap (λ n. slice_get children n) (sym same) ∙ at) in
-          let gives_so : P output = subst (λ (it : Child). GivesOutput job (end_of it) output) one gives in
+          let gives_so : P output = subst (λ (it : Child). GivesOutput job (end_of_child it) output) one gives in
           subst (λ (o : Option Output). IsSomeAnd o P)
           (sym (ap (λ n. slice_get (outputs ++ output ∷ []) n) same ∙ last)) gives_so
       | inr apart ↦ kept outputs output place P (gave place (omega arith) other at)
@@ -139,7 +139,7 @@ pub all_given : (job : JobState) (children : List Child) (outputs : List Output)
     → length outputs ≡ count → length children ≤ count → count ≤ length children → Gave job children outputs count
     → AreGiven job (ends_of children) outputs
 all_given job children outputs count all low high gave = record {
-  count = (let ends = length-map children end_of in omega arith);
+  count = (let ends = length-map children end_of_child in omega arith);
   each = λ rank end at.
       let found = child_at children rank end at in
       let inside = slice_get_within children rank found.0 found.1 in
@@ -150,12 +150,12 @@ all_given job children outputs count all low high gave = record {
 -- the one at this place is the first that gave none
 pub first_fault : (job : JobState) (children : List Child) (outputs : List Output) (place : ℕ) (child : Child)
     (fault : LaunchFault) → AreRanked (ends_of children) → slice_get children place ≡ Some child
-    → Gave job children outputs place → GivesOrNot job (end_of child) (Err fault)
+    → Gave job children outputs place → GivesOrNot job (end_of_child child) (Err fault)
     → GiveOrNot job (ends_of children) (Err fault)
 first_fault job children outputs place child (faults.Child rank code) ranks there gave fails =
-    let is : rank ≡ place = fails.0 ∙ ranks place (end_of child) (end_at children place child there) in
+    let is : rank ≡ place = fails.0 ∙ ranks place (end_of_child child) (end_at children place child there) in
     subst (λ n. IsFirstFailing job (ends_of children) n code) (sym is) (record {
-      end = end_of child;
+      end = end_of_child child;
       at = end_at children place child there;
       fails = fails.1;
       first = λ other less end at.
@@ -164,7 +164,7 @@ first_fault job children outputs place child (faults.Child rank code) ranks ther
           (given.0, subst (λ (it : ChildEnd). GivesOutput job it given.0) found.2 given.1);
     })
 first_fault job children outputs place child faults.SpawnFault ranks there gave failed =
-    record { rank = place; end = end_of child; at = end_at children place child there; failed = failed }
+    record { rank = place; end = end_of_child child; at = end_at children place child there; failed = failed }
 first_fault job children outputs place child faults.NoMemory ranks there gave short = tt
 
 -- ---- the launch
@@ -177,7 +177,8 @@ pub has_ends : (job : JobState) (port : ℕ) (input : List ℕ) (before after : 
     HasEnds launch before after (ends_of children))
 has_ends job port input before after children nodes is spawned =
     subst (λ n. Spawns n port input before after (length (ends_of children)) (ends_of children)) is
-    (subst (λ n. Spawns nodes port input before after n (ends_of children)) (sym (length-map children end_of)) spawned)
+    (subst (λ n. Spawns nodes port input before after n (ends_of children))
+    (sym (length-map children end_of_child)) spawned)
 
 -- all were started, and no finish failed
 pub launched : (launch : Launch) (before after : SpawnerSeen) (ends : List ChildEnd)

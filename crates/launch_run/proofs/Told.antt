@@ -13,7 +13,7 @@ use Rattle.gas_outside.specs.declared.spawner.Finished.TheVariants as finished
 use Rattle.gas_outside.proofs.Outboxes.{rose_earlier, rose_later}
 use Rattle.lists.proofs.Cases.{none_some}
 use Rattle.check_run.proofs.Pushed.{pushed_at}
-use Rattle.launch_run.specs.Children.{IsWithin, SpawnerSeen, Spawns, all_told, starts_below, with_ends}
+use Rattle.launch_run.specs.Children.{IsOutputWithin, SpawnerSeen, Spawns, all_told, starts_below, with_ends}
 use Rattle.launch_run.specs.Children.{with_starts}
 use Rattle.launch_run.proofs.Plain.{plain_more}
 
@@ -99,7 +99,8 @@ spawns_none nodes port input before after started few told later unstarted = rec
 -- one was finished more
 pub spawns_more : (nodes port : ℕ) (input : List ℕ) (before middle after : SpawnerSeen) (started : ℕ)
     (ends : List ChildEnd) (end : ChildEnd) → Spawns nodes port input before middle started ends
-    → end.rank ≡ length ends → length ends < started → IsWithin end → after.told ≡ option_map (told_end end) middle.told
+    → end.rank ≡ length ends → length ends < started → IsOutputWithin end
+    → after.told ≡ option_map (told_end end) middle.told
     → middle.faults ≤ after.faults → (IsFinishFailed end.answer → Rose middle.faults after.faults)
     → Spawns nodes port input before after started (ends ++ end ∷ [])
 spawns_more nodes port input before middle after started ends end spawns rank less within told later cause = record {
@@ -109,7 +110,7 @@ spawns_more nodes port input before middle after started ends end spawns rank le
       told ∙ (ap (option_map (told_end end)) (spawns.plain first at none)
       ∙ ap (λ (told : SpawnTold). Some told) (plain_more started port input ends end first none rank less));
   ranks = pushed_at (λ (place : ℕ) (it : ChildEnd). it.rank ≡ place) ends end spawns.ranks rank;
-  within = All-push IsWithin ends end spawns.within within;
+  within = All-push IsOutputWithin ends end spawns.within within;
   later = (let first = spawns.later in omega arith);
   unstarted = λ less. rose_earlier before.faults middle.faults after.faults later (spawns.unstarted less);
   unfinished =

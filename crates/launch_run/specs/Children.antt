@@ -35,11 +35,11 @@ with_starts count port input told = record told { calls = told.calls ++ starts_b
 -- ---- ends
 
 -- the end of a child that was finished
-abbrev pub end_of : Child → ChildEnd
-end_of child = record { rank = child.rank; output = child.output.items; answer = child.answer }
+abbrev pub end_of_child : Child → ChildEnd
+end_of_child child = record { rank = child.rank; output = child.output.items; answer = child.answer }
 
 abbrev pub ends_of : List Child → List ChildEnd
-ends_of children = map end_of children
+ends_of children = map end_of_child children
 
 -- what is told after the finishes that had these ends, in order
 abbrev pub with_ends : List ChildEnd → SpawnTold → SpawnTold
@@ -56,8 +56,8 @@ abbrev pub AreRanked : List ChildEnd → Type 0
 AreRanked ends = (rank : ℕ) → ForSome (slice_get ends rank) (λ end. end.rank ≡ rank)
 
 -- a child gave at most as many bytes as an output may have
-abbrev pub IsWithin : ChildEnd → Type 0
-IsWithin end = length end.output ≤ 67108864
+abbrev pub IsOutputWithin : ChildEnd → Type 0
+IsOutputWithin end = length end.output ≤ 67108864
 
 -- ---- both
 
@@ -83,7 +83,7 @@ pub record Spawns (nodes port : ℕ) (input : List ℕ) (before after : SpawnerS
   pub plain : ForSome before.told (λ told. NoneFinished started told
       → after.told ≡ Some (all_told started port input ends told))
   pub ranks : AreRanked ends
-  pub within : All IsWithin ends
+  pub within : All IsOutputWithin ends
   pub later : before.faults ≤ after.faults
   pub unstarted : started < nodes → Rose before.faults after.faults
   pub unfinished : All (λ end. IsFinishFailed end.answer → Rose before.faults after.faults) ends

@@ -1,5 +1,7 @@
 //! Why a launch gave no outputs.
 
+use std::fmt;
+
 /// Why a launch gave no outputs.
 #[derive(Clone, Copy, Drop)]
 pub enum LaunchFault {
@@ -15,4 +17,17 @@ pub enum LaunchFault {
     SpawnFault,
     /// Memory ran out.
     NoMemory,
+}
+
+impl fmt::Display for LaunchFault {
+    fn fmt<W: fmt::Write>(&self, f: &mut fmt::Formatter<W>) -> fmt::Result {
+        match *self {
+            LaunchFault::Child { rank, code } => write!(
+                f,
+                "the child of node {rank} failed with status {code}"
+            ),
+            LaunchFault::SpawnFault => write!(f, "the spawner failed"),
+            LaunchFault::NoMemory => write!(f, "no memory"),
+        }
+    }
 }

@@ -3,7 +3,7 @@
 ghost use Rattle.std.specs.Prelude.{◌≡◌, ◌≤◌, All, IfOk, IsTrue, ◌↔◌, length};
 ghost use Rattle.gas_outside.specs.declared.spawner.Finished.TheVariants as finished;
 ghost use Rattle.check_run.specs.CheckInputs.{HaveTraces, IsTraceOf};
-ghost use Rattle.launch_run.specs.Children.{AreRanked, IsWithin, end_of, ends_of};
+ghost use Rattle.launch_run.specs.Children.{AreRanked, IsOutputWithin, end_of_child, ends_of};
 ghost use Rattle.launch_run.specs.Outputs.{GiveOrNot, GivesOrNot, SomeFailed};
 
 use crate::children::Child;
@@ -28,9 +28,9 @@ pub fn has_failed(children: &[Child]) -> bool
 
 /// The output that a child gave which ended with this status.
 fn read_child(alloc: Global, job: &Job, child: &Child, code: u8) -> Result<Output, LaunchFault>
-    requires within { IsWithin (end_of child.now) }
+    requires within { IsOutputWithin (end_of_child child.now) }
     requires ended { child.now.answer ≡ finished.Ended code }
-    ensures given { GivesOrNot job.now (end_of child.now) result }
+    ensures given { GivesOrNot job.now (end_of_child child.now) result }
     ensures trace { IfOk result (λ output. IsTraceOf job.now output.trace) }
 {
     let rank = child.rank;
@@ -54,8 +54,8 @@ fn read_child(alloc: Global, job: &Job, child: &Child, code: u8) -> Result<Outpu
 
 /// The output that a child gave.
 fn output_of(alloc: Global, job: &Job, child: &Child) -> Result<Output, LaunchFault>
-    requires { IsWithin (end_of child.now) }
-    ensures given { GivesOrNot job.now (end_of child.now) result }
+    requires { IsOutputWithin (end_of_child child.now) }
+    ensures given { GivesOrNot job.now (end_of_child child.now) result }
     ensures trace { IfOk result (λ output. IsTraceOf job.now output.trace) }
 {
     match child.answer {
@@ -68,7 +68,7 @@ fn output_of(alloc: Global, job: &Job, child: &Child) -> Result<Output, LaunchFa
 /// The outputs that the children of all nodes gave, up to the first that gave none.
 pub fn outputs_of(alloc: Global, job: &Job, children: &[Child]) -> Result<Vec<Output>, LaunchFault>
     requires ranks { AreRanked (ends_of children.now) }
-    requires within { All IsWithin (ends_of children.now) }
+    requires within { All IsOutputWithin (ends_of children.now) }
     ensures given { GiveOrNot job.now (ends_of children.now) result }
     ensures traces { IfOk result (λ outputs. HaveTraces job.now outputs.items) }
 {

@@ -16,7 +16,7 @@ use Rattle.raw_segment.specs.Bytes.{part, with_part}
 use Rattle.raw_segment.specs.Image.{Write, FitsIn, AllFit, overwritten, written_by}
 use Rattle.raw_segment.proofs.Images.{length-overwritten}
 use Rattle.raw_segment.proofs.TwoLists.{with_none}
-use Rattle.message_laws.specs.Ranges.{SparesRange, SpareRange, WritesStand, RangesStay, word_at}
+use Rattle.message_laws.specs.Ranges.{SparesRange, SpareRange, WritesStand, RangesStay, word_at_offset}
 
 -- ---- a range that is written
 
@@ -115,20 +115,21 @@ eight_bytes number =
 
 -- a number of any size that was written as a word: its 64 lowest bits
 pub word_written : (bytes : List ℕ) (offset number : ℕ) → offset + 8 ≤ length bytes
-    → word_at (with_part bytes offset (to_le_bytes w64 number)) offset ≡ number % 2 ^ 64
+    → word_at_offset (with_part bytes offset (to_le_bytes w64 number)) offset ≡ number % 2 ^ 64
 word_written bytes offset number inside =
     ap (from_le_bytes w64) (part_written bytes (to_le_bytes w64 number) offset inside ∙ eight_bytes number)
     ∙ from_le_bytes-to_le_bytes_8 (number % 2 ^ 64) (omega arith)
 
 -- one of 64 bits
 pub number_written : (bytes : List ℕ) (offset number : ℕ) → offset + 8 ≤ length bytes → number < 2 ^ 64
-    → word_at (with_part bytes offset (to_le_bytes w64 number)) offset ≡ number
+    → word_at_offset (with_part bytes offset (to_le_bytes w64 number)) offset ≡ number
 number_written bytes offset number inside small =
     ap (from_le_bytes w64) (part_written bytes (to_le_bytes w64 number) offset inside)
     ∙ from_le_bytes-to_le_bytes_8 number small
 
 -- a word that writes spare
 pub word_spared : (size : ℕ) (bytes : List ℕ) (writes : List Write) (offset : ℕ) → length bytes ≡ size
-    → AllFit size writes → SpareRange writes offset 8 → word_at (written_by bytes writes) offset ≡ word_at bytes offset
+    → AllFit size writes → SpareRange writes offset 8
+    → word_at_offset (written_by bytes writes) offset ≡ word_at_offset bytes offset
 word_spared size bytes writes offset long fit spare =
     ap (from_le_bytes w64) (parts_spared size bytes writes offset 8 long fit spare)

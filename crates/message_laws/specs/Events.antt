@@ -9,8 +9,8 @@ abbrev pub after_all : EndpointJob → List (Timed OtherCall) → Records
 after_all job events = run job events (at_the_opening job.settings)
 
 -- all of these events
-abbrev pub all_of : EndpointJob → List (Timed OtherCall) → Stretch
-all_of job events = record { from = at_the_opening job.settings; events = events }
+abbrev pub whole_stretch : EndpointJob → List (Timed OtherCall) → Stretch
+whole_stretch job events = record { from = at_the_opening job.settings; events = events }
 
 -- the fact holds at each of these events, from these records on
 abbrev pub AtEach : EndpointJob → (EndpointMoment → Type 0) → List (Timed OtherCall) → Records → Type 0

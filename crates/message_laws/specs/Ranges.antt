@@ -15,8 +15,8 @@ SpareRange [] offset len = Unit {0}
 SpareRange (write ∷ later) offset len = SparesRange write offset len × SpareRange later offset len
 
 -- the number of 64 bits whose bytes stand at an offset, little-endian
-abbrev pub word_at : List ℕ → (offset : ℕ) → ℕ
-word_at bytes offset = from_le_bytes w64 (part bytes offset 8)
+abbrev pub word_at_offset : List ℕ → (offset : ℕ) → ℕ
+word_at_offset bytes offset = from_le_bytes w64 (part bytes offset 8)
 
 -- ---- the laws
 

@@ -10,7 +10,7 @@ use Rattle.named_barrier.specs.declared.known.Combination.{Combination}
 use Rattle.named_barrier.specs.declared.known.Notify.{Notify}
 use Rattle.named_barrier.specs.Masks.{has, has_all}
 use Rattle.named_barrier.specs.Combinations.{Notifies, no_notify, notified_by, all_of, among}
-use Rattle.named_barrier.specs.Record.{Part, no_part, join, part_of, own_part, heard_part, note_of}
+use Rattle.named_barrier.specs.Record.{PhasePart, no_part, join, part_of, own_part, heard_part, note_of}
 use Rattle.named_barrier.specs.World.{Covers}
 use Rattle.named_barrier.proofs.Combining.{combine_none, none_combine, one_written, has_or, all_of-same, all_of-or}
 use Rattle.named_barrier.proofs.Words.{words_number}
@@ -52,7 +52,7 @@ covers_none nodes notifies = record {
   all = sym (all_of-none (among 0 notifies) nodes (λ node below. rw (has_zero node) refl));
 }
 
-pub covers_both : (nodes : ℕ) (notifies : Notifies) (first second : Part) → Covers nodes notifies first
+pub covers_both : (nodes : ℕ) (notifies : Notifies) (first second : PhasePart) → Covers nodes notifies first
     → Covers nodes notifies second → Covers nodes notifies (join first second)
 covers_both nodes notifies first second one two = record {
   there = λ node same. elim (or_cases (has first.mask node) (has second.mask node)
@@ -80,7 +80,7 @@ covers_own nodes notifies me (Some notify) below same = record {
 }
 
 -- notifies combine, and none is changed
-pub covers_grows : (nodes : ℕ) (notifies newer : Notifies) (part : Part)
+pub covers_grows : (nodes : ℕ) (notifies newer : Notifies) (part : PhasePart)
     → ((node : ℕ) (notify : Notify) → notifies node ≡ Some notify → newer node ≡ Some notify)
     → Covers nodes notifies part → Covers nodes newer part
 covers_grows nodes notifies newer part grows whole = record {
@@ -111,19 +111,20 @@ covers_heard nodes phase notifies (note ∷ notes) all =
         (subst (λ number. Covers nodes (notifies number) (part_of note)) equal (all 0 note refl)) later)
     one_more later (inr equal) = let test : eqb note.phase phase ≡ false = grind (arith, nat_tests) in rw test later
 
-abbrev made : ℕ → Combination → Part
+abbrev made : ℕ → Combination → PhasePart
 made mask combined = record { mask = mask; combined = combined }
 
-pub same_part : {first second : Part} → first.mask ≡ second.mask → first.combined ≡ second.combined → first ≡ second
+pub same_part : {first second : PhasePart} → first.mask ≡ second.mask → first.combined ≡ second.combined
+    → first ≡ second
 same_part {first = first} {second = second} masks combinations =
     ap (λ mask. made mask first.combined) masks ∙ ap (made second.mask) combinations
 
 -- what is written as a note is read as it was
-pub note_tells : (phase : ℕ) (part : Part) → part_of (note_of phase part) ≡ part
+pub note_tells : (phase : ℕ) (part : PhasePart) → part_of (note_of phase part) ≡ part
 note_tells phase part = same_part (words_number part.mask) (one_written part.combined)
 
 -- a part that is written as a note is covered as it was
-pub covers_note : (nodes phase : ℕ) (notifies : Notifies) (part : Part) → Covers nodes notifies part
+pub covers_note : (nodes phase : ℕ) (notifies : Notifies) (part : PhasePart) → Covers nodes notifies part
     → Covers nodes notifies (part_of (note_of phase part))
 covers_note nodes phase notifies part whole = subst (Covers nodes notifies) (sym (note_tells phase part)) whole
 
@@ -137,7 +138,7 @@ has_all-each mask (suc last) node same below = let both = and_parts _ _ same in
           (omega arith)
     ]
 
-pub covers_all : (nodes : ℕ) (notifies : Notifies) (part : Part) → Covers nodes notifies part
+pub covers_all : (nodes : ℕ) (notifies : Notifies) (part : PhasePart) → Covers nodes notifies part
     → has_all part.mask nodes ≡ true → part.combined ≡ all_of notifies nodes
 covers_all nodes notifies part whole same =
     whole.all ∙ all_of-same (among part.mask notifies) notifies nodes

@@ -10,7 +10,7 @@ use Rattle.named_barrier.specs.declared.known.Combination.{Combination}
 use Rattle.named_barrier.specs.declared.known.Notify.{Notify}
 use Rattle.named_barrier.specs.Masks.{has}
 use Rattle.named_barrier.specs.Combinations.{Notifies, one_notify, differ, least, combine, notified_by, all_of}
-use Rattle.named_barrier.specs.Together.{HasMismatch, IsNamed, HasClash, AllTogether}
+use Rattle.named_barrier.specs.Together.{HasMismatch, IsNamedBy, HasClash, AllTogether}
 use Rattle.named_barrier.proofs.Combining.{int_eq_tells, int_min_same}
 use Rattle.std.proofs.lemmas.Bool.{or_parts}
 
@@ -168,7 +168,7 @@ single_says (Some notify) = record {
         rw flag (ap Some (ap (λ (other : Notify). other.id) equal ∙ name.3))
 
 all_says : (notifies : Notifies) (unlike : ℕ)
-    → Says (HasMismatch notifies unlike) (IsNamed notifies unlike) (all_of notifies unlike)
+    → Says (HasMismatch notifies unlike) (IsNamedBy notifies unlike) (all_of notifies unlike)
 all_says notifies zero = record {
   bad = λ is. absurd (true≢false (sym is));
   good = λ is. (λ found. absurd (omega (arith, found.1.1)), λ id found. absurd (omega (arith, found.1.1)));
@@ -191,11 +191,11 @@ all_says notifies (suc node) = says_like _ _ _ _ (all_of notifies (suc node)) fl
           (found.0, (found.1.0, omega (arith, found.1.1, unlike), found.1.2), found.2)
     ]
 
-    name_to : (id : ℤ) → IsNamed notifies node id ⊎ NamedBy (notifies node) id → IsNamed notifies (suc node) id
+    name_to : (id : ℤ) → IsNamedBy notifies node id ⊎ NamedBy (notifies node) id → IsNamedBy notifies (suc node) id
     name_to id (inl found) = (found.0, (found.1.0, omega (arith, found.1.1), found.1.2), found.2, found.3)
     name_to id (inr found) = (found.0, (node, omega arith, found.1), found.2, found.3)
 
-    name_from : (id : ℤ) → IsNamed notifies (suc node) id → IsNamed notifies node id ⊎ NamedBy (notifies node) id
+    name_from : (id : ℤ) → IsNamedBy notifies (suc node) id → IsNamedBy notifies node id ⊎ NamedBy (notifies node) id
     name_from id found = elim (cases_eq found.1.0 node) [
       | inl is ↦ inr
           (found.0, ap notifies (sym is) ∙ found.1.2, found.2, found.3)
@@ -214,16 +214,16 @@ all_together notifies nodes = record {
   some = says.some;
 }
   where
-    says : Says (HasMismatch notifies nodes) (IsNamed notifies nodes) (all_of notifies nodes)
+    says : Says (HasMismatch notifies nodes) (IsNamedBy notifies nodes) (all_of notifies nodes)
     says = all_says notifies nodes
 
     clashes : HasMismatch notifies nodes ⊎ HasClash notifies nodes
         → (HasMismatch notifies nodes → ⊥)
-        × ((id : ℤ) → IsNamed notifies nodes id → (all_of notifies nodes).id ≡ Some id) → ⊥
+        × ((id : ℤ) → IsNamedBy notifies nodes id → (all_of notifies nodes).id ≡ Some id) → ⊥
     clashes (inl found) none_of = none_of.0 found
     clashes (inr found) none_of = found.4 (same_Some _ _ (sym (none_of.1 found.0 found.2) ∙ none_of.1 found.1 found.3))
 
-    empty : ((id : ℤ) → IsNamed notifies nodes id → ⊥) → (named : Option ℤ) → (all_of notifies nodes).id ≡ named
+    empty : ((id : ℤ) → IsNamedBy notifies nodes id → ⊥) → (named : Option ℤ) → (all_of notifies nodes).id ≡ named
         → named ≡ None
     empty found None is = refl
     empty found (Some id) is = absurd (found id (says.some id is).0)

@@ -11,7 +11,8 @@ use Rattle.named_barrier.specs.declared.answer.BarrierAnswer.{BarrierAnswer}
 use Rattle.named_barrier.specs.declared.answer.BarrierAnswer.TheVariants as tried
 use Rattle.named_barrier.specs.Record.{BarrierRecord, SentNote, own, notify_answer, notify_after, try_answer}
 use Rattle.named_barrier.specs.Record.{try_after, hear, note_to, send}
-use Rattle.named_barrier.specs.World.{Barriers, BarrierEvent, Notifying, Trying, Sending, Hearing, put, hear_sent}
+use Rattle.named_barrier.specs.World.{Barriers, BarrierEvent, Notifying, Trying, Sending, Hearing, put_record}
+use Rattle.named_barrier.specs.World.{hear_sent}
 use Rattle.named_barrier.specs.World.{happens, barriers_after, all_opened}
 use Rattle.named_barrier.specs.World.{IsAmong, InEveryRun, AreCovered, AllNotified, EndedByAll}
 use Rattle.named_barrier.proofs.Runs.{put_same, put_other, keeps_notify, keeps_try, keeps_send, keeps_hear_sent}
@@ -21,14 +22,14 @@ use Rattle.named_barrier.proofs.Runs.{note_to_routed, routed_covered, happens_ke
 put_ended : (nodes : ℕ) (barriers : Barriers) (node : ℕ) (newer : BarrierRecord) → EndedByAll nodes barriers
     → ((phase : ℕ) (notify : Notify) → own (barriers node) phase ≡ Some notify → own newer phase ≡ Some notify)
     → ((phase : ℕ) → phase < newer.ended → (phase < (barriers node).ended) ⊎ AllNotified nodes barriers phase)
-    → node < nodes → EndedByAll nodes (put barriers node newer)
+    → node < nodes → EndedByAll nodes (put_record barriers node newer)
 put_ended nodes barriers node newer ended grows ends there one phase one_there low other other_there =
     grown (all (cases_eq one node))
   where
     all : (one ≡ node) ⊎ (one ≢ node) → (notify : Notify) × (own (barriers other) phase ≡ Some notify)
     all (inl same) =
-        let at : put barriers node newer one ≡ newer =
-        ap (put barriers node newer) same ∙ put_same barriers node newer in
+        let at : put_record barriers node newer one ≡ newer =
+        ap (put_record barriers node newer) same ∙ put_same barriers node newer in
         elim (ends phase (subst (λ (any : BarrierRecord). phase < any.ended) at low)) [
           | inl whole ↦ ended node phase there whole other other_there
           | inr whole ↦ whole other other_there
@@ -38,12 +39,12 @@ put_ended nodes barriers node newer ended grows ends there one phase one_there l
         (put_other barriers node one newer unlike) low) other other_there
 
     grown : (notify : Notify) × (own (barriers other) phase ≡ Some notify)
-        → (notify : Notify) × (own (put barriers node newer other) phase ≡ Some notify)
+        → (notify : Notify) × (own (put_record barriers node newer other) phase ≡ Some notify)
     grown notify = elim (cases_eq other node) [
       | inl same ↦ (
         notify.0,
         ap (λ (any : BarrierRecord). own any phase)
-            (ap (put barriers node newer) same ∙ put_same barriers node newer)
+            (ap (put_record barriers node newer) same ∙ put_same barriers node newer)
             ∙ grows phase notify.0 (ap (λ (number : ℕ). own (barriers number) phase) (sym same) ∙ notify.1),
       )
       | inr unlike ↦ (

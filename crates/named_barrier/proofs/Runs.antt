@@ -14,12 +14,13 @@ use Rattle.named_barrier.specs.declared.answer.BarrierAnswer.{BarrierAnswer}
 use Rattle.named_barrier.specs.declared.answer.BarrierAnswer.TheVariants as tried
 use Rattle.named_barrier.specs.Masks.{has_all}
 use Rattle.named_barrier.specs.Combinations.{all_of}
-use Rattle.named_barrier.specs.Record.{BarrierRecord, SentNote, Part, own, own_part, part_of, heard_part, known}
+use Rattle.named_barrier.specs.Record.{BarrierRecord, SentNote, PhasePart, own, own_part, part_of, heard_part, known}
 use Rattle.named_barrier.specs.Record.{Stage, Try, stage, note_of, routed}
 use Rattle.named_barrier.specs.Record.{notify_answer, notify_after, try_answer, try_after, own_try, unready}
-use Rattle.named_barrier.specs.Record.{is_other, hear, due, due_before, or_else, note_to, was_sent, send}
+use Rattle.named_barrier.specs.Record.{is_other_try, hear, due, due_before, or_else, note_to, was_sent, send}
 use Rattle.named_barrier.specs.Route.{goes_to}
-use Rattle.named_barrier.specs.World.{Barriers, BarrierEvent, Notifying, Trying, Sending, Hearing, put, hear_sent}
+use Rattle.named_barrier.specs.World.{Barriers, BarrierEvent, Notifying, Trying, Sending, Hearing, put_record}
+use Rattle.named_barrier.specs.World.{hear_sent}
 use Rattle.named_barrier.specs.World.{happens, barriers_after, all_opened}
 use Rattle.named_barrier.specs.World.{IsAmong, Covers, IsCovered, AreCovered, Keeps, TryTells, InEveryRun}
 use Rattle.named_barrier.specs.World.{is_mismatch, notified}
@@ -46,15 +47,15 @@ keeps_same nodes barriers kept = record {
       λ place s e. inl e;
 }
 
-pub put_same : (barriers : Barriers) (node : ℕ) (kept : BarrierRecord) → put barriers node kept node ≡ kept
+pub put_same : (barriers : Barriers) (node : ℕ) (kept : BarrierRecord) → put_record barriers node kept node ≡ kept
 put_same barriers node kept = grind (arith, nat_tests)
 
 pub put_other : (barriers : Barriers) (node other : ℕ) (kept : BarrierRecord) → other ≢ node
-    → put barriers node kept other ≡ barriers other
+    → put_record barriers node kept other ≡ barriers other
 put_other barriers node other kept nodes = grind (arith, nat_tests)
 
 pub keeps_inv : (nodes : ℕ) (barriers : Barriers) (node : ℕ) (newer : BarrierRecord) → AreCovered nodes barriers
-    → Keeps nodes barriers (barriers node) newer → AreCovered nodes (put barriers node newer)
+    → Keeps nodes barriers (barriers node) newer → AreCovered nodes (put_record barriers node newer)
 keeps_inv nodes barriers node newer covered keeps = record {
   heard = λ other place note e. elim (cases_eq other node) [
     | inl same ↦ elim (keeps.heard place note
@@ -78,25 +79,27 @@ keeps_inv nodes barriers node newer covered keeps = record {
   ];
 }
   where
-    at_i : (other : ℕ) (Holds : BarrierRecord → Type 0) → other ≡ node → Holds (put barriers node newer other)
+    at_i : (other : ℕ) (Holds : BarrierRecord → Type 0) → other ≡ node → Holds (put_record barriers node newer other)
         → Holds newer
-    at_i other Holds same note = subst Holds (ap (put barriers node newer) same ∙ put_same barriers node newer) note
+    at_i other Holds same note =
+        subst Holds (ap (put_record barriers node newer) same ∙ put_same barriers node newer) note
 
-    off_i : (other : ℕ) (Holds : BarrierRecord → Type 0) → other ≢ node → Holds (put barriers node newer other)
+    off_i : (other : ℕ) (Holds : BarrierRecord → Type 0) → other ≢ node → Holds (put_record barriers node newer other)
         → Holds (barriers other)
     off_i other Holds unlike note = subst Holds (put_other barriers node other newer unlike) note
 
     grows : (phase other : ℕ) (notify : Notify) → own (barriers other) phase ≡ Some notify
-        → own (put barriers node newer other) phase ≡ Some notify
+        → own (put_record barriers node newer other) phase ≡ Some notify
     grows phase other notify e = elim (cases_eq other node) [
       | inl same ↦ subst (λ any. own any phase ≡ Some notify)
-          (sym (ap (put barriers node newer) same ∙ put_same barriers node newer))
+          (sym (ap (put_record barriers node newer) same ∙ put_same barriers node newer))
           (keeps.own phase notify (subst (λ which. own (barriers which) phase ≡ Some notify) same e))
       | inr unlike ↦ subst (λ any. own any phase ≡ Some notify) (sym (put_other barriers node other newer unlike)) e
     ]
 
-    grown : (note : BarrierNote) → IsCovered nodes barriers note → IsCovered nodes (put barriers node newer) note
-    grown note told = covers_grows nodes (notified barriers note.phase) (notified (put barriers node newer) note.phase)
+    grown : (note : BarrierNote) → IsCovered nodes barriers note → IsCovered nodes (put_record barriers node newer) note
+    grown note told =
+        covers_grows nodes (notified barriers note.phase) (notified (put_record barriers node newer) note.phase)
         (part_of note) (grows note.phase) told
 
 -- ---- each event
@@ -258,11 +261,11 @@ not_unready (Some node) (inl e) = cc
 not_unready (Some node) (inr e) = cc
 
 -- what an answer Ok or Mismatch says of a node that has notified
-abbrev pub Passes : ℕ → Part → Try → Option Notify → BarrierAnswer → Type 0
+abbrev pub Passes : ℕ → PhasePart → Try → Option Notify → BarrierAnswer → Type 0
 Passes nodes part try own answer = (notify : Notify) × (own ≡ Some notify) × (has_all part.mask nodes ≡ true)
-    × ((answer ≡ tried.Mismatch) ↔ ((part.combined.mismatch ≡ true) ⊎ (is_other notify try.id try.flags ≡ true)))
+    × ((answer ≡ tried.Mismatch) ↔ ((part.combined.mismatch ≡ true) ⊎ (is_other_try notify try.id try.flags ≡ true)))
 
-own_passes : (nodes : ℕ) (part : Part) (try : Try) (maybe : Option Notify)
+own_passes : (nodes : ℕ) (part : PhasePart) (try : Try) (maybe : Option Notify)
     → (own_try nodes part try maybe ≡ tried.Ok) ⊎ (own_try nodes part try maybe ≡ tried.Mismatch)
     → Passes nodes part try maybe (own_try nodes part try maybe)
 own_passes nodes part try None note = absurd (elim note [ inl e ↦ cc | inr e ↦ cc ])
@@ -273,7 +276,7 @@ own_passes nodes part try (Some notify) note = elim (cases_Bool (has_all part.ma
     sent_note,
     rw sent_note (elim (cases_Bool part.combined.mismatch) [
       | inl mismatch ↦ rw mismatch (λ e. inl refl, λ e. refl)
-      | inr mismatch ↦ rw mismatch (elim (cases_Bool (is_other notify try.id try.flags)) [
+      | inr mismatch ↦ rw mismatch (elim (cases_Bool (is_other_try notify try.id try.flags)) [
         | inl d ↦ rw d (λ e. inr refl, λ e. refl)
         | inr d ↦ rw d (
           λ e. absurd cc,
@@ -317,7 +320,7 @@ inv_tells nodes barriers covered node try there note =
         ],
         λ e. elim e [
           | inl mismatch ↦ passed.3.1 (inl (same ∙ mismatch))
-          | inr unlike ↦ passed.3.1 (inr (subst (λ given. is_other given try.id try.flags ≡ true)
+          | inr unlike ↦ passed.3.1 (inr (subst (λ given. is_other_try given try.id try.flags ≡ true)
               (same_Some _ _ (sym unlike.1 ∙ passed.1)) unlike.2))
         ],
       ),

@@ -10,7 +10,7 @@ use Rattle.std.proofs.lemmas.Nat.Bits.{same_from_bits, bit_at_or}
 use Rattle.std.specs.Int.Bits.{or_zero_l, or_zero_r}
 use Rattle.datagram_grammar.specs.declared.note.BarrierNote.{BarrierNote}
 use Rattle.named_barrier.specs.Masks.{has}
-use Rattle.named_barrier.specs.Record.{SentNote, Part, no_part, join, part_of, heard_part}
+use Rattle.named_barrier.specs.Record.{SentNote, PhasePart, no_part, join, part_of, heard_part}
 use Rattle.named_barrier.specs.Stands.{sent_mask}
 use Rattle.named_barrier.proofs.Combining.{combine_assoc, combine_none, none_combine, has_or}
 use Rattle.named_barrier.proofs.Covering.{same_part, has_zero, has_own, has_other}
@@ -27,14 +27,14 @@ or_assoc first second third = same_from_bits _ _
       bit_at_or second third place,
     ))
 
-pub join_assoc : (first second third : Part) → join (join first second) third ≡ join first (join second third)
+pub join_assoc : (first second third : PhasePart) → join (join first second) third ≡ join first (join second third)
 join_assoc first second third = same_part (or_assoc first.mask second.mask third.mask)
     (combine_assoc first.combined second.combined third.combined)
 
-pub none_join : (part : Part) → join no_part part ≡ part
+pub none_join : (part : PhasePart) → join no_part part ≡ part
 none_join part = same_part (or_zero_l part.mask) (none_combine part.combined)
 
-pub join_none : (part : Part) → join part no_part ≡ part
+pub join_none : (part : PhasePart) → join part no_part ≡ part
 join_none part = same_part (or_zero_r part.mask) (combine_none part.combined)
 
 pub heard_part_push : (phase : ℕ) (notes : List BarrierNote) (note : BarrierNote)

@@ -10,7 +10,7 @@ use Rattle.named_barrier.specs.declared.known.Notify.{Notify}
 use Rattle.named_barrier.specs.declared.answer.Notified.TheVariants as told
 use Rattle.named_barrier.specs.declared.answer.BarrierAnswer.TheVariants as tried
 use Rattle.named_barrier.specs.Masks.{has, has_all}
-use Rattle.named_barrier.specs.Record.{BarrierRecord, SentNote, Part, is_other, own, no_part, join, part_of}
+use Rattle.named_barrier.specs.Record.{BarrierRecord, SentNote, PhasePart, is_other_try, own, no_part, join, part_of}
 use Rattle.named_barrier.specs.Record.{own_part, heard_part, known, hear}
 use Rattle.named_barrier.specs.Record.{was_sent, due, due_before, or_else, note_to, send, notify_answer}
 use Rattle.named_barrier.specs.Record.{Stage, Try, stage, notify_after, own_try, try_answer, try_after, routed}
@@ -18,7 +18,7 @@ use Rattle.named_barrier.specs.BarrierState.{BarrierState, last_due, now_due, no
 use Rattle.datagram_grammar.specs.Notes.{mask_number}
 use Rattle.named_barrier.specs.declared.barrier.Barrier.TheInside.{Inside}
 use Rattle.named_barrier.specs.Views.{fields_view, IsBarrier}
-use Rattle.named_barrier.specs.Stands.{sent_mask, before, given, Stands}
+use Rattle.named_barrier.specs.Stands.{sent_mask, before, given, BarrierStands}
 use Rattle.named_barrier.proofs.Runs.{slice_get_push, routed_note}
 use Rattle.named_barrier.proofs.Standing.{join_assoc, none_join, heard_part_push, heard_part_none, sent_mask_push}
 use Rattle.named_barrier.proofs.Standing.{sent_mask_none, sent_mask_has}
@@ -64,7 +64,7 @@ before_same none first second (suc phase) alike = alike phase (omega arith)
 
 -- ---- states
 
-abbrev made : (nodes me phase : ℕ) → (own : Option Notify) → (present next last : Part) → (sent_now sent_last : ℕ)
+abbrev made : (nodes me phase : ℕ) → (own : Option Notify) → (present next last : PhasePart) → (sent_now sent_last : ℕ)
     → BarrierState
 made nodes me phase own present next last sent_now sent_last =
     record {
@@ -80,7 +80,7 @@ made nodes me phase own present next last sent_now sent_last =
     }
 
 made_same : {nodes nodes' me me' phase phase' sent_now sent_now' sent_last sent_last' : ℕ} {own own' : Option Notify}
-    {present present' next next' last last' : Part}
+    {present present' next next' last last' : PhasePart}
     → nodes ≡ nodes' → me ≡ me' → phase ≡ phase' → own ≡ own' → present ≡ present' → next ≡ next' → last ≡ last'
     → sent_now ≡ sent_now' → sent_last ≡ sent_last'
     → made nodes me phase own present next last sent_now sent_last
@@ -127,8 +127,8 @@ given_notify nodes me kept notify count =
     same_state refl refl refl here present next last refl refl
 
 pub stands_notify : (nodes me : ℕ) (state : BarrierState) (kept : BarrierRecord) (id : ℤ) (flags : ℕ)
-    → Stands nodes me state kept → flags ≤ 3 → state.own ≡ None → state.phase ≢ 2 ^ 64 - 1
-    → Stands nodes me (notified state (record { id = id; flags = flags }))
+    → BarrierStands nodes me state kept → flags ≤ 3 → state.own ≡ None → state.phase ≢ 2 ^ 64 - 1
+    → BarrierStands nodes me (notified state (record { id = id; flags = flags }))
     (notify_after kept id flags (notify_answer kept id flags))
 stands_notify nodes me state kept id flags stood few none left = rw answer (record {
   is = moved;
@@ -176,8 +176,8 @@ abbrev ended : BarrierRecord → BarrierRecord
 ended kept = record kept { ended = suc kept.ended }
 
 pub stands_over : (nodes me : ℕ) (state : BarrierState) (kept : BarrierRecord) (notify : Notify)
-    → Stands nodes me state kept
-    → state.own ≡ Some notify → Stands nodes me (over state) (ended kept)
+    → BarrierStands nodes me state kept
+    → state.own ≡ Some notify → BarrierStands nodes me (over state) (ended kept)
 stands_over nodes me state kept notify stood some = record {
   is = subst (λ other. over other ≡ given nodes me (ended kept)) (sym stood.is) (sym is_over);
   low = slice_get_in kept.notifies kept.ended notify here;
@@ -206,9 +206,9 @@ stands_over nodes me state kept notify stood some = record {
 
 -- a try on a complete phase ends it
 pub stands_try : (nodes me : ℕ) (state : BarrierState) (kept : BarrierRecord) (notify : Notify) (try : Try)
-    → Stands nodes me state kept → try.flags ≤ 3 → state.own ≡ Some notify
+    → BarrierStands nodes me state kept → try.flags ≤ 3 → state.own ≡ Some notify
     → has_all state.present.mask state.nodes ≡ true
-    → Stands nodes me (over state) (try_after kept (try_answer nodes me kept try))
+    → BarrierStands nodes me (over state) (try_after kept (try_answer nodes me kept try))
 stands_try nodes me state kept notify try stood few some all =
     rw ends (stands_over nodes me state kept notify stood some)
   where
@@ -225,9 +225,9 @@ stands_try nodes me state kept notify try stood few some all =
     after true = refl
     after false = refl
 
-    goes : (part : Part) (mine : Option Notify) → mine ≡ Some notify → has_all part.mask nodes ≡ true
+    goes : (part : PhasePart) (mine : Option Notify) → mine ≡ Some notify → has_all part.mask nodes ≡ true
         → try_after kept (own_try nodes part try mine) ≡ ended kept
-    goes part mine has whole = rw (has, whole) (after (part.combined.mismatch || is_other notify try.id try.flags))
+    goes part mine has whole = rw (has, whole) (after (part.combined.mismatch || is_other_try notify try.id try.flags))
 
     ends : try_after kept (try_answer nodes me kept try) ≡ ended kept
     ends = rw few' (goes (known me kept kept.ended) (own kept kept.ended) here complete)
@@ -261,8 +261,8 @@ heard_is kept note (inr same) = let test : eqb note.phase kept.ended ≡ false =
     let next : eqb note.phase (suc kept.ended) ≡ true = grind (arith, nat_tests) in rw (test, next) refl
 
 stands_heard : (nodes me : ℕ) (state newer : BarrierState) (kept : BarrierRecord) (note : BarrierNote)
-    → Stands nodes me state kept → note.phase ≤ suc kept.ended → newer ≡ given nodes me (with_heard kept note)
-    → Stands nodes me newer (with_heard kept note)
+    → BarrierStands nodes me state kept → note.phase ≤ suc kept.ended → newer ≡ given nodes me (with_heard kept note)
+    → BarrierStands nodes me newer (with_heard kept note)
 stands_heard nodes me state newer kept note stood low same = record {
   is = same;
   low = stood.low;
@@ -277,8 +277,8 @@ stands_heard nodes me state newer kept note stood low same = record {
 }
 
 pub stands_present : (nodes me : ℕ) (state : BarrierState) (kept : BarrierRecord) (note : BarrierNote)
-    → Stands nodes me state kept → note.phase ≡ state.phase
-    → Stands nodes me (record state { present = join state.present (part_of note) }) (hear kept note)
+    → BarrierStands nodes me state kept → note.phase ≡ state.phase
+    → BarrierStands nodes me (record state { present = join state.present (part_of note) }) (hear kept note)
 stands_present nodes me state kept note stood same =
     rw (heard_is kept note (inl here)) (stands_heard nodes me state
     (record state { present = join state.present (part_of note) }) kept note stood (omega (arith, here))
@@ -296,8 +296,8 @@ stands_present nodes me state kept note stood same =
         (λ phase low. known_push_other me kept note phase (omega (arith, here)))) refl refl
 
 pub stands_next : (nodes me : ℕ) (state : BarrierState) (kept : BarrierRecord) (note : BarrierNote)
-    → Stands nodes me state kept → note.phase ≡ suc state.phase
-    → Stands nodes me (record state { next = join state.next (part_of note) }) (hear kept note)
+    → BarrierStands nodes me state kept → note.phase ≡ suc state.phase
+    → BarrierStands nodes me (record state { next = join state.next (part_of note) }) (hear kept note)
 stands_next nodes me state kept note stood same =
     rw (heard_is kept note (inr here)) (stands_heard nodes me state
     (record state { next = join state.next (part_of note) }) kept note stood (omega (arith, here))
@@ -328,18 +328,20 @@ last_is nodes me kept to (suc phase) low =
     let test : eqb (suc phase) 0 ≡ false = grind (arith, nat_tests) in
     rw (one_less, test, sent_mask_has phase to kept.sent, own_there kept phase (omega (arith, low))) refl
 
-pub now_due_is : (nodes me : ℕ) (state : BarrierState) (kept : BarrierRecord) (to : ℕ) → Stands nodes me state kept
+pub now_due_is : (nodes me : ℕ) (state : BarrierState) (kept : BarrierRecord) (to : ℕ)
+    → BarrierStands nodes me state kept
     → now_due state to ≡ due nodes me kept kept.ended to
 now_due_is nodes me state kept to stood = subst (λ any. now_due any to ≡ due nodes me kept kept.ended to) (sym stood.is)
     (rw (sent_mask_has kept.ended to kept.sent) refl)
 
-pub last_due_is : (nodes me : ℕ) (state : BarrierState) (kept : BarrierRecord) (to : ℕ) → Stands nodes me state kept
+pub last_due_is : (nodes me : ℕ) (state : BarrierState) (kept : BarrierRecord) (to : ℕ)
+    → BarrierStands nodes me state kept
     → last_due state to ≡ due_before nodes me kept kept.ended to
 last_due_is nodes me state kept to stood =
     subst (λ any. last_due any to ≡ due_before nodes me kept kept.ended to) (sym stood.is)
     (last_is nodes me kept to kept.ended stood.low)
 
-pub note_is : (nodes me : ℕ) (state : BarrierState) (kept : BarrierRecord) (to : ℕ) → Stands nodes me state kept
+pub note_is : (nodes me : ℕ) (state : BarrierState) (kept : BarrierRecord) (to : ℕ) → BarrierStands nodes me state kept
     → note_at state to ≡ note_to nodes me kept to
 note_is nodes me state kept to stood = rw (
   last_due_is nodes me state kept to stood,
@@ -378,8 +380,8 @@ sent_other kept to phase note same = let test : eqb note.phase phase ≡ false =
     sent_mask_push phase kept.sent (record { to = to; note = note }) ∙ rw test refl
 
 stands_sent : (nodes me : ℕ) (state newer : BarrierState) (kept : BarrierRecord) (to : ℕ) (note : BarrierNote)
-    → Stands nodes me state kept → note.phase ≤ kept.ended → newer ≡ given nodes me (with_sent kept to note)
-    → Stands nodes me newer (with_sent kept to note)
+    → BarrierStands nodes me state kept → note.phase ≤ kept.ended → newer ≡ given nodes me (with_sent kept to note)
+    → BarrierStands nodes me newer (with_sent kept to note)
 stands_sent nodes me state newer kept to note stood low same = record {
   is = same;
   low = stood.low;
@@ -394,8 +396,8 @@ stands_sent nodes me state newer kept to note stood low same = record {
 }
 
 pub stands_sent_now : (nodes me : ℕ) (state : BarrierState) (kept : BarrierRecord) (to : ℕ) (note : BarrierNote)
-    → Stands nodes me state kept → last_due state to ≡ None → now_due state to ≡ Some note
-    → Stands nodes me (record state { sent_now = bit_or state.sent_now (2 ^ to) })
+    → BarrierStands nodes me state kept → last_due state to ≡ None → now_due state to ≡ Some note
+    → BarrierStands nodes me (record state { sent_now = bit_or state.sent_now (2 ^ to) })
     (send kept to (note_to nodes me kept to))
 stands_sent_now nodes me state kept to note stood none some =
     rw goes (stands_sent nodes me state (record state { sent_now = bit_or state.sent_now (2 ^ to) }) kept to note stood
@@ -417,8 +419,8 @@ stands_sent_now nodes me state kept to note stood none some =
         (λ phase low. sent_other kept to phase note (omega (arith, here))))
 
 pub stands_sent_last : (nodes me : ℕ) (state : BarrierState) (kept : BarrierRecord) (to : ℕ) (note : BarrierNote)
-    → Stands nodes me state kept → last_due state to ≡ Some note
-    → Stands nodes me (record state { sent_last = bit_or state.sent_last (2 ^ to) })
+    → BarrierStands nodes me state kept → last_due state to ≡ Some note
+    → BarrierStands nodes me (record state { sent_last = bit_or state.sent_last (2 ^ to) })
     (send kept to (note_to nodes me kept to))
 stands_sent_last nodes me state kept to note stood some =
     rw goes (stands_sent nodes me state (record state {
@@ -445,27 +447,29 @@ stands_sent_last nodes me state kept to note stood some =
     is_given = same_state refl refl refl refl refl refl refl (sent_other kept to kept.ended note (omega (arith, there)))
         (masks kept.ended there)
 
-pub sends_last : (nodes me : ℕ) (state : BarrierState) (kept : BarrierRecord) (to : ℕ) → Stands nodes me state kept
+pub sends_last : (nodes me : ℕ) (state : BarrierState) (kept : BarrierRecord) (to : ℕ)
+    → BarrierStands nodes me state kept
     → is_some (last_due state to) ≡ true
-    → Stands nodes me (record state { sent_last = bit_or state.sent_last (2 ^ to) })
+    → BarrierStands nodes me (record state { sent_last = bit_or state.sent_last (2 ^ to) })
     (send kept to (note_to nodes me kept to))
 sends_last nodes me state kept to stood some = by_note (last_due state to) refl some
   where
     by_note : (maybe : Option BarrierNote) → last_due state to ≡ maybe → is_some maybe ≡ true
-        → Stands nodes me (record state { sent_last = bit_or state.sent_last (2 ^ to) })
+        → BarrierStands nodes me (record state { sent_last = bit_or state.sent_last (2 ^ to) })
         (send kept to (note_to nodes me kept to))
     by_note None is holds = absurd (true≢false (sym holds))
     by_note (Some note) is holds = stands_sent_last nodes me state kept to note stood is
 
-pub sends_now : (nodes me : ℕ) (state : BarrierState) (kept : BarrierRecord) (to : ℕ) → Stands nodes me state kept
+pub sends_now : (nodes me : ℕ) (state : BarrierState) (kept : BarrierRecord) (to : ℕ)
+    → BarrierStands nodes me state kept
     → is_some (last_due state to) ≡ false → IsSome (note_at state to)
-    → Stands nodes me (record state { sent_now = bit_or state.sent_now (2 ^ to) })
+    → BarrierStands nodes me (record state { sent_now = bit_or state.sent_now (2 ^ to) })
     (send kept to (note_to nodes me kept to))
 sends_now nodes me state kept to stood none some = by_notes (last_due state to) (now_due state to) refl refl none some
   where
     by_notes : (maybe second : Option BarrierNote) → last_due state to ≡ maybe → now_due state to ≡ second
         → is_some maybe ≡ false → IsSome (or_else maybe second)
-        → Stands nodes me (record state { sent_now = bit_or state.sent_now (2 ^ to) })
+        → BarrierStands nodes me (record state { sent_now = bit_or state.sent_now (2 ^ to) })
         (send kept to (note_to nodes me kept to))
     by_notes (Some other) second is second_is fails holds = absurd (true≢false fails)
     by_notes None (Some note) is second_is fails holds = stands_sent_now nodes me state kept to note stood is second_is

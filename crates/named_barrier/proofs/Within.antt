@@ -21,13 +21,13 @@ use Rattle.named_barrier.specs.declared.answer.BarrierAnswer.{BarrierAnswer}
 use Rattle.named_barrier.specs.declared.answer.BarrierAnswer.TheVariants as tried
 use Rattle.named_barrier.specs.Masks.{mask_words, low_word, higher}
 use Rattle.named_barrier.specs.Combinations.{one_notify, is_anonymous, least, combined_id, combined_flags}
-use Rattle.named_barrier.specs.Record.{BarrierRecord, Part, own, no_part, join, part_of, own_part, heard_part}
+use Rattle.named_barrier.specs.Record.{BarrierRecord, PhasePart, own, no_part, join, part_of, own_part, heard_part}
 use Rattle.named_barrier.specs.Record.{known, note_of}
 use Rattle.named_barrier.specs.Record.{stage, routed, was_sent, due, due_before, notify_answer, notify_after}
 use Rattle.named_barrier.specs.Record.{try_answer}
 use Rattle.named_barrier.specs.Record.{try_after, hear, send}
 use Rattle.named_barrier.specs.Route.{goes_to, any_round}
-use Rattle.named_barrier.specs.Within.{IsWithin, NotesFit, StepsWithin, StaysWithin}
+use Rattle.named_barrier.specs.Within.{IsNotedWithin, NotesFit, StepsWithin, StaysWithin}
 use Rattle.named_barrier.proofs.Words.{words_number}
 use Rattle.named_barrier.proofs.RoundLaws.{pow_up}
 use Rattle.named_barrier.proofs.Runs.{routed_note, or_else_is, passes, slice_get_push}
@@ -37,7 +37,7 @@ use Rattle.lists.proofs.Places.{slice_get_short}
 abbrev IdFits : Option ℤ → Type 0
 IdFits named = (id : ℤ) → named ≡ Some id → FitsSigned w32 id
 
-record PartFits (nodes : ℕ) (part : Part) : Type 0 where
+record PartFits (nodes : ℕ) (part : PhasePart) : Type 0 where
   mask : part.mask < 2 ^ nodes
   id : IdFits part.combined.id
 
@@ -52,7 +52,7 @@ least_fits (Some first) (Some second) one two id is = elim (cases_Bool (int_lt s
 none_fits : (nodes : ℕ) → PartFits nodes no_part
 none_fits nodes = record { mask = pow_pos nodes; id = λ id is. absurd (cc) }
 
-join_fits : (nodes : ℕ) (first second : Part) → PartFits nodes first → PartFits nodes second
+join_fits : (nodes : ℕ) (first second : PhasePart) → PartFits nodes first → PartFits nodes second
     → PartFits nodes (join first second)
 join_fits nodes first second one two = record {
   mask = or_lt nodes first.mask second.mask one.mask two.mask;
@@ -90,7 +90,7 @@ heard_fits nodes phase (note ∷ notes) are =
       | inr fails ↦ rw fails rest
     ]
 
-known_fits : (nodes me : ℕ) (kept : BarrierRecord) (phase : ℕ) → me < nodes → IsWithin nodes kept
+known_fits : (nodes me : ℕ) (kept : BarrierRecord) (phase : ℕ) → me < nodes → IsNotedWithin nodes kept
     → PartFits nodes (known me kept phase)
 known_fits nodes me kept phase there within =
     join_fits nodes (own_part me (own kept phase)) (heard_part phase kept.heard)
@@ -127,7 +127,7 @@ flags_fit true (Some id) = omega arith
 flags_fit false None = omega arith
 flags_fit false (Some id) = omega arith
 
-part_note : (nodes phase : ℕ) (part : Part) → nodes ≤ 256 → phase < 2 ^ 64 → PartFits nodes part
+part_note : (nodes phase : ℕ) (part : PhasePart) → nodes ≤ 256 → phase < 2 ^ 64 → PartFits nodes part
     → IsNote nodes (note_of phase part)
 part_note nodes phase part few low fits = record {
   phase = low;
@@ -145,7 +145,7 @@ slice_get_in (first ∷ items) zero is = omega arith
 slice_get_in (first ∷ items) (suc place) is = omega (arith, slice_get_in items place is)
 
 routed_fits : (nodes me : ℕ) (kept : BarrierRecord) (phase to : ℕ) (note : BarrierNote) → nodes ≤ 256 → me < nodes
-    → IsWithin nodes kept → routed nodes me (stage me kept phase) to ≡ Some note
+    → IsNotedWithin nodes kept → routed nodes me (stage me kept phase) to ≡ Some note
     → IsNote nodes note
 routed_fits nodes me kept phase to note few there within is =
     subst (IsNote nodes) (sym (routed_note nodes me (stage me kept phase) to note is))
@@ -162,14 +162,14 @@ routed_fits nodes me kept phase to note few there within is =
         (goes (goes_to nodes me (is_some (own kept phase)) (known me kept phase).mask to) is)).0
 
 due_fits : (nodes me : ℕ) (kept : BarrierRecord) (phase to : ℕ) (note : BarrierNote) → nodes ≤ 256 → me < nodes
-    → IsWithin nodes kept → due nodes me kept phase to ≡ Some note → IsNote nodes note
+    → IsNotedWithin nodes kept → due nodes me kept phase to ≡ Some note → IsNote nodes note
 due_fits nodes me kept phase to note few there within is = elim (cases_Bool (was_sent kept phase to)) [
   | inl holds ↦ (let none : None ≡ Some note = rw holds at is in absurd cc)
   | inr fails ↦ routed_fits nodes me kept phase to note few there within (rw fails at is)
 ]
 
 before_fits : (nodes me : ℕ) (kept : BarrierRecord) (ended to : ℕ) (note : BarrierNote) → nodes ≤ 256 → me < nodes
-    → IsWithin nodes kept → due_before nodes me kept ended to ≡ Some note → IsNote nodes note
+    → IsNotedWithin nodes kept → due_before nodes me kept ended to ≡ Some note → IsNote nodes note
 before_fits nodes me kept zero to note few there within is = absurd (cc)
 before_fits nodes me kept (suc phase) to note few there within is =
     due_fits nodes me kept phase to note few there within is
@@ -182,15 +182,15 @@ notes_fit nodes me kept to note few there within is = elim (or_else_is _ _ note 
 
 -- ---- each step
 
-within_notify : (nodes : ℕ) (kept : BarrierRecord) (id : ℤ) (flags : ℕ) → IsWithin nodes kept → FitsSigned w32 id
-    → IsWithin nodes (notify_after kept id flags (notify_answer kept id flags))
+within_notify : (nodes : ℕ) (kept : BarrierRecord) (id : ℤ) (flags : ℕ) → IsNotedWithin nodes kept → FitsSigned w32 id
+    → IsNotedWithin nodes (notify_after kept id flags (notify_answer kept id flags))
 within_notify nodes kept id flags within fits = by_flags (cases_Bool (nat_lt 3 flags))
   where
     notify : Notify
     notify = record { id = id; flags = flags }
 
     taken : own kept kept.ended ≡ None → kept.ended ≢ 2 ^ 64 - 1
-        → IsWithin nodes (record kept { notifies = kept.notifies ++ notify ∷ [] })
+        → IsNotedWithin nodes (record kept { notifies = kept.notifies ++ notify ∷ [] })
     taken none left =
         let short : length kept.notifies ≤ kept.ended = slice_get_short kept.notifies kept.ended none in
         let more = length-append kept.notifies (notify ∷ []) in
@@ -205,28 +205,29 @@ within_notify nodes kept id flags within fits = by_flags (cases_Bool (nat_lt 3 f
         }
 
     by_phase : own kept kept.ended ≡ None → (eqb kept.ended (2 ^ 64 - 1) ≡ true) ⊎ (eqb kept.ended (2 ^ 64 - 1) ≡ false)
-        → IsWithin nodes (notify_after kept id flags (if kept.ended == 2 ^ 64 - 1 then told.Exhausted else told.Ok))
+        → IsNotedWithin nodes
+        (notify_after kept id flags (if kept.ended == 2 ^ 64 - 1 then told.Exhausted else told.Ok))
     by_phase none (inl holds) = rw holds within
     by_phase none (inr fails) = rw fails (taken none (grind (arith, nat_tests, fails)))
 
-    by_own : (mine : Option Notify) → own kept kept.ended ≡ mine → IsWithin nodes (notify_after kept id flags
+    by_own : (mine : Option Notify) → own kept kept.ended ≡ mine → IsNotedWithin nodes (notify_after kept id flags
         (if is_some mine then told.Twice else (if kept.ended == 2 ^ 64 - 1 then told.Exhausted else told.Ok)))
     by_own (Some one) is = within
     by_own None is = by_phase is (cases_Bool (eqb kept.ended (2 ^ 64 - 1)))
 
     by_flags : (nat_lt 3 flags ≡ true) ⊎ (nat_lt 3 flags ≡ false)
-        → IsWithin nodes (notify_after kept id flags (notify_answer kept id flags))
+        → IsNotedWithin nodes (notify_after kept id flags (notify_answer kept id flags))
     by_flags (inl holds) = rw holds within
     by_flags (inr fails) = rw fails (by_own (own kept kept.ended) refl)
 
-ending : (nodes : ℕ) (kept : BarrierRecord) → kept.ended < length kept.notifies → IsWithin nodes kept
-    → IsWithin nodes (record kept { ended = suc kept.ended })
+ending : (nodes : ℕ) (kept : BarrierRecord) → kept.ended < length kept.notifies → IsNotedWithin nodes kept
+    → IsNotedWithin nodes (record kept { ended = suc kept.ended })
 ending nodes kept low within =
     record { low = low; count = within.count; own = within.own; heard = within.heard }
 
 within_try : (nodes : ℕ) (kept : BarrierRecord) (answer : BarrierAnswer)
     → ((answer ≡ tried.Ok) ⊎ (answer ≡ tried.Mismatch) → is_some (own kept kept.ended) ≡ true)
-    → IsWithin nodes kept → IsWithin nodes (try_after kept answer)
+    → IsNotedWithin nodes kept → IsNotedWithin nodes (try_after kept answer)
 within_try nodes kept tried.Ok given within =
     ending nodes kept (slice_get_in kept.notifies kept.ended (given (inl refl))) within
 within_try nodes kept tried.Mismatch given within =
@@ -236,8 +237,8 @@ within_try nodes kept tried.NoNotify given within = within
 within_try nodes kept tried.BadFlags given within = within
 within_try nodes kept (tried.Exhausted node) given within = within
 
-within_hear : (nodes : ℕ) (kept : BarrierRecord) (note : BarrierNote) → IsWithin nodes kept → IsNote nodes note
-    → IsWithin nodes (hear kept note)
+within_hear : (nodes : ℕ) (kept : BarrierRecord) (note : BarrierNote) → IsNotedWithin nodes kept → IsNote nodes note
+    → IsNotedWithin nodes (hear kept note)
 within_hear nodes kept note within is =
     elim (cases_Bool (eqb note.phase kept.ended || eqb note.phase (suc kept.ended))) [
       | inl holds ↦ rw holds (record {
@@ -252,13 +253,13 @@ within_hear nodes kept note within is =
       | inr fails ↦ rw fails within
     ]
 
-within_send : (nodes : ℕ) (kept : BarrierRecord) (to : ℕ) (note : Option BarrierNote) → IsWithin nodes kept
-    → IsWithin nodes (send kept to note)
+within_send : (nodes : ℕ) (kept : BarrierRecord) (to : ℕ) (note : Option BarrierNote) → IsNotedWithin nodes kept
+    → IsNotedWithin nodes (send kept to note)
 within_send nodes kept to None within = within
 within_send nodes kept to (Some note) within =
     record { low = within.low; count = within.count; own = within.own; heard = within.heard }
 
-steps_within : (nodes : ℕ) (kept : BarrierRecord) → IsWithin nodes kept → StepsWithin nodes kept
+steps_within : (nodes : ℕ) (kept : BarrierRecord) → IsNotedWithin nodes kept → StepsWithin nodes kept
 steps_within nodes kept within = record {
   notify = λ id flags fits. within_notify nodes kept id flags within fits;
   tried = λ me try. within_try nodes kept (try_answer nodes me kept try)

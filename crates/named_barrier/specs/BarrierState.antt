@@ -3,16 +3,16 @@ use Rattle.std.specs.Prelude.{ℕ, ◌-◌, ◌||◌, true, Option, None, is_som
 use Rattle.datagram_grammar.specs.declared.note.BarrierNote.{BarrierNote}
 use Rattle.named_barrier.specs.declared.known.Notify.{Notify}
 use Rattle.named_barrier.specs.Masks.{has}
-use Rattle.named_barrier.specs.Record.{Part, routed, or_else}
+use Rattle.named_barrier.specs.Record.{PhasePart, routed, or_else}
 
 pub record BarrierState : Type 0 where
   pub nodes : ℕ
   pub me : ℕ
   pub phase : ℕ
   pub own : Option Notify
-  pub present : Part  -- what is known of the present phase
-  pub next : Part  -- of the next one
-  pub last : Part  -- and of the one that ended last
+  pub present : PhasePart  -- what is known of the present phase
+  pub next : PhasePart  -- of the next one
+  pub last : PhasePart  -- and of the one that ended last
   pub sent_now : ℕ  -- the nodes to which the present phase's note was sent, as a mask
   pub sent_last : ℕ  -- and the note of the phase that ended last
 

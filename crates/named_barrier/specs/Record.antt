@@ -27,8 +27,8 @@ pub record BarrierRecord : Type 0 where
   pub sent : List SentNote
 
 -- at the start
-abbrev pub opened : BarrierRecord
-opened = record { notifies = []; ended = 0; heard = []; sent = [] }
+abbrev pub opened_record : BarrierRecord
+opened_record = record { notifies = []; ended = 0; heard = []; sent = [] }
 
 -- it was never notified
 abbrev pub has_notified_nothing : BarrierRecord → Bool
@@ -41,14 +41,14 @@ own kept phase = slice_get kept.notifies phase
 -- ---- what it knows of a phase
 
 -- nodes, and what they notified, combined
-pub record Part : Type 0 where
+pub record PhasePart : Type 0 where
   pub mask : ℕ
   pub combined : Combination
 
-abbrev pub no_part : Part
+abbrev pub no_part : PhasePart
 no_part = record { mask = 0; combined = no_notify }
 
-abbrev pub join : (first second : Part) → Part
+abbrev pub join : (first second : PhasePart) → PhasePart
 join first second =
     record {
       mask = bit_or first.mask second.mask;
@@ -56,22 +56,22 @@ join first second =
     }
 
 -- of a note, which is read as one notify
-abbrev pub part_of : BarrierNote → Part
+abbrev pub part_of : BarrierNote → PhasePart
 part_of note = record { mask = mask_number note.mask; combined = one_notify note.id note.flags }
 
 -- of the node's own notify
-abbrev pub own_part : (me : ℕ) → Option Notify → Part
+abbrev pub own_part : (me : ℕ) → Option Notify → PhasePart
 own_part me None = no_part
 own_part me (Some notify) = record { mask = 2 ^ me; combined = one_notify notify.id notify.flags }
 
 -- of the notes of the phase among these
-abbrev pub heard_part : (phase : ℕ) → List BarrierNote → Part
+abbrev pub heard_part : (phase : ℕ) → List BarrierNote → PhasePart
 heard_part phase [] = no_part
 heard_part phase (note ∷ notes) =
     if note.phase == phase then join (part_of note) (heard_part phase notes) else heard_part phase notes
 
 -- the nodes that it knows, and what is seen of their notifies: its own one, and those of the notes that it heard
-abbrev pub known : (me : ℕ) → BarrierRecord → (phase : ℕ) → Part
+abbrev pub known : (me : ℕ) → BarrierRecord → (phase : ℕ) → PhasePart
 known me kept phase = join (own_part me (own kept phase)) (heard_part phase kept.heard)
 
 -- ---- notify
@@ -93,24 +93,24 @@ notify_after kept id flags _ = kept
 pub record Try : Type 0 where
   pub id : ℤ
   pub flags : ℕ
-  pub exhausted : Option ℕ  -- a node that a note of the phase must go to still, for which the numbers are exhausted out
+  pub exhausted : Option ℕ  -- a node that a note of the phase must go to still, for which the numbers are exhausted
 
 -- the try's flags, or its identifier where it is named, aren't those of the notify
-abbrev pub is_other : Notify → (id : ℤ) → (flags : ℕ) → Bool
-is_other notify id flags =
+abbrev pub is_other_try : Notify → (id : ℤ) → (flags : ℕ) → Bool
+is_other_try notify id flags =
     not (notify.flags == flags) || (not (is_anonymous flags) && not (int_eq notify.id id))
 
--- of a phase that isn't complete, where the numbers of a node may be exhausted out
+-- of a phase that isn't complete, where the numbers of a node may be exhausted
 abbrev pub unready : (exhausted : Option ℕ) → BarrierAnswer
 unready None = tried.NotReady
 unready (Some node) = tried.Exhausted node
 
 -- of a phase that the node has notified, or hasn't
-abbrev pub own_try : (nodes : ℕ) → Part → Try → Option Notify → BarrierAnswer
+abbrev pub own_try : (nodes : ℕ) → PhasePart → Try → Option Notify → BarrierAnswer
 own_try nodes part try None = tried.NoNotify
 own_try nodes part try (Some notify) =
     if has_all part.mask nodes
-    then (if part.combined.mismatch || is_other notify try.id try.flags then tried.Mismatch else tried.Ok)
+    then (if part.combined.mismatch || is_other_try notify try.id try.flags then tried.Mismatch else tried.Ok)
     else unready try.exhausted
 
 abbrev pub try_answer : (nodes me : ℕ) → BarrierRecord → Try → BarrierAnswer
@@ -135,7 +135,7 @@ hear kept note =
 -- ---- a note goes
 
 -- what is known, as a note of the phase
-abbrev pub note_of : (phase : ℕ) → Part → BarrierNote
+abbrev pub note_of : (phase : ℕ) → PhasePart → BarrierNote
 note_of phase part =
     record {
       phase = phase;
@@ -148,7 +148,7 @@ note_of phase part =
 pub record Stage : Type 0 where
   pub phase : ℕ
   pub notified : Bool  -- by the node itself
-  pub part : Part  -- what it knows of the phase
+  pub part : PhasePart  -- what it knows of the phase
 
 abbrev pub stage : (me : ℕ) → BarrierRecord → (phase : ℕ) → Stage
 stage me kept phase =

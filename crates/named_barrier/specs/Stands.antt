@@ -30,7 +30,7 @@ given nodes me kept =
       sent_last = before 0 (λ phase. sent_mask phase kept.sent) kept.ended;
     }
 
-pub record Stands (nodes me : ℕ) (state : BarrierState) (kept : BarrierRecord) : Type 0 where
+pub record BarrierStands (nodes me : ℕ) (state : BarrierState) (kept : BarrierRecord) : Type 0 where
   pub is : state ≡ given nodes me kept
   -- of the record: each phase that ended was notified, and no later one than the present
   pub low : kept.ended ≤ length kept.notifies
@@ -40,3 +40,8 @@ pub record Stands (nodes me : ℕ) (state : BarrierState) (kept : BarrierRecord)
       → note.phase ≤ suc kept.ended
   pub sent : (place : ℕ) (sent : SentNote) → slice_get kept.sent place ≡ Some sent
       → sent.note.phase ≤ kept.ended
+
+-- this holds of every record that the barrier stands for, with its nodes and the node that it is of
+abbrev pub ForItsBarrierRecord : BarrierState → ((nodes me : ℕ) → BarrierRecord → Type 0) → Type 0
+ForItsBarrierRecord state Holds =
+    (nodes me : ℕ) (kept : BarrierRecord) → BarrierStands nodes me state kept → Holds nodes me kept

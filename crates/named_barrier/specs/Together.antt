@@ -5,31 +5,31 @@ use Rattle.named_barrier.specs.declared.known.Notify.{Notify}
 use Rattle.named_barrier.specs.Combinations.{Notifies, is_anonymous, is_mismatched, all_of}
 
 -- one of the nodes gave this notify
-abbrev pub IsGiven : Notifies → (nodes : ℕ) → Notify → Type 0
-IsGiven notifies nodes notify = (node : ℕ) × (node < nodes) × (notifies node ≡ Some notify)
+abbrev pub IsGivenNotify : Notifies → (nodes : ℕ) → Notify → Type 0
+IsGivenNotify notifies nodes notify = (node : ℕ) × (node < nodes) × (notifies node ≡ Some notify)
 
 -- a notify has MISMATCH
 abbrev pub HasMismatch : Notifies → (nodes : ℕ) → Type 0
 HasMismatch notifies nodes =
-    (notify : Notify) × IsGiven notifies nodes notify × (is_mismatched notify.flags ≡ true)
+    (notify : Notify) × IsGivenNotify notifies nodes notify × (is_mismatched notify.flags ≡ true)
 
 -- a notify is named by this identifier
-abbrev pub IsNamed : Notifies → (nodes : ℕ) → (id : ℤ) → Type 0
-IsNamed notifies nodes id =
-    (notify : Notify) × IsGiven notifies nodes notify × (is_anonymous notify.flags ≡ false) × (notify.id ≡ id)
+abbrev pub IsNamedBy : Notifies → (nodes : ℕ) → (id : ℤ) → Type 0
+IsNamedBy notifies nodes id =
+    (notify : Notify) × IsGivenNotify notifies nodes notify × (is_anonymous notify.flags ≡ false) × (notify.id ≡ id)
 
 -- two named identifiers differ
 abbrev pub HasClash : Notifies → (nodes : ℕ) → Type 0
 HasClash notifies nodes =
-    (id : ℤ) × (other : ℤ) × IsNamed notifies nodes id × IsNamed notifies nodes other × (id ≢ other)
+    (id : ℤ) × (other : ℤ) × IsNamedBy notifies nodes id × IsNamedBy notifies nodes other × (id ≢ other)
 
 pub record IsTogether (notifies : Notifies) (nodes : ℕ) (combined : Combination) : Type 0 where
   -- a mismatch exactly where a notify has MISMATCH or two named identifiers differ
   pub mismatch : (combined.mismatch ≡ true) ↔ (HasMismatch notifies nodes ⊎ HasClash notifies nodes)
   -- no identifier exactly where none is named, else the least one
-  pub none : (combined.id ≡ None) ↔ ((id : ℤ) → IsNamed notifies nodes id → ⊥)
+  pub none : (combined.id ≡ None) ↔ ((id : ℤ) → IsNamedBy notifies nodes id → ⊥)
   pub some : (id : ℤ) → combined.id ≡ Some id
-      → IsNamed notifies nodes id × ((other : ℤ) → IsNamed notifies nodes other → id ≤ℤ other)
+      → IsNamedBy notifies nodes id × ((other : ℤ) → IsNamedBy notifies nodes other → id ≤ℤ other)
 
 abbrev pub AllTogether : Type 0
 AllTogether = (notifies : Notifies) (nodes : ℕ) → IsTogether notifies nodes (all_of notifies nodes)

@@ -5,11 +5,11 @@ use Rattle.named_barrier.specs.declared.barrier.Barrier.TheInside.{Inside}
 use Rattle.named_barrier.specs.declared.known.Known.{Known}
 use Rattle.named_barrier.specs.Masks.{has}
 use Rattle.named_barrier.specs.Route.{goes_to}
-use Rattle.named_barrier.specs.Record.{Part}
+use Rattle.named_barrier.specs.Record.{PhasePart}
 use Rattle.named_barrier.specs.BarrierState.{BarrierState}
 
 -- the words of the mask as one number
-abbrev pub part : Known → Part
+abbrev pub part : Known → PhasePart
 part known = record { mask = mask_number known.mask; combined = known.combined }
 
 abbrev pub fields_view : Inside → BarrierState

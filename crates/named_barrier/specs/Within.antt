@@ -5,11 +5,11 @@ use Rattle.std.specs.Int.RustNames.{FitsSigned}
 use Rattle.datagram_grammar.specs.declared.note.BarrierNote.{BarrierNote}
 use Rattle.datagram_grammar.specs.Notes.{IsNote}
 use Rattle.named_barrier.specs.declared.known.Notify.{Notify}
-use Rattle.named_barrier.specs.Record.{BarrierRecord, Try, opened, own, notify_answer, notify_after, try_answer}
+use Rattle.named_barrier.specs.Record.{BarrierRecord, Try, opened_record, own, notify_answer, notify_after, try_answer}
 use Rattle.named_barrier.specs.Record.{try_after, hear, note_to, send}
 
 -- what was notified and heard is in the ranges of a note among so many nodes
-pub record IsWithin (nodes : ℕ) (kept : BarrierRecord) : Type 0 where
+pub record IsNotedWithin (nodes : ℕ) (kept : BarrierRecord) : Type 0 where
   pub low : kept.ended ≤ length kept.notifies
   pub count : length kept.notifies < 2 ^ 64
   pub own : (phase : ℕ) (notify : Notify) → own kept phase ≡ Some notify → FitsSigned w32 notify.id
@@ -19,17 +19,17 @@ pub record IsWithin (nodes : ℕ) (kept : BarrierRecord) : Type 0 where
 abbrev pub NotesFit : Type 0
 NotesFit =
     (nodes me : ℕ) (kept : BarrierRecord) (to : ℕ) (note : BarrierNote) → nodes ≤ 256 → me < nodes
-    → IsWithin nodes kept → note_to nodes me kept to ≡ Some note → IsNote nodes note
+    → IsNotedWithin nodes kept → note_to nodes me kept to ≡ Some note → IsNote nodes note
 
 -- each step keeps it
 pub record StepsWithin (nodes : ℕ) (kept : BarrierRecord) : Type 0 where
   pub notify : (id : ℤ) (flags : ℕ) → FitsSigned w32 id
-      → IsWithin nodes (notify_after kept id flags (notify_answer kept id flags))
-  pub tried : (me : ℕ) (try : Try) → IsWithin nodes (try_after kept (try_answer nodes me kept try))
-  pub hear : (note : BarrierNote) → IsNote nodes note → IsWithin nodes (hear kept note)
-  pub send : (to : ℕ) (note : Option BarrierNote) → IsWithin nodes (send kept to note)
+      → IsNotedWithin nodes (notify_after kept id flags (notify_answer kept id flags))
+  pub tried : (me : ℕ) (try : Try) → IsNotedWithin nodes (try_after kept (try_answer nodes me kept try))
+  pub hear : (note : BarrierNote) → IsNote nodes note → IsNotedWithin nodes (hear kept note)
+  pub send : (to : ℕ) (note : Option BarrierNote) → IsNotedWithin nodes (send kept to note)
 
 abbrev pub StaysWithin : Type 0
 StaysWithin =
-    ((nodes : ℕ) → IsWithin nodes opened)
-    × ((nodes : ℕ) (kept : BarrierRecord) → IsWithin nodes kept → StepsWithin nodes kept)
+    ((nodes : ℕ) → IsNotedWithin nodes opened_record)
+    × ((nodes : ℕ) (kept : BarrierRecord) → IsNotedWithin nodes kept → StepsWithin nodes kept)

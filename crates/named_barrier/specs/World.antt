@@ -7,7 +7,8 @@ use Rattle.named_barrier.specs.declared.known.Notify.{Notify}
 use Rattle.named_barrier.specs.declared.answer.BarrierAnswer.TheVariants as tried
 use Rattle.named_barrier.specs.Masks.{has}
 use Rattle.named_barrier.specs.Combinations.{Notifies, all_of, among}
-use Rattle.named_barrier.specs.Record.{BarrierRecord, SentNote, Part, opened, own, part_of, is_other, hear, send}
+use Rattle.named_barrier.specs.Record.{BarrierRecord, SentNote, PhasePart, opened_record, own, part_of, is_other_try}
+use Rattle.named_barrier.specs.Record.{hear, send}
 use Rattle.named_barrier.specs.Record.{Try, notify_answer, notify_after, try_answer, try_after, note_to}
 
 -- the record of each node's barrier
@@ -32,7 +33,7 @@ AllNotified nodes barriers phase =
 -- a try's flags, or its identifier, aren't those of the node's own notify of the phase
 abbrev pub IsOtherTry : BarrierRecord → (id : ℤ) → (flags : ℕ) → Type 0
 IsOtherTry kept id flags =
-    (notify : Notify) × (own kept kept.ended ≡ Some notify) × (is_other notify id flags ≡ true)
+    (notify : Notify) × (own kept kept.ended ≡ Some notify) × (is_other_try notify id flags ≡ true)
 
 -- a try that ends a phase ends one that all have notified, and tells a mismatch exactly where the outcome is one or
 -- where it differs from the node's own notify
@@ -53,7 +54,7 @@ EndedByAll nodes barriers =
 -- ---- what makes it so: notes tell of nothing but notifies
 
 -- each node of the part is there and has notified, and what is known is their notifies combined
-pub record Covers (nodes : ℕ) (notifies : Notifies) (part : Part) : Type 0 where
+pub record Covers (nodes : ℕ) (notifies : Notifies) (part : PhasePart) : Type 0 where
   pub there : (node : ℕ) → has part.mask node ≡ true
       → (node < nodes) × ((notify : Notify) × (notifies node ≡ Some notify))
   pub all : part.combined ≡ all_of (among part.mask notifies) nodes
@@ -78,8 +79,8 @@ pub record Keeps (nodes : ℕ) (barriers : Barriers) (kept newer : BarrierRecord
       → (slice_get kept.sent place ≡ Some sent) ⊎ IsCovered nodes barriers sent.note
 
 -- the record of one node, changed
-abbrev pub put : Barriers → (node : ℕ) → BarrierRecord → Barriers
-put barriers node kept other = if other == node then kept else barriers other
+abbrev pub put_record : Barriers → (node : ℕ) → BarrierRecord → Barriers
+put_record barriers node kept other = if other == node then kept else barriers other
 
 -- ---- every run of barriers by themselves
 
@@ -96,20 +97,20 @@ hear_sent kept (Some sent) = hear kept sent.note
 
 abbrev pub happens : (nodes : ℕ) → Barriers → BarrierEvent → Barriers
 happens nodes barriers (Notifying node id flags) =
-    put barriers node (notify_after (barriers node) id flags (notify_answer (barriers node) id flags))
+    put_record barriers node (notify_after (barriers node) id flags (notify_answer (barriers node) id flags))
 happens nodes barriers (Trying node try) =
-    put barriers node (try_after (barriers node) (try_answer nodes node (barriers node) try))
+    put_record barriers node (try_after (barriers node) (try_answer nodes node (barriers node) try))
 happens nodes barriers (Sending node to) =
-    put barriers node (send (barriers node) to (note_to nodes node (barriers node) to))
+    put_record barriers node (send (barriers node) to (note_to nodes node (barriers node) to))
 happens nodes barriers (Hearing node other place) =
-    put barriers node (hear_sent (barriers node) (slice_get (barriers other).sent place))
+    put_record barriers node (hear_sent (barriers node) (slice_get (barriers other).sent place))
 
 abbrev pub barriers_after : (nodes : ℕ) → List BarrierEvent → Barriers → Barriers
 barriers_after nodes [] barriers = barriers
 barriers_after nodes (event ∷ events) barriers = barriers_after nodes events (happens nodes barriers event)
 
 abbrev pub all_opened : Barriers
-all_opened node = opened
+all_opened node = opened_record
 
 -- the event is of a node that is there
 abbrev pub IsAmong : (nodes : ℕ) → BarrierEvent → Type 0

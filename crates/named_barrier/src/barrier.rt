@@ -1,10 +1,10 @@
 //! One node's barrier.
 
 ghost use Rattle.std.specs.Prelude.{◌≡◌, ℕ, ◌<◌, ◌≤◌, None, IsTrue, IsSome, IfOk, IsOk};
-ghost use Rattle.named_barrier.specs.Record.{BarrierRecord, opened, has_notified_nothing, notify_answer, notify_after};
+ghost use Rattle.named_barrier.specs.Record.{opened_record, has_notified_nothing, notify_answer, notify_after};
 ghost use Rattle.named_barrier.specs.Record.{try_answer, try_after, hear, note_to, owes, send};
 ghost use Rattle.named_barrier.specs.BarrierState.{last_due, now_due, note_at};
-ghost use Rattle.named_barrier.specs.Stands.{Stands};
+ghost use Rattle.named_barrier.specs.Stands.{BarrierStands, ForItsBarrierRecord};
 
 use crate::answer::{BarrierAnswer, Notified};
 use crate::known::{Known, Notify, is_other, join, no_part, note_of, own_part, part_of};
@@ -53,7 +53,7 @@ impl Barrier {
     pub fn new(nodes: u16, me: u16) -> Result<Barrier, AllocError>
         requires few { nodes ≤ 256 }
         requires in_range { me < nodes }
-        ensures stands { IfOk result (λ barrier. Stands nodes me barrier opened) }
+        ensures stands { IfOk result (λ barrier. BarrierStands nodes me barrier opened_record) }
         ensures nodes { IfOk result (λ barrier. barrier.nodes ≡ nodes) }
         ensures never { IsOk result }
     {
@@ -78,10 +78,10 @@ impl Barrier {
     /// The first of these that is so: `BadFlags`, the flags are above 3; `Twice`, the phase was notified; `Exhausted`,
     /// the phase is 2^64 - 1. Else `Ok`. A refusal changes nothing.
     pub fn notify(&mut self, id: i32, flags: u8) -> Notified
-        ensures answer { (nodes me : ℕ) (kept : BarrierRecord) → Stands nodes me self.old kept
-            → result ≡ notify_answer kept id flags }
-        ensures stands { (nodes me : ℕ) (kept : BarrierRecord) → Stands nodes me self.old kept
-            → Stands nodes me self.new (notify_after kept id flags (notify_answer kept id flags)) }
+        ensures answer { ForItsBarrierRecord self.old (λ nodes me kept.
+            result ≡ notify_answer kept id flags) }
+        ensures stands { ForItsBarrierRecord self.old (λ nodes me kept.
+            BarrierStands nodes me self.new (notify_after kept id flags (notify_answer kept id flags))) }
         ensures nodes { self.new.nodes ≡ self.old.nodes }
     {
         if flags > 3 {
@@ -107,19 +107,20 @@ impl Barrier {
     /// Tries whether the present phase is complete, and ends it then: `gasnet_barrier_try`.
     ///
     /// `exhausted` is the smallest node to which a note of this phase must go, and for which the numbers of messages are
-    /// exhausted out. The first of these that is so: `BadFlags`, the flags are above 3; `NoNotify`, the phase wasn't
+    /// exhausted. The first of these that is so: `BadFlags`, the flags are above 3; `NoNotify`, the phase wasn't
     /// notified; where all nodes are known to have notified it, `Mismatch` or `Ok`, and the phase ends; `Exhausted` with
     /// that node, where there is one; `NotReady`. It is a mismatch exactly where the notifies are one, or where the
     /// flags, or the identifier where it is named, differ from the local notify.
     pub fn try_wait(&mut self, id: i32, flags: u8, exhausted: Option<u16>) -> BarrierAnswer
-        ensures answer { (nodes me : ℕ) (kept : BarrierRecord) → Stands nodes me self.old kept
-            → result ≡ try_answer nodes me kept (record { id = id; flags = flags; exhausted = exhausted }) }
-        ensures stands { (nodes me : ℕ) (kept : BarrierRecord) → Stands nodes me self.old kept
-            → Stands nodes me self.new (try_after kept (try_answer nodes me kept (record {
+        ensures answer { ForItsBarrierRecord self.old (λ nodes me kept.
+            result ≡ try_answer nodes me kept
+            (record { id = id; flags = flags; exhausted = exhausted })) }
+        ensures stands { ForItsBarrierRecord self.old (λ nodes me kept.
+            BarrierStands nodes me self.new (try_after kept (try_answer nodes me kept (record {
               id = id;
               flags = flags;
               exhausted = exhausted;
-            }))) }
+            })))) }
         ensures nodes { self.new.nodes ≡ self.old.nodes }
     {
         if flags > 3 {
@@ -154,8 +155,8 @@ impl Barrier {
     /// Hears a note that has come (profile). One of the present phase or the next one is kept, also before the own
     /// notify; any other one is old and changes nothing.
     pub fn heard(&mut self, note: &BarrierNote)
-        ensures stands { (nodes me : ℕ) (kept : BarrierRecord) → Stands nodes me self.old kept
-            → Stands nodes me self.new (hear kept note.now) }
+        ensures stands { ForItsBarrierRecord self.old (λ nodes me kept.
+            BarrierStands nodes me self.new (hear kept note.now)) }
         ensures nodes { self.new.nodes ≡ self.old.nodes }
     {
         if note.phase == self.phase {
@@ -200,8 +201,8 @@ impl Barrier {
     pub fn note_to(&self, to: u16) -> Option<BarrierNote>
         requires { to < self.now.nodes }
         ensures state { result ≡ note_at self.now to }
-        ensures note { (nodes me : ℕ) (kept : BarrierRecord) → Stands nodes me self.now kept
-            → result ≡ note_to nodes me kept to }
+        ensures note { ForItsBarrierRecord self.now (λ nodes me kept.
+            result ≡ note_to nodes me kept to) }
     {
         match self.last_due(to) {
             Some(note) => Some(note),
@@ -212,8 +213,8 @@ impl Barrier {
     /// A node below which no note must go to any node. It looks at whole words of masks, so a search for the node to
     /// which a note goes begins there.
     pub fn first_owed(&self) -> u16
-        ensures { (nodes me : ℕ) (kept : BarrierRecord) → Stands nodes me self.now kept
-            → (to : ℕ) → to < result → note_to nodes me kept to ≡ None }
+        ensures { ForItsBarrierRecord self.now (λ nodes me kept.
+            (to : ℕ) → to < result → note_to nodes me kept to ≡ None) }
     {
         let now = first_without(&self.goes_now, &self.sent_now);
         if self.phase == 0 {
@@ -225,11 +226,10 @@ impl Barrier {
     /// Whether this node has notified nothing so far: then no note must go to any node. A node whose job has no barrier
     /// needs no more than that at each tick (profile).
     pub fn is_quiet(&self) -> bool
-        ensures exact { (nodes me : ℕ) (kept : BarrierRecord) → Stands nodes me self.now kept
-            → result ≡ has_notified_nothing kept }
-        ensures none { IsTrue result → (nodes me : ℕ) (kept : BarrierRecord)
-            → Stands nodes me self.now kept
-            → (to : ℕ) → note_to nodes me kept to ≡ None }
+        ensures exact { ForItsBarrierRecord self.now (λ nodes me kept.
+            result ≡ has_notified_nothing kept) }
+        ensures none { IsTrue result → ForItsBarrierRecord self.now (λ nodes me kept.
+            (to : ℕ) → note_to nodes me kept to ≡ None) }
     {
         self.phase == 0 && self.own.is_none()
     }
@@ -237,8 +237,7 @@ impl Barrier {
     /// Whether a note of the present phase must go to the node, also while an older one must (profile).
     pub fn owes(&self, to: u16) -> bool
         requires { to < self.now.nodes }
-        ensures { (nodes me : ℕ) (kept : BarrierRecord) → Stands nodes me self.now kept
-            → result ≡ owes nodes me kept to }
+        ensures { ForItsBarrierRecord self.now (λ nodes me kept. result ≡ owes nodes me kept to) }
     {
         self.now_due(to).is_some()
     }
@@ -247,8 +246,8 @@ impl Barrier {
     pub fn sent(&mut self, to: u16)
         requires in_range { to < self.old.nodes }
         requires due { IsSome (note_at self.old to) }
-        ensures stands { (nodes me : ℕ) (kept : BarrierRecord) → Stands nodes me self.old kept
-            → Stands nodes me self.new (send kept to (note_to nodes me kept to)) }
+        ensures stands { ForItsBarrierRecord self.old (λ nodes me kept.
+            BarrierStands nodes me self.new (send kept to (note_to nodes me kept to))) }
         ensures nodes { self.new.nodes ≡ self.old.nodes }
     {
         if self.last_due(to).is_some() {

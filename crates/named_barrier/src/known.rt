@@ -2,7 +2,7 @@
 
 ghost use Rattle.std.specs.Prelude.{◌≡◌, ◌<◌, ◌≤◌};
 ghost use Rattle.named_barrier.specs.Combinations.{one_notify, combine};
-ghost use Rattle.named_barrier.specs.Record.{join, part_of, own_part, no_part, note_of, is_other};
+ghost use Rattle.named_barrier.specs.Record.{join, part_of, own_part, no_part, note_of, is_other_try};
 ghost use Rattle.named_barrier.specs.Views.{part};
 
 use crate::mask::{put_in, union, words};
@@ -125,7 +125,7 @@ pub(crate) fn note_of(phase: u64, known: &Known) -> BarrierNote
 
 /// Whether the try's flags, or its identifier where it is named, aren't those of the notify.
 pub(crate) fn is_other(own: Notify, id: i32, flags: u8) -> bool
-    ensures { result ≡ is_other own id flags }
+    ensures { result ≡ is_other_try own id flags }
 {
     own.flags != flags || (flags & 1 == 0 && own.id != id)
 }

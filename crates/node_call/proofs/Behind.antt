@@ -4,13 +4,13 @@ use Rattle.std.proofs.Common.{ap, ◌∙◌, subst}
 use Rattle.std.specs.Prelude.{option_map}
 use lib.Seq.{drop_at}
 use Rattle.gas_outside.specs.Faults.{Rose}
-use Rattle.gas_outside.specs.Sieve.{is_plain as lets_all_pass}
+use Rattle.gas_outside.specs.Sieve.{is_plain_sieve as lets_all_pass}
 use Rattle.gas_outside.specs.Told.{and_all}
 use Rattle.gas_outside.specs.declared.link.Link.{Ghosts as LinkGhosts}
 use Rattle.endpoint_lock.specs.Facts.{WentOn}
 use Rattle.job_text.specs.declared.job.SieveRule.{SieveRule}
-use Rattle.node_call.specs.Seen.{IsBehind, LinkSeen, is_plain, link_seen, sieved_by}
-use Rattle.node_call.specs.Sieved.{Datagrams, IsFresh, heading, rule_of}
+use Rattle.node_call.specs.Seen.{IsBehind, LinkSeen, is_plain_rule, link_seen, sieved_by}
+use Rattle.node_call.specs.Sieved.{Datagrams, IsFreshSieve, heading, rule_of}
 use Rattle.node_call.specs.declared.sieved.Sieved.{Sieved}
 use Rattle.node_call.proofs.Sifting.{same_opening, some_same}
 use Rattle.node_call.proofs.Skipping.{since}
@@ -37,7 +37,7 @@ pub is_first : {L : Type 0} (l : LinkGhosts L) (first : Sieved L l) → first.ha
 is_first l first none = ap (λ handed. Some (heading l first.first.value first.sieve ++ handed)) none
 
 module _ {L : Type 0} (l : LinkGhosts L) (rule : SieveRule) (link : L) (first last : Sieved L l)
-    (fresh : IsFresh rule link first.sieve first.first.value first.handed.datagrams) (more : Datagrams)
+    (fresh : IsFreshSieve rule link first.sieve first.first.value first.handed.datagrams) (more : Datagrams)
     (went : WentOn ((sieved_links l).sent first) more ((sieved_links l).sent last)) where
   told_since : option_map (drop (length (told_first l first))) ((sieved_links l).sent last) ≡ Some more
   told_since =
@@ -67,7 +67,7 @@ module _ {L : Type 0} (l : LinkGhosts L) (rule : SieveRule) (link : L) (first la
             ∙ ap (λ h. and_all (l.sent link) (sieved_by rule h)) all;
         plain = λ plain handed is.
             let all : last.handed.datagrams ≡ handed = same.1 ∙ some_same more handed (sym told_since ∙ is) in
-            let passes : lets_all_pass last.sieve ≡ true = ap is_plain rules ∙ plain in
+            let passes : lets_all_pass last.sieve ≡ true = ap is_plain_rule rules ∙ plain in
             last.told.plain passes ∙ ap (λ told. and_all told last.handed.datagrams) sent
             ∙ ap (and_all (l.sent link)) all;
         received = refl;

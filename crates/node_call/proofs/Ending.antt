@@ -19,7 +19,7 @@ use Rattle.endpoint_lock.specs.declared.ends.Ended.{Ended}
 use Rattle.station_run.specs.declared.node.Node.{Node}
 use Rattle.station_run.specs.declared.node.NodeRun.{NodeRun}
 use Rattle.station_run.specs.declared.node.Place.{Place}
-use Rattle.station_run.specs.NodeRuns.{IsUnopened, Runs, RunsOpen, RunsOver, WritesAt, tracing, whole_text}
+use Rattle.station_run.specs.NodeRuns.{IsUnopened, RunsStation, RunsOpen, RunsOver, WritesAt, tracing, whole_text}
 use Rattle.node_machine.specs.Kept.{MachineKept}
 use Rattle.node_machine.specs.NodeState.{NodeStands, opening_state}
 use Rattle.gasnet_trace.specs.Lines.{spell}
@@ -27,9 +27,9 @@ use Rattle.gasnet_trace.specs.TraceText.{head_text}
 use Rattle.node_call.specs.Seen.{ClockSeen, DevicesSeen, LinkSeen, clock_seen, devices_seen, link_seen, sieved}
 use Rattle.node_call.specs.Seen.{seen_clocks, seen_links, seen_recorders}
 use Rattle.node_call.specs.Sieved.{Datagrams}
-use Rattle.node_call.specs.NodeLeaves.{NodeLeaves, Post, has_noted, node_at, node_lines, node_machines, place_of}
+use Rattle.node_call.specs.NodeLeaves.{NodeLeaves, Post, has_noted, node_at, node_lines, node_machines, place_in_job}
 use Rattle.node_call.specs.NodeLeaves.{record_after}
-use Rattle.node_call.specs.NodeEnds.{EndsAt, EndsNode, EndsSo, EndsUnwritten, IsReady, end_for, node_for, unmade}
+use Rattle.node_call.specs.NodeEnds.{EndsAt, EndsNode, EndsSo, EndsUnwritten, IsReadyNode, end_for, node_for, unmade}
 use Rattle.node_call.specs.declared.calling.NodeRan.{NodeRan}
 use Rattle.node_call.specs.declared.sieved.Sieved.{Sieved}
 use Rattle.node_call.proofs.Behind.{is_behind, is_first, sieved_links, told_first}
@@ -82,7 +82,7 @@ module _ (post : Post) (before after : DevicesSeen) (journal : List Entry)
   }
 
   -- how it ended
-  ends_by : (end : End) (written : Wrote) → left.end ≡ end → WritesAt (place_of post) journal old new end written
+  ends_by : (end : End) (written : Wrote) → left.end ≡ end → WritesAt (place_in_job post) journal old new end written
       → EndsNode post before after old new (end_for end written violated)
       (node_for (end_for end written violated) left.machine.endpoint)
   ends_by stations.NoMemory written is went = record {
@@ -117,7 +117,7 @@ module _ {L C K : Type 0} (l : LinkGhosts L) (c : ClockGhosts C) (k : SinkGhosts
   seen_of node = since (told_first l node.link) behind
 
   -- what is seen of the node before it runs
-  same_node : (node : Node MachineKept (Sieved L l) C) → IsReady l post link clock node
+  same_node : (node : Node MachineKept (Sieved L l) C) → IsReadyNode l post link clock node
       → node_seen (seen_of node) c node ≡ node_at post node.machine (devices_seen l c link clock)
   same_node node ready =
       let told = told_first l node.link in
@@ -137,7 +137,7 @@ module _ {L C K : Type 0} (l : LinkGhosts L) (c : ClockGhosts C) (k : SinkGhosts
         patience = n.patience;
       } in
       let over : LinkSeen → Node MachineKept LinkSeen ClockSeen = λ s. record {
-        place = place_of post;
+        place = place_in_job post;
         machine = node.machine;
         link = s;
         clock = clock_seen c clock;
@@ -148,7 +148,7 @@ module _ {L C K : Type 0} (l : LinkGhosts L) (c : ClockGhosts C) (k : SinkGhosts
   -- what is left, by what is seen of the devices
   abbrev node_leaves : (node : Node MachineKept (Sieved L l) C) (opened : Gathering K) (journal : List Entry)
       (left : Ended MachineKept (Sieved L l) C (Gathering K))
-      → IsReady l post link clock node
+      → IsReadyNode l post link clock node
       → RunsOver node_machines behind c (tracing k) node opened journal left
       → NodeLeaves post (devices_seen l c link clock) (devices_seen l c left.link.sieve.inner left.clock) journal
       (left_seen (seen_of node) c k left)
@@ -172,12 +172,13 @@ module _ {L C K : Type 0} (l : LinkGhosts L) (c : ClockGhosts C) (k : SinkGhosts
         clock = refl;
       }
 
-  place_is : (node : Node MachineKept (Sieved L l) C) → IsReady l post link clock node → node.place ≡ place_of post
+  place_is : (node : Node MachineKept (Sieved L l) C) → IsReadyNode l post link clock node
+      → node.place ≡ place_in_job post
   place_is node ready = ap (λ (n : Node MachineKept (Sieved L l) C). n.place) ready.node_is
 
   -- how the run of a node ended into whose sink the first lines of its trace went
   ends_open : (node : Node MachineKept (Sieved L l) C) (run : NodeRun MachineKept (Sieved L l) C K) (ran : NodeRan L C K)
-      → IsReady l post link clock node → RunsOpen node_machines behind c k node sink run
+      → IsReadyNode l post link clock node → RunsOpen node_machines behind c k node sink run
       → EndsSo l run.left run.wrote ran
       → EndsNode post (devices_seen l c link clock) (devices_seen l c ran.link ran.clock) (sink_seen k sink)
       (sink_seen k ran.sink) ran.end ran.node
@@ -200,7 +201,7 @@ module _ {L C K : Type 0} (l : LinkGhosts L) (c : ClockGhosts C) (k : SinkGhosts
   -- the sink failed before
   ends_unopened : (node : Node MachineKept (Sieved L l) C) (run : NodeRun MachineKept (Sieved L l) C K)
       (ran : NodeRan L C K)
-      → IsReady l post link clock node → IsUnopened k node sink run → EndsSo l run.left run.wrote ran
+      → IsReadyNode l post link clock node → IsUnopened k node sink run → EndsSo l run.left run.wrote ran
       → EndsNode post (devices_seen l c link clock) (devices_seen l c ran.link ran.clock) (sink_seen k sink)
       (sink_seen k ran.sink) ran.end ran.node
   ends_unopened node run ran ready un ends =
@@ -225,7 +226,7 @@ module _ {L C K : Type 0} (l : LinkGhosts L) (c : ClockGhosts C) (k : SinkGhosts
   -- how the run of a node ended that was ready
   pub ends_node : (node : Node MachineKept (Sieved L l) C) (run : NodeRun MachineKept (Sieved L l) C K)
       (ran : NodeRan L C K)
-      → IsReady l post link clock node → Runs node_machines behind c k node sink run
+      → IsReadyNode l post link clock node → RunsStation node_machines behind c k node sink run
       → EndsSo l run.left run.wrote ran
       → EndsNode post (devices_seen l c link clock) (devices_seen l c ran.link ran.clock) (sink_seen k sink)
       (sink_seen k ran.sink) ran.end ran.node

@@ -7,7 +7,7 @@ use Rattle.gas_outside.specs.declared.clock.Clock.{Ghosts as ClockGhosts}
 use Rattle.machine.specs.declared.entry.Entry.{Entry}
 use Rattle.machine.specs.declared.turns.Machine.{Ghosts as MachineGhosts}
 use Rattle.endpoint_lock.specs.declared.ends.Ended.{Ended}
-use Rattle.endpoint_lock.specs.Leaving.{Leaves, LeavesReplay}
+use Rattle.endpoint_lock.specs.Leaving.{StationLeaves, LeavesReplay}
 use Rattle.endpoint_lock.specs.StationState.{Opening}
 use Rattle.station_run.specs.declared.node.Node.{Node}
 use Rattle.station_run.specs.NodeRuns.{IsUnbound, RunsBound, RunsOver, opening_over, tracing}
@@ -70,8 +70,8 @@ module _ {M L C K : Type 0} (m : MachineGhosts M) (l : LinkGhosts L) (c : ClockG
   }
 
   abbrev see_leaves : (opening : Opening M L C (Gathering K)) (left : Ended M L C (Gathering K))
-      → Leaves m l c (tracing k) opening left
-      → Leaves m seen_links seen_clocks seen_recorders (opening_seen l c k opening) (left_seen l c k left)
+      → StationLeaves m l c (tracing k) opening left
+      → StationLeaves m seen_links seen_clocks seen_recorders (opening_seen l c k opening) (left_seen l c k left)
   see_leaves opening left h = record {
     journal = h.journal;
     threads = h.threads;

@@ -7,7 +7,7 @@ use Rattle.std.proofs.lemmas.List.Sums.{fold-append}
 use Rattle.gas_outside.specs.Faults.{one_more, Rose}
 use Rattle.gas_outside.specs.Told.{and_all, and_then}
 use Rattle.gas_outside.specs.Link.{SentTold}
-use Rattle.gas_outside.specs.Sieve.{Sieving, Follows, KeepsInner, is_plain, next_plan, numbered}
+use Rattle.gas_outside.specs.Sieve.{Sieving, Follows, KeepsInner, is_plain_sieve, next_plan, numbered}
 use Rattle.gas_outside.specs.declared.link.Link.{Ghosts as LinkGhosts}
 use Rattle.gas_outside.specs.declared.link.LinkAnswer.{LinkAnswer}
 use Rattle.gas_outside.specs.declared.link.LinkAnswer.TheVariants as answer
@@ -65,13 +65,13 @@ module _ {L : Type 0} (links : LinkGhosts L) (first : L) (handed : Datagrams) (o
       (unheld : old.swap ≡ 0 → old.held ≡ None) where
     -- where the numbers are 0 the link was sent the datagram
     plain_sent : (said : LinkAnswer) → Follows links (next_plan old datagram) (numbered old) said new
-        → is_plain old ≡ true → is_plain new ≡ true
+        → is_plain_sieve old ≡ true → is_plain_sieve new ≡ true
         → SentTold said datagram (links.sent old.inner) (links.sent new.inner)
     plain_sent said follows was is =
         let told_so = told_sent links datagram old new said unheld follows in
         subst (λ plain. SentTold said datagram (links.sent old.inner) (if plain then links.sent new.inner else None)) is
         (subst (λ plain. SentTold said datagram (if plain then links.sent old.inner else None)
-        (if is_plain new then links.sent new.inner else None)) was told_so)
+        (if is_plain_sieve new then links.sent new.inner else None)) was told_so)
 
     -- it did what its plan says
     pub hands : Follows links (next_plan old datagram) (numbered old) answer.Done new
@@ -79,7 +79,7 @@ module _ {L : Type 0} (links : LinkGhosts L) (first : L) (handed : Datagrams) (o
     hands follows =
         let plan = next_plan old datagram in
         let after : Sieving L = record old { inner = new.inner; number = one_more old.number; held = plan.held } in
-        let plain_too : is_plain after ≡ is_plain new = sym (ap is_plain follows.rest) in
+        let plain_too : is_plain_sieve after ≡ is_plain_sieve new = sym (ap is_plain_sieve follows.rest) in
         let now : IsSieved links first (handed ++ datagram ∷ []) after = record {
           later = more_later _ _ _ told.later kept.later;
           plain = λ plain.
@@ -114,8 +114,8 @@ module _ {L : Type 0} (links : LinkGhosts L) (first : L) (handed : Datagrams) (o
     fails follows = record {
       later = more_later _ _ _ told.later kept.later;
       plain = λ plain.
-          plain_sent answer.Failed follows (sym (ap is_plain follows.rest) ∙ plain) plain
-          ∙ told.plain (sym (ap is_plain follows.rest) ∙ plain);
+          plain_sent answer.Failed follows (sym (ap is_plain_sieve follows.rest) ∙ plain) plain
+          ∙ told.plain (sym (ap is_plain_sieve follows.rest) ∙ plain);
       sifts = λ none. absurd (none (rose_since _ _ _ told.later follows.rose));
     }
 

@@ -14,7 +14,7 @@ use Rattle.endpoint_lock.specs.declared.ends.End.TheVariants.{Over, Stuck, LinkF
 use Rattle.endpoint_lock.specs.declared.ends.Ended.{Ended}
 use Rattle.endpoint_lock.specs.declared.recorder.Recorder.{Ghosts as RecorderGhosts}
 use Rattle.endpoint_lock.specs.Facts.{Ahead, SentShort, WentOn}
-use Rattle.endpoint_lock.specs.Leaving.{IsShort, Leaves, LeavesReplay}
+use Rattle.endpoint_lock.specs.Leaving.{IsShort, StationLeaves, LeavesReplay}
 use Rattle.endpoint_lock.specs.StationState.{Opening}
 use Rattle.station_run.specs.declared.node.Node.{Node}
 use Rattle.station_run.specs.NodeRuns.{IsUnbound, RunsBound, RunsOver, opening_over}
@@ -61,7 +61,7 @@ module _ {M L C D : Type 0} (m : MachineGhosts M) (l : LinkGhosts L) (c : ClockG
   }
 
   abbrev skip_leaves : (opening : Opening M L C D) (left : Ended M L C D) → l.sent opening.link ≡ Some told
-      → Leaves m l c d opening left → Leaves m (since told l) c d opening left
+      → StationLeaves m l c d opening left → StationLeaves m (since told l) c d opening left
   skip_leaves opening left was h = record {
     journal = h.journal;
     threads = h.threads;

@@ -15,9 +15,9 @@ use Rattle.endpoint_lock.specs.declared.ends.Ended.{Ended}
 use Rattle.station_run.specs.declared.node.Node.{Node}
 use Rattle.node_machine.specs.Kept.{MachineKept}
 use Rattle.node_machine.specs.NodeState.{NodeStands, opening_state}
-use Rattle.node_call.specs.Sieved.{IsFresh}
+use Rattle.node_call.specs.Sieved.{IsFreshSieve}
 use Rattle.node_call.specs.Seen.{ClockSeen, DevicesSeen, LinkSeen}
-use Rattle.node_call.specs.NodeLeaves.{NodeLeaves, Post, has_noted, node_lines, node_open, place_of, record_after}
+use Rattle.node_call.specs.NodeLeaves.{NodeLeaves, Post, has_noted, node_lines, node_open, place_in_job, record_after}
 use Rattle.node_call.specs.declared.calling.NodeEnd.{NodeEnd}
 use Rattle.node_call.specs.declared.calling.NodeEnd.TheVariants as ends
 use Rattle.node_call.specs.declared.calling.NodeRan.{NodeRan}
@@ -141,12 +141,12 @@ unmade link clock sink = record { end = ends.NoMemory; node = None; link = link;
 
 -- a node was made ready to run, over this link behind its job's sieve, to which nothing was handed yet: its machine
 -- stands for the node before all turns
-pub record IsReady {L C : Type 0} (links : LinkGhosts L) (post : Post) (link : L) (clock : C)
+pub record IsReadyNode {L C : Type 0} (links : LinkGhosts L) (post : Post) (link : L) (clock : C)
     (node : Node MachineKept (Sieved L links) C) : Type 0 where
   pub opens : NodeStands node.machine (opening_state post.job post.rank)
-  pub fresh : IsFresh post.job.sieve link node.link.sieve node.link.first.value node.link.handed.datagrams
+  pub fresh : IsFreshSieve post.job.sieve link node.link.sieve node.link.first.value node.link.handed.datagrams
   pub node_is : node ≡ record {
-    place = place_of post;
+    place = place_in_job post;
     machine = node.machine;
     link = node.link;
     clock = clock;

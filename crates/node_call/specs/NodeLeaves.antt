@@ -45,8 +45,8 @@ node_machines = record {
 }
 
 -- its place in the job, and the version of its trace's text
-abbrev pub place_of : Post → Place
-place_of post = record {
+abbrev pub place_in_job : Post → Place
+place_in_job post = record {
   version = post.job.settings.version;
   job = post.job.settings.job;
   rank = post.rank;
@@ -57,7 +57,7 @@ place_of post = record {
 -- the node before it runs, with this machine, over these devices
 abbrev pub node_at : Post → MachineKept → DevicesSeen → Node MachineKept LinkSeen ClockSeen
 node_at post machine devices = record {
-  place = place_of post;
+  place = place_in_job post;
   machine = machine;
   link = sieved devices.link;
   clock = devices.clock;
@@ -90,8 +90,8 @@ has_noted node = not ((log_of node.local.core.violations).count == 0)
 
 -- the lines of the node's trace
 abbrev pub node_lines : Post → List Entry → List Line
-node_lines post journal = trace_lines post.job.settings.version (trace_of (place_of post) journal)
+node_lines post journal = trace_lines post.job.settings.version (trace_of (place_in_job post) journal)
 
 -- the same without the last one
 abbrev pub node_open : Post → List Entry → List Line
-node_open post journal = open_lines (place_of post) journal
+node_open post journal = open_lines (place_in_job post) journal

@@ -73,8 +73,8 @@ seen_recorders = record { outbox = λ outbox. outbox; text = λ entry. line_text
 -- ---- a link behind a sieve
 
 -- the sieve lets everything pass: its numbers are 0 0 0
-abbrev pub is_plain : SieveRule → Bool
-is_plain rule = (rule.lose == 0) && (rule.repeat == 0) && (rule.swap == 0)
+abbrev pub is_plain_rule : SieveRule → Bool
+is_plain_rule rule = (rule.lose == 0) && (rule.repeat == 0) && (rule.swap == 0)
 
 -- a sieve before the link, to which nothing was handed yet: what it tells as sent is what was handed to it
 abbrev pub sieved : LinkSeen → LinkSeen
@@ -90,7 +90,7 @@ pub record IsBehind (rule : SieveRule) (before : LinkSeen) (sieve after : LinkSe
   pub bound : sieve.bound ≡ after.bound
   pub sent : (Rose before.faults after.faults → ⊥)
       → ForSome sieve.sent (λ handed. after.sent ≡ and_all before.sent (sieved_by rule handed))
-  pub plain : is_plain rule ≡ true → ForSome sieve.sent (λ handed. after.sent ≡ and_all before.sent handed)
+  pub plain : is_plain_rule rule ≡ true → ForSome sieve.sent (λ handed. after.sent ≡ and_all before.sent handed)
   pub received : sieve.received ≡ after.received
   pub waiting : sieve.waiting ≡ after.waiting
   pub faults : sieve.faults ≡ after.faults

@@ -1,7 +1,7 @@
 -- What a sieve sends of the datagrams that are handed to it.
 use Rattle.std.specs.Prelude.{◌≡◌, ℕ, ◌≤◌, true, List, [], ◌∷◌, ◌++◌, fold, length, Option, None, Some, unwrap_or}
 use Rattle.gas_outside.specs.Faults.{one_more, Rose}
-use Rattle.gas_outside.specs.Sieve.{Sieving, is_plain, next_plan}
+use Rattle.gas_outside.specs.Sieve.{Sieving, is_plain_sieve, next_plan}
 use Rattle.gas_outside.specs.Told.{and_all}
 use Rattle.job_text.specs.declared.job.SieveRule.{SieveRule}
 use Rattle.gas_outside.specs.declared.link.Link.{Ghosts as LinkGhosts}
@@ -55,11 +55,11 @@ pub record HasSifted {L : Type 0} (links : LinkGhosts L) (first : L) (handed : D
 pub record IsSieved {L : Type 0} (links : LinkGhosts L) (first : L) (handed : Datagrams) (sieve : Sieving L)
     : Type 0 where
   pub later : links.faults first ≤ links.faults sieve.inner
-  pub plain : is_plain sieve ≡ true → links.sent sieve.inner ≡ and_all (links.sent first) handed
+  pub plain : is_plain_sieve sieve ≡ true → links.sent sieve.inner ≡ and_all (links.sent first) handed
   pub sifts : (Rose (links.faults first) (links.faults sieve.inner) → ⊥) → HasSifted links first handed sieve
 
 -- nothing was handed yet to this sieve, which has this rule and stands before this link
-pub record IsFresh {L : Type 0} (rule : SieveRule) (link : L) (sieve : Sieving L) (first : L) (handed : Datagrams)
+pub record IsFreshSieve {L : Type 0} (rule : SieveRule) (link : L) (sieve : Sieving L) (first : L) (handed : Datagrams)
     : Type 0 where
   pub sieve_is : sieve ≡ before_all rule link
   pub first_is : first ≡ link

@@ -3,7 +3,7 @@
 ghost use Rattle.std.specs.Prelude.{◌≡◌, ◌<◌, MatchResult};
 ghost use Rattle.gas_outside.specs.Buffered.{outbox};
 ghost use Rattle.job_text.specs.JobText.{IsJob};
-ghost use Rattle.node_call.specs.NodeEnds.{EndsNode, EndsSo, IsReady, end_for, node_for, unmade};
+ghost use Rattle.node_call.specs.NodeEnds.{EndsNode, EndsSo, IsReadyNode, end_for, node_for, unmade};
 ghost use Rattle.node_call.specs.NodeLeaves.{post_of};
 ghost use Rattle.node_call.specs.Seen.{devices_seen};
 
@@ -130,7 +130,7 @@ fn ready<'a, L: Link, C>(
     requires job { IsJob node.job.now }
     requires rank { node.rank < node.job.now.settings.nodes }
     ensures { MatchResult result
-        (IsReady L.Link (post_of node.entry.job.now node.entry.rank node.entry.port) link clock)
+        (IsReadyNode L.Link (post_of node.entry.job.now node.entry.rank node.entry.port) link clock)
         (λ devices. devices ≡ (link, clock)) }
 {
     let NodeOf { job, rank, port } = node;

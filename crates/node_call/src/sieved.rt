@@ -1,7 +1,7 @@
 //! A sieve before a link, with what was handed to it.
 
 ghost use Rattle.std.specs.Prelude.{◌≡◌, MatchResult};
-ghost use Rattle.node_call.specs.Sieved.{IsFresh, IsSieved};
+ghost use Rattle.node_call.specs.Sieved.{IsFreshSieve, IsSieved};
 
 use crate::handed::Handed;
 use gas_outside::{Link, LinkAnswer, Received, Sieve};
@@ -25,7 +25,7 @@ impl<L: Link> Sieved<L> {
     /// A sieve before this link, to which nothing was handed yet. For want of memory it hands the link back.
     pub fn new(alloc: Global, link: L, rule: SieveRule) -> Result<Sieved<L>, L>
         ensures { MatchResult result
-            (λ made. IsFresh rule link made.sieve made.first.value
+            (λ made. IsFreshSieve rule link made.sieve made.first.value
             made.handed.datagrams)
             (λ back. back ≡ link) }
     {

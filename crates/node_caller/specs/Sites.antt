@@ -36,18 +36,18 @@ abbrev pub called_by : (thread : ℕ) → Call → ThreadCall
 called_by thread call = record { thread = thread; call = meant call }
 
 -- the event of the node that it is
-abbrev pub event_of : ThreadCall → RecordEvent
-event_of call = node_event call.thread call.call
+abbrev pub record_event_of : ThreadCall → RecordEvent
+record_event_of call = node_event call.thread call.call
 
 -- ---- one call
 
 -- how a node with this record answers it
 abbrev pub answer_at : Site → Node EndpointLocal → ThreadCall → Answer
-answer_at site node call = told (node_answer (job_at site) site.node node site.now (event_of call))
+answer_at site node call = told (node_answer (job_at site) site.node node site.now (record_event_of call))
 
 -- the record that it leaves
 abbrev pub node_then : Site → Node EndpointLocal → ThreadCall → Node EndpointLocal
-node_then site node call = node_after (job_at site) site.node node site.now (event_of call)
+node_then site node call = node_after (job_at site) site.node node site.now (record_event_of call)
 
 -- ---- calls, one after another
 

@@ -49,7 +49,8 @@ pub trait Caller {
         ensures lent { lent self.new ≡ lent self.old }
         ensures answered { (answer : AnAnswer) → result ≡ Called.Answer answer
             → (whole : Whole) → stands self.old whole
-            → (answer ≡ answer_at (site self.old) (record_in (site self.old) whole) (called_by thread call.now))
+            → (answer ≡ answer_at (site self.old) (record_in (site self.old) whole)
+            (called_by thread call.now))
             × stands self.new (after (site self.old) whole (called_by thread call.now)) }
         ensures no_memory { result ≡ Called.NoMemory
             → (whole : Whole) → stands self.old whole

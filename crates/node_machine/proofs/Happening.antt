@@ -28,7 +28,7 @@ use Rattle.gas_endpoint.specs.EndpointState.{EndpointState, EndpointStands, Node
 use Rattle.gas_endpoint.specs.Sends.{AreThatOf, NodeSends}
 use Rattle.node_runs.specs.Fitting.{AreBytes}
 use Rattle.node_runs.specs.Laws.{GotBytes}
-use Rattle.node_runs.specs.Outgoing.{slot_of, StaysWell}
+use Rattle.node_runs.specs.Outgoing.{slot_of_packet, StaysWell}
 use Rattle.node_runs.specs.Turn.{node_run, node_sends, coming, comes, before_try}
 use Rattle.script_steps.specs.Tries.{EndpointJob, Happening, HasHappened, Happen, IsAtSameNode}
 use Rattle.node_machine.specs.Parts.{at_once}
@@ -109,9 +109,9 @@ happen_then meaning old mid new first second one A B = record {
         stands = subst (EndpointStands new)
             (sym (run-append job me first.now (first.events node) (second.events between) node)) b.stands;
         slots_are = ap₂ (λ (p q : List SlotRef). p ++ q) a.slots_are b.slots_are
-            ∙ (sym (map-append slot_of (node_sends job me first.now (first.events node) node)
+            ∙ (sym (map-append slot_of_packet (node_sends job me first.now (first.events node) node)
             (node_sends job me first.now (second.events between) between))
-            ∙ ap (map slot_of)
+            ∙ ap (map slot_of_packet)
             (sym (sends-append job me first.now (first.events node) (second.events between) node)));
         well = well-append job (IsEndpointKept old.core.settings) me first.now (first.events node)
             (second.events between) node a.well b.well;
@@ -133,10 +133,10 @@ well_of endpoint node stands = record {
 
 -- the slots of the messages that an event sent
 slots_there : (at : Option SlotRef) (packets : List Packet) → AreThatOf at packets
-    → option_to_list at ≡ map slot_of (packets ++ [])
-slots_there None packets are = ap (λ (l : List Packet). map slot_of (l ++ [])) (sym are)
+    → option_to_list at ≡ map slot_of_packet (packets ++ [])
+slots_there None packets are = ap (λ (l : List Packet). map slot_of_packet (l ++ [])) (sym are)
 slots_there (Some at) packets are =
-    ap (λ (s : SlotRef). s ∷ []) (sym are.2) ∙ ap (λ (l : List Packet). map slot_of (l ++ [])) (sym are.1)
+    ap (λ (s : SlotRef). s ∷ []) (sym are.2) ∙ ap (λ (l : List Packet). map slot_of_packet (l ++ [])) (sym are.1)
 
 pub one_happens : (meaning : Meaning) (old new : EndpointState) (now : ℕ) (event : RecordEvent) (answer : Answer)
     → NodeSteps meaning old (transition now event answer) new → NodeSends meaning old (transition now event answer)

@@ -25,11 +25,11 @@ use Rattle.job_text.specs.declared.job.ScriptStep.{ScriptStep}
 use Rattle.gas_collectives.specs.CollectivesState.{CollectivesState}
 use Rattle.node_runs.specs.Actions.{Progress, OwnScripts, StepContext, collectives_then, step_context, tried_step}
 use Rattle.node_runs.specs.Laws.{GotBytes}
-use Rattle.node_runs.specs.Outgoing.{slot_of, SentStands}
+use Rattle.node_runs.specs.Outgoing.{slot_of_packet, SentStands}
 use Rattle.node_runs.specs.declared.script_answer.ScriptAnswer.{ScriptAnswer}
 use Rattle.node_runs.specs.Scripts.{NodeJob, Tried as FormTried}
 use Rattle.node_runs.specs.Turn.{MachineState, before_try, first_events, as_tried, turn_events, tried_answer}
-use Rattle.node_runs.specs.Turn.{node_run, is_some_there, datagram, receiver, message_of}
+use Rattle.node_runs.specs.Turn.{node_run, is_some_there, datagram, receiver, packet_message}
 use Rattle.node_runs.proofs.Outgoings.{sent_stand, turns_come_first}
 use Rattle.script_steps.specs.Forms.{step_form}
 use Rattle.script_steps.specs.Tries.{AreThere, Found, HasHappened, Happen, IsAtSameNode, context_here, step_here}
@@ -38,18 +38,18 @@ use Rattle.node_machine.specs.Kept.{CanBeSaid}
 use Rattle.node_machine.specs.Parts.{at_once}
 use Rattle.node_machine.specs.Scripted.{NextTrial, TriesNext, events_of_next, tried_next, as_said, progress_after}
 use Rattle.node_machine.specs.NodeState.{datagram_at, as_there}
-use Rattle.node_machine.specs.Turns.{slots_of, job_at, TurnTaken, turn_by, GoesAsTurn, TakesTurn}
+use Rattle.node_machine.specs.Turns.{slots_sent, job_of_endpoint, TurnTaken, turn_by, GoesAsTurn, TakesTurn}
 use Rattle.node_machine.specs.declared.turn.Done.{Done}
 use Rattle.node_machine.proofs.Happening.{happen_then, at_same, run-append, same_then}
 use Rattle.node_machine.proofs.Locks.{turn_keeps}
 
 -- ---- the slots of packets
 
-some_there : (packets : List Packet) → is_some_there (map slot_of packets) ≡ is_some_there packets
+some_there : (packets : List Packet) → is_some_there (map slot_of_packet packets) ≡ is_some_there packets
 some_there [] = refl
 some_there (packet ∷ packets) = refl
 
-peer_is : (packet : Packet) → (slot_of packet).peer ≡ receiver packet
+peer_is : (packet : Packet) → (slot_of_packet packet).peer ≡ receiver packet
 peer_is (Asking place content) = refl
 peer_is (Replying place content) = refl
 
@@ -62,8 +62,8 @@ there other packet packets h = (suc h.0, let low = h.1 in omega (arith, low), h.
 -- the datagrams at the slots of messages that stand there
 stand_there : (settings : Parameters) (me : ℕ) (node : Node EndpointLocal) (packets : List Packet)
     → ((packet : Packet) → Contains packets packet
-    → message_at settings me node (slot_of packet) ≡ Some (spelling (message_of settings packet)))
-    → map (datagram_at settings me node) (map slot_of packets) ≡ map as_there (map (datagram settings) packets)
+    → message_at settings me node (slot_of_packet packet) ≡ Some (spelling (packet_message settings packet)))
+    → map (datagram_at settings me node) (map slot_of_packet packets) ≡ map as_there (map (datagram settings) packets)
 stand_there settings me node [] stand = refl
 stand_there settings me node (packet ∷ packets) stand =
     ap₂ (λ (one : ℕ × Option (List ℕ)) (more : List (ℕ × Option (List ℕ))). one ∷ more)
@@ -77,10 +77,10 @@ tried_is : (meaning : Meaning) (old mid : EndpointState) (new : Found) (taken : 
     (state : MachineState EndpointLocal (OwnScripts ScriptStep)) (slots : List SlotRef) (tried : Tried)
     → EndpointStands old state.node
     → Happen meaning old
-    (at_once taken.now (first_events (job_at meaning old) state taken.thread taken.got) slots) mid
+    (at_once taken.now (first_events (job_of_endpoint meaning old) state taken.thread taken.got) slots) mid
     → TriesNext meaning (record { endpoint = mid; collectives = state.own.collectives })
     (record { now = taken.now; thread = taken.thread; progress = state.own.threads taken.thread }) tried new
-    → let job = job_at meaning old in
+    → let job = job_of_endpoint meaning old in
     let me = old.core.me in
     let node = as_tried job me state taken.thread taken.now taken.got in
     tried_step step_form (step_context (context_here meaning old taken.thread taken.now) state.own)
@@ -90,7 +90,7 @@ tried_is : (meaning : Meaning) (old mid : EndpointState) (new : Found) (taken : 
     (tried_answer job me state taken.thread taken.now taken.got)
     ≡ as_said (record { now = taken.now; thread = taken.thread; progress = state.own.threads taken.thread }) tried
 tried_is meaning old mid new taken state slots tried stands before tries =
-    let job = job_at meaning old in
+    let job = job_of_endpoint meaning old in
     let me = old.core.me in
     let trial : NextTrial =
     record { now = taken.now; thread = taken.thread; progress = state.own.threads taken.thread } in
@@ -112,15 +112,15 @@ far_is : (meaning : Meaning) (old mid : EndpointState) (new : Found) (taken : Tu
     (state : MachineState EndpointLocal (OwnScripts ScriptStep)) (slots : List SlotRef) (tried : Tried)
     → EndpointStands old state.node
     → Happen meaning old
-    (at_once taken.now (first_events (job_at meaning old) state taken.thread taken.got) slots) mid
+    (at_once taken.now (first_events (job_of_endpoint meaning old) state taken.thread taken.got) slots) mid
     → TriesNext meaning (record { endpoint = mid; collectives = state.own.collectives })
     (record { now = taken.now; thread = taken.thread; progress = state.own.threads taken.thread }) tried new
     → new.collectives
     ≡ collectives_then step_form (step_context (context_here meaning old taken.thread taken.now) state.own)
     (state.own.threads taken.thread).began (state.own.threads taken.thread).left
-    (as_tried (job_at meaning old) old.core.me state taken.thread taken.now taken.got)
+    (as_tried (job_of_endpoint meaning old) old.core.me state taken.thread taken.now taken.got)
 far_is meaning old mid new taken state slots tried stands before tries =
-    let node = as_tried (job_at meaning old) old.core.me state taken.thread taken.now taken.got in
+    let node = as_tried (job_of_endpoint meaning old) old.core.me state taken.thread taken.now taken.got in
     let progress = state.own.threads taken.thread in
     let at : StepContext = step_context (context_here meaning old taken.thread taken.now) state.own in
     at_same old.core mid.core (λ settings table me.
@@ -166,14 +166,14 @@ state_goes : (meaning : Meaning) (old mid : EndpointState) (new : Found) (taken 
     (state : MachineState EndpointLocal (OwnScripts ScriptStep)) (slots : List SlotRef) (tried : Tried) (done : Done)
     → IsLawfulMeaning meaning → GotBytes taken.got → EndpointStands old state.node
     → Happen meaning old
-    (at_once taken.now (first_events (job_at meaning old) state taken.thread taken.got) slots) mid
+    (at_once taken.now (first_events (job_of_endpoint meaning old) state taken.thread taken.got) slots) mid
     → TriesNext meaning (record { endpoint = mid; collectives = state.own.collectives })
     (record { now = taken.now; thread = taken.thread; progress = state.own.threads taken.thread }) tried new
-    → slots_of done.outgoing ≡ slots ++ option_to_list tried.sent → done.ended ≡ tried.ended
+    → slots_sent done.outgoing ≡ slots ++ option_to_list tried.sent → done.ended ≡ tried.ended
     → done.began ≡ is_some tried.began
-    → GoesAsTurn (job_at meaning old) old.core.me taken state done
-    × EndpointStands new.endpoint (turn_by (job_at meaning old) old.core.me taken state).after.node
-    × ((turn_by (job_at meaning old) old.core.me taken state).after.own
+    → GoesAsTurn (job_of_endpoint meaning old) old.core.me taken state done
+    × EndpointStands new.endpoint (turn_by (job_of_endpoint meaning old) old.core.me taken state).after.node
+    × ((turn_by (job_of_endpoint meaning old) old.core.me taken state).after.own
     ≡ record {
       threads = put state.own.threads taken.thread (progress_after (state.own.threads taken.thread) tried);
       collectives = new.collectives;
@@ -181,15 +181,15 @@ state_goes : (meaning : Meaning) (old mid : EndpointState) (new : Found) (taken 
 state_goes meaning old mid new taken state slots tried done lawful bytes stands before tries slots_is ended_is
     began_is =
     let it = turn_by job me taken state in
-    let sent : slots_of done.outgoing ≡ map slot_of it.packets = slots_is ∙ all.slots_are in (
+    let sent : slots_sent done.outgoing ≡ map slot_of_packet it.packets = slots_is ∙ all.slots_are in (
       record {
         ended = ap (λ (t : FormTried (Progress ScriptStep)). t.ended) went ∙ sym ended_is;
-        changed = same_changed (is_some taken.got) (is_some_there (slots_of done.outgoing)) (is_some_there it.packets)
+        changed = same_changed (is_some taken.got) (is_some_there (slots_sent done.outgoing)) (is_some_there it.packets)
             (is_some done.ended) done.began _ _
             (ap is_some_there sent ∙ some_there it.packets)
             (ap is_some (ended_is ∙ sym (ap (λ (t : FormTried (Progress ScriptStep)). t.ended) went)))
             (began_is ∙ sym (ap (λ (t : FormTried (Progress ScriptStep)). t.began) went));
-        sends = sym (length-map it.packets slot_of) ∙ ap length (sym sent);
+        sends = sym (length-map it.packets slot_of_packet) ∙ ap length (sym sent);
         sent = subst (λ (l : List SlotRef). map (datagram_at settings me it.after.node) l
             ≡ map as_there (map (datagram settings) it.packets)) (sym sent)
             (stand_there settings me it.after.node it.packets stood);
@@ -205,7 +205,7 @@ state_goes meaning old mid new taken state slots tried done lawful bytes stands 
     )
   where
     job : NodeJob EndpointLocal (OwnScripts ScriptStep)
-    job = job_at meaning old
+    job = job_of_endpoint meaning old
 
     me : ℕ
     me = old.core.me
@@ -298,7 +298,7 @@ pub turn_goes : (meaning : Meaning) (old : Found) (mid : EndpointState) (new : F
     (at_once taken.now (before_try old.endpoint.core.settings.version polls taken.got) slots) mid
     → TriesNext meaning (record { endpoint = mid; collectives = old.collectives })
     (record { now = taken.now; thread = taken.thread; progress = progress }) tried new
-    → slots_of done.outgoing ≡ slots ++ option_to_list tried.sent → done.ended ≡ tried.ended
+    → slots_sent done.outgoing ≡ slots ++ option_to_list tried.sent → done.ended ≡ tried.ended
     → done.began ≡ is_some tried.began
     → TakesTurn meaning (old, progress) taken done (new, progress_after progress tried)
 turn_goes meaning old mid new taken progress polls slots tried done lawful bytes polled before tries slots_is ended_is

@@ -20,8 +20,8 @@ use Rattle.script_steps.specs.Forms.{step_form}
 use Rattle.node_machine.specs.NodeState.{NodeState, state_of, script_job, scripts_at, state_steps, opening_state}
 
 -- the nodes of a job before all turns, each with its trace: the node of rank i is in its opening state
-abbrev pub nodes_of : JobState → (traces : List (List Entry)) → List (Node NodeState)
-nodes_of job traces = map (carried (state_of job)) (nodes_with job.settings (scripts_at job) traces)
+abbrev pub nodes_of_job : JobState → (traces : List (List Entry)) → List (Node NodeState)
+nodes_of_job job traces = map (carried (state_of job)) (nodes_with job.settings (scripts_at job) traces)
 
 -- the node of this rank before all turns, with its trace
 abbrev pub opening_node : JobState → (me : ℕ) → (trace : List Entry) → Node NodeState
@@ -31,7 +31,7 @@ opening_node job me trace = record { state = opening_state job me; entries = tra
 abbrev pub NodesOpen : Type 0
 NodesOpen =
     (job : JobState) (traces : List (List Entry)) (node : ℕ)
-    → slice_get (nodes_of job traces) node ≡ option_map (opening_node job node) (slice_get traces node)
+    → slice_get (nodes_of_job job traces) node ≡ option_map (opening_node job node) (slice_get traces node)
 
 -- the state after the entries of a trace is the replay of the node's record and scripts by `node_runs`, in which what a
 -- run of the world leaves each node is told
@@ -43,7 +43,7 @@ StatesReplay =
 
 -- the order of the entries that a list of ranks gives
 abbrev pub order_by : JobState → (traces : List (List Entry)) → (ranks : List ℕ) → List NodeEntry
-order_by job traces ranks = order_of (nodes_of job traces) (start (nodes_of job traces)) ranks
+order_by job traces ranks = order_of (nodes_of_job job traces) (start (nodes_of_job job traces)) ranks
 
 -- these entries, in this order, are a run of the job's world, whose turns are these events
 abbrev pub IsRunOf : JobState → List NodeEntry → (turns : List (List (Timed OtherCall))) → Type 0
@@ -57,7 +57,7 @@ abbrev pub AreTracesARun : Type 0
 AreTracesARun =
     (job : JobState) (traces : List (List Entry)) (ranks : List ℕ)
     → IsJob job → length traces ≤ job.settings.nodes
-    → Reaches state_steps (nodes_of job traces) ranks (full (nodes_of job traces))
+    → Reaches state_steps (nodes_of_job job traces) ranks (full (nodes_of_job job traces))
     → (turns : List (List (Timed OtherCall)))
     × IsRunOf job (order_by job traces ranks) turns
     × ((node : ℕ) (trace : List Entry) → slice_get traces node ≡ Some trace

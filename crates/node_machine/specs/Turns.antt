@@ -21,12 +21,12 @@ use Rattle.node_machine.specs.declared.outgoing.Outgoing.{Outgoing}
 use Rattle.node_machine.specs.declared.turn.Done.{Done}
 
 -- the slots, in the order in which their messages go
-abbrev pub slots_of : Outgoing → List SlotRef
-slots_of outgoing = option_to_list outgoing.reply ++ option_to_list outgoing.tick ++ option_to_list outgoing.call
+abbrev pub slots_sent : Outgoing → List SlotRef
+slots_sent outgoing = option_to_list outgoing.reply ++ option_to_list outgoing.tick ++ option_to_list outgoing.call
 
 -- the job of an endpoint with handlers that do this
-abbrev pub job_at : Meaning → EndpointState → NodeJob EndpointLocal (OwnScripts ScriptStep)
-job_at meaning endpoint =
+abbrev pub job_of_endpoint : Meaning → EndpointState → NodeJob EndpointLocal (OwnScripts ScriptStep)
+job_of_endpoint meaning endpoint =
     endpoint_job endpoint.core.settings endpoint.core.table meaning (scripts_of step_form)
 
 -- a turn of a thread
@@ -43,7 +43,7 @@ turn_by job me taken state = turn job me state taken.thread taken.now taken.got
 -- something was got or sent, or the step ended or began
 abbrev pub is_changed : TurnTaken → Done → Bool
 is_changed taken done =
-    is_some taken.got || is_some_there (slots_of done.outgoing) || is_some done.ended || done.began
+    is_some taken.got || is_some_there (slots_sent done.outgoing) || is_some done.ended || done.began
 
 -- of a state of the node: the turn goes to what the endpoint stands for then, and what it told is the turn's
 pub record GoesAsTurn
@@ -51,9 +51,9 @@ pub record GoesAsTurn
     (state : MachineState EndpointLocal (OwnScripts ScriptStep)) (done : Done) : Type 0 where
   pub ended : (try_of job me state taken.thread taken.now taken.got).ended ≡ done.ended
   pub changed : (turn_by job me taken state).changed ≡ is_changed taken done
-  pub sends : length (turn_by job me taken state).packets ≡ length (slots_of done.outgoing)
+  pub sends : length (turn_by job me taken state).packets ≡ length (slots_sent done.outgoing)
   -- each datagram stands in its slot
-  pub sent : map (datagram_at job.job.settings me (turn_by job me taken state).after.node) (slots_of done.outgoing)
+  pub sent : map (datagram_at job.job.settings me (turn_by job me taken state).after.node) (slots_sent done.outgoing)
       ≡ map as_there (map (datagram job.job.settings) (turn_by job me taken state).packets)
   -- it changes locks only where it ended its step
   pub locks : done.ended ≡ None
@@ -69,8 +69,8 @@ pub record TakesTurn
   pub goes : (state : MachineState EndpointLocal (OwnScripts ScriptStep))
       → EndpointStands old.0.endpoint state.node → state.own.threads taken.thread ≡ old.1
       → state.own.collectives ≡ old.0.collectives
-      → GoesAsTurn (job_at meaning old.0.endpoint) old.0.endpoint.core.me taken state done
+      → GoesAsTurn (job_of_endpoint meaning old.0.endpoint) old.0.endpoint.core.me taken state done
       × EndpointStands new.0.endpoint
-      (turn_by (job_at meaning old.0.endpoint) old.0.endpoint.core.me taken state).after.node
-      × ((turn_by (job_at meaning old.0.endpoint) old.0.endpoint.core.me taken state).after.own
+      (turn_by (job_of_endpoint meaning old.0.endpoint) old.0.endpoint.core.me taken state).after.node
+      × ((turn_by (job_of_endpoint meaning old.0.endpoint) old.0.endpoint.core.me taken state).after.own
       ≡ record { threads = put state.own.threads taken.thread new.1; collectives = new.0.collectives })

@@ -46,14 +46,14 @@ impl<'a> Model for NodeMachine<'a> {
 
     ghost use Rattle.node_machine.specs.Kept.{IsMachine};
     ghost use Rattle.node_machine.specs.Cursors.{progress_of_all};
-    ghost use Rattle.node_machine.specs.Turns.{slots_of};
+    ghost use Rattle.node_machine.specs.Turns.{slots_sent};
 
     ghost view = { λ m. record {
       job = m.job.now;
       endpoint = m.endpoint;
       collectives = m.collectives;
       scripts = progress_of_all m.cursors.items;
-      outgoing = slots_of m.outgoing;
+      outgoing = slots_sent m.outgoing;
       answer = m.answer;
     } };
 
@@ -62,7 +62,7 @@ impl<'a> Model for NodeMachine<'a> {
       endpoint = m.endpoint;
       collectives = m.collectives;
       scripts = progress_of_all m.cursors.items;
-      outgoing = slots_of m.outgoing;
+      outgoing = slots_sent m.outgoing;
       answer = m.answer;
     }) };
 }
@@ -178,7 +178,8 @@ impl<'a> NodeMachine<'a> {
     /// The endpoint alone.
     pub fn into_endpoint(self) -> Endpoint
         ensures is { result ≡ self.entry.endpoint }
-        ensures node { IsNodeOf self.entry.job.settings (registered (handlers_of self.entry.job)).table
+        ensures node { IsNodeOf self.entry.job.settings
+            (registered (handlers_of self.entry.job)).table
             result.core.me result }
     {
         let NodeMachine { endpoint, .. } = self;

@@ -3,7 +3,7 @@
 ghost use Rattle.std.specs.Prelude.{◌≡◌, ◌≤◌, length, slice_get};
 ghost use Rattle.std.specs.Option.{option_to_list};
 ghost use Rattle.node_runs.specs.Turn.{is_some_there};
-ghost use Rattle.node_machine.specs.Turns.{slots_of};
+ghost use Rattle.node_machine.specs.Turns.{slots_sent};
 
 use am_core::SlotRef;
 
@@ -36,14 +36,14 @@ impl Outgoing {
 
     /// A message was sent.
     pub fn is_any(&self) -> bool
-        ensures { result ≡ is_some_there (slots_of self.now) }
+        ensures { result ≡ is_some_there (slots_sent self.now) }
     {
         self.reply.is_some() || self.tick.is_some() || self.call.is_some()
     }
 
     /// How many messages there are.
     pub fn count(&self) -> u8
-        ensures count { result ≡ length (slots_of self.now) }
+        ensures count { result ≡ length (slots_sent self.now) }
         ensures few { result ≤ 3 }
     {
         count_of(self.reply) + count_of(self.tick) + count_of(self.call)
@@ -51,7 +51,7 @@ impl Outgoing {
 
     /// The slot of message `i`, counted from 0, if there are more than `i`.
     pub fn slot(&self, i: u8) -> Option<SlotRef>
-        ensures { result ≡ slice_get (slots_of self.now) i }
+        ensures { result ≡ slice_get (slots_sent self.now) i }
     {
         match (self.reply, self.tick) {
             (Some(reply), Some(tick)) => match i {

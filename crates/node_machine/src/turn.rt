@@ -8,7 +8,7 @@ ghost use Rattle.node_machine.specs.Cursors.{progress_of};
 ghost use Rattle.node_machine.specs.Scripted.{TriesNext};
 ghost use Rattle.node_runs.specs.Turn.{is_some_there};
 ghost use Rattle.script_steps.specs.Tries.{AreThere};
-ghost use Rattle.node_machine.specs.Turns.{TakesTurn, slots_of};
+ghost use Rattle.node_machine.specs.Turns.{TakesTurn, slots_sent};
 
 use crate::cursor::Cursor;
 use crate::outgoing::Outgoing;
@@ -47,7 +47,7 @@ pub struct Done {
 impl Done {
     /// Something was got or sent, or the step ended or began.
     pub fn is_change(&self, came: bool) -> bool
-        ensures { result ≡ (came || is_some_there (slots_of self.now.outgoing)
+        ensures { result ≡ (came || is_some_there (slots_sent self.now.outgoing)
             || is_some self.now.ended || self.now.began) }
     {
         came || self.outgoing.is_any() || self.ended.is_some() || self.began
@@ -116,8 +116,10 @@ pub fn take_turn<H: Handlers>(
           thread = turn.entry.thread;
           now = turn.entry.now;
           got = option_copied turn.entry.got;
-        }) result
-        (record { endpoint = endpoint.new; collectives = collectives.new }, progress_of cursor.new) }
+        }) result (
+          record { endpoint = endpoint.new; collectives = collectives.new },
+          progress_of cursor.new,
+        ) }
     ensures there { AreThere endpoint.new collectives.new }
 {
     let sent = before_try(endpoint, handlers, turn.now, turn.polls, turn.got);

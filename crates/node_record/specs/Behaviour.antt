@@ -84,10 +84,10 @@ pub record Behaviour (Local : Type 0) : Type 0 where
 -- ---- answers that are runs, and those that are requests
 
 -- the answer says that a request was run, and that its reply is kept there
-abbrev pub IsRun : Delivered → SlotRef → Type 0
-IsRun (delivered.Ran at) place = at ≡ place
-IsRun (delivered.Noted at note) place = at ≡ place
-IsRun _ place = ⊥
+abbrev pub RanRequest : Delivered → SlotRef → Type 0
+RanRequest (delivered.Ran at) place = at ≡ place
+RanRequest (delivered.Noted at note) place = at ≡ place
+RanRequest _ place = ⊥
 
 -- the answer says that a request was sent for the first time, and that it is kept there
 abbrev pub IsFirstSent : Ticked → SlotRef → Type 0
@@ -132,5 +132,5 @@ pub record IsSound {Local : Type 0} (behaviour : Behaviour Local) (IsKept : (me 
       → IsKept contact.me local
       → behaviour.next contact.me can local ≡ Some (record { to = contact.peer; content = content })
       → IsKept contact.me (behaviour.issued contact content local)
-  pub runs_as : (content : Content) (place : SlotRef) → IsRun (behaviour.runs_as content place) place
+  pub runs_as : (content : Content) (place : SlotRef) → RanRequest (behaviour.runs_as content place) place
   pub sends_as : (content : Content) (place : SlotRef) → IsFirstSent (behaviour.sends_as content place) place

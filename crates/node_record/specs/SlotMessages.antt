@@ -45,5 +45,5 @@ abbrev pub message_at : {Local : Type 0} → Parameters → (me : ℕ) → Node 
 message_at settings me node at = if has_slot settings me at then sealed_message settings me node at else None
 
 -- the number of that message
-abbrev pub number_at : {Local : Type 0} → Parameters → (me : ℕ) → Node Local → SlotRef → Option ℕ
-number_at settings me node at = if has_slot settings me at then sealed_number node at else None
+abbrev pub number_in_slot : {Local : Type 0} → Parameters → (me : ℕ) → Node Local → SlotRef → Option ℕ
+number_in_slot settings me node at = if has_slot settings me at then sealed_number node at else None

@@ -18,7 +18,7 @@ use Rattle.node_runs.specs.Actions.{Form, Once, Again, Until, Twice, Looks, Seve
 use Rattle.gas_collectives.specs.CollectivesState.{CollectivesState}
 use Rattle.node_runs.specs.Actions.{Progress, OwnScripts, Reading, next_calls, tried_step, scripts_of, FormMay}
 use Rattle.node_runs.specs.Actions.{ActionMay, ActionsMay, FormFar, IfFar, StepContext, collectives_after, collectives_then}
-use Rattle.node_runs.specs.Actions.{moves, part_of}
+use Rattle.node_runs.specs.Actions.{moves, step_part_of}
 use Rattle.node_runs.specs.Actions.{step_context}
 use Rattle.node_runs.proofs.Emptying.{or_parts}
 use Rattle.node_runs.proofs.Turns.{AreWritten}
@@ -183,7 +183,7 @@ unmoved (Again waits call) began now e = refl
 unmoved (Until call ends) began now e = refl
 unmoved (Twice begin next waits says) began now e = refl
 unmoved (Looks begin ready) began now e = refl
-unmoved (Several first later) began now e = go (part_of first later began).next e
+unmoved (Several first later) began now e = go (step_part_of first later began).next e
   where
     go : (next : Option CollectivesState) → is_some next ≡ false → option_or next now ≡ now
     go None h = refl

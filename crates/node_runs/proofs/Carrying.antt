@@ -9,7 +9,7 @@ use Rattle.machine.specs.declared.turns.Turned.{Turned}
 use Rattle.machine.specs.Replay.{Steps, replayed, sent_in, given_by}
 use Rattle.machine.specs.Fronts.{Node, replay, sent_of, start, full, advance, WasSent, CanGet, CanGo, GoesOn}
 use Rattle.node_runs.specs.Order.{NodeEntry}
-use Rattle.node_runs.specs.Merged.{next_of, order_of, Carries, carried}
+use Rattle.node_runs.specs.Merged.{next_entry_of, order_of, Carries, carried}
 use Rattle.std.proofs.lemmas.Option.{slice_get-map}
 
 replayed_is : {M N : Type 0} (f : M → N) (g : Steps M) (h : Steps N) → Carries f g h → (m : M) (es : List Entry)
@@ -92,7 +92,7 @@ full_same f [] = refl
 full_same f (node ∷ nodes) = ap (λ (front : List ℕ). length node.entries ∷ front) (full_same f nodes)
 
 next_same : {M N : Type 0} (f : M → N) (count : ℕ) (o : Option (Node M))
-    → next_of count (option_map (carried f) o) ≡ next_of count o
+    → next_entry_of count (option_map (carried f) o) ≡ next_entry_of count o
 next_same f count None = refl
 next_same f count (Some node) = refl
 
@@ -102,6 +102,6 @@ order_same f nodes front [] = refl
 order_same f nodes front (n ∷ list) =
     ap₂ (λ (next : Option Entry) (later : List NodeEntry).
     option_to_list (option_map (λ (entry : Entry). record { node = n; entry = entry }) next) ++ later)
-    (ap (next_of (slice_index front n)) (slice_get-map (carried f) nodes n)
+    (ap (next_entry_of (slice_index front n)) (slice_get-map (carried f) nodes n)
     ∙ next_same f (slice_index front n) (slice_get nodes n))
     (order_same f nodes (advance front n) list)

@@ -13,11 +13,11 @@ use Rattle.handler_rules.specs.declared.rules.Role.{Role}
 use Rattle.handler_rules.specs.declared.rules.Role.TheVariants as role
 use Rattle.handler_rules.specs.Runs.{Frame, Start, Outcome, Meaning}
 use Rattle.node_record.specs.Behaviour.{Contact, asks_well, replies_well}
-use Rattle.am_core.specs.Kept.{Local, segment_of, start_of, with_writes}
+use Rattle.am_core.specs.Kept.{Local, segment_of, start_from, with_writes}
 use Rattle.am_core.specs.Library.{is_library, has_wrong_args, memset_handler, fill_said, is_no_fill, is_beyond}
 use Rattle.am_core.specs.Library.{library_writes}
 use Rattle.am_core.specs.HandlerRuns.{handlers_of, landing, shown_payload, frame_of_run}
-use Rattle.am_core.specs.HandlerRuns.{outcome, left_by, reply_or_ack, run_request, run_reply}
+use Rattle.am_core.specs.HandlerRuns.{outcome, left_by_run, reply_or_ack, run_request, run_reply}
 use Rattle.am_core.specs.ClientRules.{content_refusal}
 use Rattle.endpoint_rules.proofs.Handled.{well_is, asks_no_ack}
 use Rattle.node_runs.specs.Fitting.{AreNumbers, AreBytes, WriteBytes, CoreFits, ContentFits, LeavesFitting}
@@ -86,7 +86,7 @@ record Gives (which : Outcome) (reply_is : Content → Type 0) : Type 0 where
 outcome_gives : (settings : Parameters) (table : List (Option Entry)) (meaning : Meaning) (which : Role)
     (contact : Contact) (content : Content) (local : Local) → IsFittingJob settings table meaning
     → IsRunnable settings contact content → CoreFits local
-    → Gives (outcome (handlers_of settings table meaning) which contact content (start_of settings local)) IsSpoken
+    → Gives (outcome (handlers_of settings table meaning) which contact content (start_from settings local)) IsSpoken
 outcome_gives settings table meaning which contact content local job runs core =
     elim (cases_Bool (is_library content.handler)) [
       | inl own ↦ rw own (record {
@@ -106,7 +106,7 @@ outcome_gives settings table meaning which contact content local job runs core =
     segment = bytes_image settings.segment local.writes core.writes
 
     start : Start
-    start = start_of settings local
+    start = start_from settings local
 
     frame : Frame
     frame = frame_of_run (handlers_of settings table meaning) which contact content
@@ -122,7 +122,7 @@ outcome_gives settings table meaning which contact content local job runs core =
 
 -- what a run leaves
 left_fits : (which : Role) (run : Outcome) (local : Local) → AreNumbers run.cells → WriteBytes run.writes
-    → CoreFits local → CoreFits (left_by which run local)
+    → CoreFits local → CoreFits (left_by_run which run local)
 left_fits which run local cells writes core = record {
   cells = cells;
   writes = all_append (λ (write : Write). AreBytes write.bytes) local.writes run.writes core.writes writes;
@@ -153,7 +153,7 @@ request_fits settings table meaning contact content local job source fits well c
     let landed = landed_fits content local core fits in
     let after = with_writes local (landing content) in
     let gives = outcome_gives settings table meaning role.Request contact content after job runs landed in
-    let run = outcome (handlers_of settings table meaning) role.Request contact content (start_of settings after) in
+    let run = outcome (handlers_of settings table meaning) role.Request contact content (start_from settings after) in
     record {
       core = left_fits role.Request run after gives.cells gives.writes landed;
       reply = gives.reply;
@@ -173,6 +173,7 @@ reply_fits settings table meaning contact content local job source fits well cor
           let landed = landed_fits content local core fits in
           let after = with_writes local (landing content) in
           let gives = outcome_gives settings table meaning role.Reply contact content after job runs landed in
-          let run = outcome (handlers_of settings table meaning) role.Reply contact content (start_of settings after) in
+          let run =
+          outcome (handlers_of settings table meaning) role.Reply contact content (start_from settings after) in
           rw other (left_fits role.Reply run after gives.cells gives.writes landed)
     ]

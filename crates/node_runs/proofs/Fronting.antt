@@ -21,7 +21,7 @@ use Rattle.node_runs.specs.Scripts.{NodeJob}
 use Rattle.node_runs.specs.Turn.{MachineState, Turn, turn, datagram, is_some_there}
 use Rattle.node_runs.specs.Order.{Ranked, job_steps, replay, NodeEntry, own_entries, Machines, turn_of, after_entry}
 use Rattle.node_runs.specs.Order.{given_by, after_all, MayGet, GoInOrder}
-use Rattle.node_runs.specs.Merged.{nodes_from, next_of, next_at, order_of}
+use Rattle.node_runs.specs.Merged.{nodes_from, next_entry_of, next_at, order_of}
 use Rattle.lists.proofs.Cases.{none_some}
 
 some_from : {A : Type 0} (o : Option A) (P : A → Type 0) → IsSomeAnd o P → (x : A) × (o ≡ Some x) × P x
@@ -157,7 +157,7 @@ next_is : {State : Type 0} (nodes : List (Node State)) (front : List ℕ) (n : �
     → next_at nodes front n ≡ entry_of n entry ∷ []
 next_is nodes front n x entry is next =
     ap (λ (o : Option Entry). option_to_list (option_map (λ (e : Entry). entry_of n e) o))
-    (ap (next_of (slice_index front n)) is ∙ next)
+    (ap (next_entry_of (slice_index front n)) is ∙ next)
 
 -- each entry can go
 goes_in_order : {Kept Own : Type 0} (job : NodeJob Kept Own) (nodes : List (Node (Ranked Kept Own)))

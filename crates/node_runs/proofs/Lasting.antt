@@ -19,7 +19,7 @@ use Rattle.plain_world.specs.World.{World, opening, Timed, Fall, falls, after_at
 use Rattle.plain_world.specs.Invariant.{Holds}
 use Rattle.plain_world.specs.Sent.{Packet, Asking, Replying, sender, IsRecorded}
 use Rattle.plain_world.proofs.Worlds.{Came, CameAt, falls_came, step_keeps, opening_holds}
-use Rattle.node_runs.specs.Turn.{receiver, message_of}
+use Rattle.node_runs.specs.Turn.{receiver, packet_message}
 use Rattle.node_record.proofs.NodeKeeps.{opening_keeps}
 
 -- what is asked of an event: a call is one that may be made, and what comes is a message of a node
@@ -72,27 +72,27 @@ opening_lasts job IsKept Fits start kept fits = record {
 at_request : (settings : Parameters) (from to number slot : ℕ) (content : Content) (request : Request)
     → request.slot ≡ slot → request.content ≡ content
     → IsMessage (request_message settings from to number request)
-    → IsMessage (message_of settings
+    → IsMessage (packet_message settings
     (Asking (record { from = from; to = to; number = number; slot = slot }) content))
 at_request settings from to number slot content request same_slot same_content is =
-    subst₂ (λ (k : ℕ) (c : Content). IsMessage (message_of settings
+    subst₂ (λ (k : ℕ) (c : Content). IsMessage (packet_message settings
     (Asking (record { from = from; to = to; number = number; slot = k }) c))) same_slot same_content is
 
 at_reply : (settings : Parameters) (from to number slot : ℕ) (content : Content) (run : Run)
     → run.slot ≡ slot → run.reply ≡ content → run.number ≡ number
     → IsMessage (reply_message settings from to run)
-    → IsMessage (message_of settings
+    → IsMessage (packet_message settings
     (Replying (record { from = from; to = to; number = number; slot = slot }) content))
 at_reply settings from to number slot content run same_slot same_content same_number is =
-    subst (λ (n : ℕ). IsMessage (message_of settings
+    subst (λ (n : ℕ). IsMessage (packet_message settings
     (Replying (record { from = from; to = to; number = n; slot = slot }) content))) same_number
-    (subst₂ (λ (k : ℕ) (c : Content). IsMessage (message_of settings
+    (subst₂ (λ (k : ℕ) (c : Content). IsMessage (packet_message settings
     (Replying (record { from = from; to = to; number = run.number; slot = k }) c))) same_slot same_content is)
 
 -- each of them has a spelling
 pub recorded_message : {Local Call Told : Type 0} (job : Job Local Call Told) (IsKept : (me : ℕ) → Local → Type 0)
     (Fits : Local → Type 0) (world : World Local) (packet : Packet) → Lasts job IsKept Fits world
-    → IsRecorded world packet → IsMessage (message_of job.settings packet)
+    → IsRecorded world packet → IsMessage (packet_message job.settings packet)
 recorded_message job IsKept Fits world (Asking at content) L h =
     at_request job.settings at.from at.to at.number at.slot content h.0 h.2 h.3
     ((L.nodes at.from).asked at.to at.number h.0 h.1)

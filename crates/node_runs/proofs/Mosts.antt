@@ -32,7 +32,7 @@ use Rattle.endpoint_rules.specs.EndpointRules.{OtherCall}
 use Rattle.node_runs.specs.Scripts.{NodeJob, ThreadCall}
 use Rattle.node_runs.specs.Turn.{MachineState, Turn, turn, turn_events, node_run, coming, comes, events_of}
 use Rattle.node_runs.specs.Order.{NodeEntry, own_entries, Machines, turn_of, after_entry}
-use Rattle.node_runs.specs.WorldRun.{AreEvents, AreTurns, joined}
+use Rattle.node_runs.specs.WorldRun.{AreEvents, AreTurns, joined_events}
 use Rattle.node_runs.specs.Most.{most_in}
 use Rattle.node_runs.proofs.Stages.{fallen_here, fallen_other}
 
@@ -249,13 +249,13 @@ pub run_most : {Kept Own : Type 0} (job : NodeJob Kept Own) (i : ℕ) (items : L
     (turns : List (List (Timed OtherCall))) (machines : Machines Kept Own) (world : World Kept) (most : ℕ → ℕ)
     → AreTurns job machines world items turns → ((n : ℕ) → world n ≡ (machines n).node)
     → held job.job.settings i (world i) ≤ most i
-    → most_after job.job (joined turns) world most i
+    → most_after job.job (joined_events turns) world most i
     ≡ most_in job i (machines i) (own_entries i items) (most i)
 run_most job i [] [] machines world most T all le = refl
 run_most job i [] (happened ∷ more) machines world most T all le = absurd T
 run_most job i (item ∷ items) [] machines world most T all le = absurd T
 run_most {Kept} {Own} job i (item ∷ items) (happened ∷ more) machines world most T all le =
-    most-append job.job happened (joined more) world most i
+    most-append job.job happened (joined_events more) world most i
     ∙ by_node (λ now_most h. run_most job i items more (after_entry job machines item) v now_most T.1 after_same h)
     (cases_eq item.node i)
   where
@@ -288,10 +288,10 @@ run_most {Kept} {Own} job i (item ∷ items) (happened ∷ more) machines world 
     ]
 
     by_node : ((now_most : ℕ → ℕ) → held job.job.settings i (v i) ≤ now_most i
-        → most_after job.job (joined more) v now_most i
+        → most_after job.job (joined_events more) v now_most i
         ≡ most_in job i (after_entry job machines item i) (own_entries i items) (now_most i))
         → (item.node ≡ i) ⊎ (item.node ≢ i)
-        → most_after job.job (joined more) v (most_after job.job happened world most) i
+        → most_after job.job (joined_events more) v (most_after job.job happened world most) i
         ≡ most_in job i (machines i) (own_entries i (item ∷ items)) (most i)
     by_node go (inl e) =
         let now_most : most_after job.job happened world most i ≡ max (most i) (held job.job.settings i (v i)) =
@@ -308,7 +308,7 @@ run_most {Kept} {Own} job i (item ∷ items) (happened ∷ more) machines world 
         ∙ ap (λ k. (turn job k (machines k) item.entry.thread item.entry.now item.entry.got).after) e) in
         let node_is : v i ≡ (turn job i (machines i) item.entry.thread item.entry.now item.entry.got).after.node =
         after_same i ∙ ap (λ (m : MachineState Kept Own). m.node) mine in
-        most_at job.job (joined more) v (most_after job.job happened world most)
+        most_at job.job (joined_events more) v (most_after job.job happened world most)
         (λ q. max (most q) (held job.job.settings q (v q))) i now_most
         ∙ (rest
         ∙ (ap₂ (λ (m : MachineState Kept Own) (a : ℕ). most_in job i m (own_entries i items) a) mine
@@ -320,7 +320,7 @@ run_most {Kept} {Own} job i (item ∷ items) (happened ∷ more) machines world 
         let kept = other_most job.job item.node item.entry.now i t.events happened world most T.0.events o le in
         let rest = go most (subst (λ (r : Node Kept). held job.job.settings i r ≤ most i) (sym kept.1) le) in
         let mine : after_entry job machines item i ≡ machines i = put_other machines item.node t.after i o in
-        most_at job.job (joined more) v (most_after job.job happened world most) most i kept.0
+        most_at job.job (joined_events more) v (most_after job.job happened world most) most i kept.0
         ∙ (rest
         ∙ (ap (λ (m : MachineState Kept Own). most_in job i m (own_entries i items) (most i)) mine
         ∙ ap (λ (b : Bool). most_in job i (machines i)

@@ -51,9 +51,9 @@ use Rattle.endpoint_rules.specs.EndpointRules.{RecordEvent}
 use Rattle.endpoint_rules.proofs.Asked.{Stay, stay_push, stay_sent}
 use Rattle.node_runs.specs.Scripts.{NodeJob, ThreadCall}
 use Rattle.node_runs.specs.Laws.{GotBytes}
-use Rattle.node_runs.specs.Turn.{message_of, node_run, node_sends, MachineState, coming, comes, turn_events}
+use Rattle.node_runs.specs.Turn.{packet_message, node_run, node_sends, MachineState, coming, comes, turn_events}
 use Rattle.node_runs.specs.Turn.{as_tried, context, events_of}
-use Rattle.node_runs.specs.Outgoing.{slot_of, StaysWell, AreOwn, IsFirst, ComesFirst, SentStands}
+use Rattle.node_runs.specs.Outgoing.{slot_of_packet, StaysWell, AreOwn, DeliversOnlyMessages, ComesFirst, SentStands}
 use Rattle.node_runs.proofs.Mosts.{IsOwn}
 use Rattle.lists.proofs.Tests.{gate}
 
@@ -92,7 +92,7 @@ IsInSlot settings me (Replying at content) node = IsRepliedIn settings me at con
 -- then its message is the one of that slot
 in_slot_message : {Local : Type 0} (settings : Parameters) (IsKept : (me : ℕ) → Local → Type 0) (me : ℕ)
     (packet : Packet) (node : Node Local) → NodeInvariant settings IsKept me node → IsInSlot settings me packet node
-    → message_at settings me node (slot_of packet) ≡ Some (spelling (message_of settings packet))
+    → message_at settings me node (slot_of_packet packet) ≡ Some (spelling (packet_message settings packet))
 in_slot_message settings IsKept me (Asking at content) node I S =
     let requests = node.asked at.to in
     let orderly = I.orderly at.to in
@@ -107,20 +107,20 @@ in_slot_message settings IsKept me (Asking at content) node I S =
     (lt-ltb at.to settings.nodes S.there) (ne_eqb at.to me S.other)
     (lt-ltb at.slot (credits_of settings me at.to) low)
     ∙ (ap (option_map (λ (o : ℕ × Request). spelling (request_message settings me at.to o.0 o.1))) open_
-    ∙ (ap₂ (λ (slot : ℕ) (says : Content). Some (spelling (message_of settings
+    ∙ (ap₂ (λ (slot : ℕ) (says : Content). Some (spelling (packet_message settings
     (Asking (record at { from = me; slot = slot }) says)))) S.slot_is S.says
-    ∙ ap (λ (from : ℕ). Some (spelling (message_of settings (Asking (record at { from = from }) content))))
+    ∙ ap (λ (from : ℕ). Some (spelling (packet_message settings (Asking (record at { from = from }) content))))
     (sym S.sender_is)))
 in_slot_message settings IsKept me (Replying at content) node I S =
     gate (nat_lt at.from settings.nodes) (eqb at.from me) (nat_lt at.slot (credits_of settings at.from me)) _
     (lt-ltb at.from settings.nodes S.there) (ne_eqb at.from me S.other)
     (lt-ltb at.slot (credits_of settings at.from me) S.below)
     ∙ (ap (option_map (λ (k : Run). spelling (reply_message settings at.from me k))) S.last
-    ∙ (ap₂ (λ (slot : ℕ) (says : Content). Some (spelling (message_of settings
+    ∙ (ap₂ (λ (slot : ℕ) (says : Content). Some (spelling (packet_message settings
     (Replying (record at { to = me; slot = slot; number = S.run.number }) says)))) S.slot_is S.says
-    ∙ (ap (λ (number : ℕ). Some (spelling (message_of settings
+    ∙ (ap (λ (number : ℕ). Some (spelling (packet_message settings
     (Replying (record at { to = me; number = number }) content)))) S.number_is
-    ∙ ap (λ (to : ℕ). Some (spelling (message_of settings (Replying (record at { to = to }) content))))
+    ∙ ap (λ (to : ℕ). Some (spelling (packet_message settings (Replying (record at { to = to }) content))))
     (sym S.sender_is))))
 
 -- ---- what stood in a slot stays there, through all but a delivery
@@ -449,7 +449,7 @@ ticked_in job IsKept me now node Rests sound I e packet h = absurd (contains_non
 -- ---- any event
 
 event_in : {Local Call Told : Type 0} (job : Job Local Call Told) (IsKept : (me : ℕ) → Local → Type 0) (me now : ℕ)
-    (node : Node Local) (event : NodeEvent Call) → IsAllSound job.behaviour IsKept → IsFirst event
+    (node : Node Local) (event : NodeEvent Call) → IsAllSound job.behaviour IsKept → DeliversOnlyMessages event
     → NodeInvariant job.settings IsKept me node → (packet : Packet) → Contains (sends job me node now event) packet
     → IsInSlot job.settings me packet (node_after job me node now event)
 event_in job IsKept me now node (Asks ask) sound first I packet h =
@@ -462,7 +462,7 @@ event_in job IsKept me now node Ticks sound first I packet h =
 
 -- ---- the events of a turn
 
-own_first : {Call : Type 0} (event : NodeEvent Call) → IsOwn event → IsFirst event
+own_first : {Call : Type 0} (event : NodeEvent Call) → IsOwn event → DeliversOnlyMessages event
 own_first (Asks ask) own = tt
 own_first (Does thread call) own = tt
 own_first (Comes message) own = absurd own

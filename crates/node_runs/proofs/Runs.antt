@@ -20,7 +20,7 @@ use Rattle.node_runs.specs.Turn.{MachineState, datagram, node_answers, node_send
 use Rattle.node_runs.specs.Order.{NodeEntry, Machines, at_first, turn_of, after_entry, given_by, after_all}
 use Rattle.node_runs.specs.Order.{given_by_all}
 use Rattle.node_runs.specs.Order.{answers_by_all, GoInOrder}
-use Rattle.node_runs.specs.WorldRun.{AreTurns, joined}
+use Rattle.node_runs.specs.WorldRun.{AreTurns, joined_events}
 use Rattle.node_runs.proofs.Lasting.{Lasts, opening_lasts}
 use Rattle.node_runs.proofs.Stages.{Stage}
 use Rattle.node_runs.proofs.Turns.{IsSoundJob, turn_on}
@@ -170,10 +170,11 @@ pub record RunsOn
     {Kept Own : Type 0} (job : NodeJob Kept Own) (machines : Machines Kept Own) (world : World Kept)
     (items : List NodeEntry) (turns : List (List (Timed OtherCall))) : Type 0 where
   pub turns_are : AreTurns job machines world items turns
-  pub among : AllByRecursion (λ (timed : Timed OtherCall). IsAmong job.job.settings timed.event) (joined turns)
-  pub nodes : (node : ℕ) → run job.job (joined turns) world node ≡ (after_all job machines items node).node
-  pub answers : answers_of job.job (joined turns) world ≡ map OfNode (answers_by_all job machines items)
-  pub sent_is : map (datagram job.job.settings) (sent job.job (joined turns) world) ≡ given_by_all job machines items
+  pub among : AllByRecursion (λ (timed : Timed OtherCall). IsAmong job.job.settings timed.event) (joined_events turns)
+  pub nodes : (node : ℕ) → run job.job (joined_events turns) world node ≡ (after_all job machines items node).node
+  pub answers : answers_of job.job (joined_events turns) world ≡ map OfNode (answers_by_all job machines items)
+  pub sent_is : map (datagram job.job.settings)
+      (sent job.job (joined_events turns) world) ≡ given_by_all job machines items
 
 pub runs_on : {Kept Own : Type 0} (job : NodeJob Kept Own) (IsKept : (me : ℕ) → Kept → Type 0)
     (Fits : Kept → Type 0) (May : NodeEvent OtherCall → Type 0) (Written : Own → Type 0) (start : ℕ → Kept)
@@ -197,7 +198,7 @@ runs_on {Kept} {Own} job IsKept Fits May Written start past world machines given
     (given ++ given_by job machines item) items J kept
     (follows_on job IsKept Fits May Written start past world machines given item happened J F S) go.2 in
     let R = more.1 in
-    let rest = joined more.0 in
+    let rest = joined_events more.0 in
     let later = after_entry job machines item in
     let answers : answers_of job.job happened world ≡ map OfNode turn.answers =
     S.answers ∙ ap (λ (x : Node Kept). map OfNode (node_answers job.job node item.entry.now turn.events x))

@@ -17,7 +17,7 @@ use Rattle.endpoint_rules.specs.Called.{Requests, Performs, node_event}
 use Rattle.endpoint_rules.specs.EndpointRules.{OtherCall}
 use Rattle.endpoint_rules.specs.declared.answer.Answer.{Answer}
 use Rattle.node_runs.specs.Scripts.{ThreadCall}
-use Rattle.node_runs.specs.Turn.{node_run, node_answers, node_sends, receiver, message_of, events_of}
+use Rattle.node_runs.specs.Turn.{node_run, node_answers, node_sends, receiver, packet_message, events_of}
 use Rattle.node_runs.specs.WorldRun.{AreEvents}
 use Rattle.node_runs.proofs.Lasting.{AreSpoken, Lasts, lasts_on}
 
@@ -131,23 +131,23 @@ delivery (Replying at content) = ReplyComes at.from at.to at.number
 pub recorded_falls : {Local Call : Type 0} (settings : Parameters) (world : World Local) (packet : Packet)
     → IsRecorded world packet
     → falls {Call = Call} settings world (delivery packet)
-    ≡ Some (record { node = receiver packet; event = Comes (message_of settings packet) })
+    ≡ Some (record { node = receiver packet; event = Comes (packet_message settings packet) })
 recorded_falls {Call = Call} settings world (Asking at content) h =
     ap (request_event settings at.from at.to at.number) h.1
     ∙ ap₂ (λ (slot : ℕ) (says : Content). Some (record {
       node = at.to;
-      event = Comes (message_of settings (Asking (record at { slot = slot }) says));
+      event = Comes (packet_message settings (Asking (record at { slot = slot }) says));
     })) h.2 h.3
 recorded_falls {Call = Call} settings world (Replying at content) h =
     let same : h.0.number ≡ at.number = (run_of_there at.number ((world at.to).ran at.from) h.0 h.1).0 in
     ap (reply_event settings at.from at.to) h.1
     ∙ (ap (λ (number : ℕ). Some (record {
       node = at.from;
-      event = Comes (message_of settings (Replying (record at { slot = h.0.slot; number = number }) h.0.reply));
+      event = Comes (packet_message settings (Replying (record at { slot = h.0.slot; number = number }) h.0.reply));
     })) same
     ∙ ap₂ (λ (slot : ℕ) (says : Content). Some (record {
       node = at.from;
-      event = Comes (message_of settings (Replying (record at { slot = slot }) says));
+      event = Comes (packet_message settings (Replying (record at { slot = slot }) says));
     })) h.2 h.3)
 
 -- and is among the nodes

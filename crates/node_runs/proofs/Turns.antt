@@ -16,7 +16,7 @@ use Rattle.endpoint_rules.specs.Called.{node_event}
 use Rattle.endpoint_rules.specs.EndpointRules.{OtherCall}
 use Rattle.endpoint_rules.specs.declared.answer.Answer.{Answer}
 use Rattle.node_runs.specs.Scripts.{NodeJob, ThreadCall, TryContext}
-use Rattle.node_runs.specs.Turn.{MachineState, node_run, receiver, message_of, datagram, coming, comes, turn_events}
+use Rattle.node_runs.specs.Turn.{MachineState, node_run, receiver, packet_message, datagram, coming, comes, turn_events}
 use Rattle.node_runs.specs.Turn.{context, try_events}
 use Rattle.node_runs.specs.Order.{MayGet}
 use Rattle.node_runs.specs.WorldRun.{Brings}
@@ -106,17 +106,17 @@ come_on : {Kept Own : Type 0} (job : NodeJob Kept Own) (IsKept : (me : ℕ) → 
     (May : NodeEvent OtherCall → Type 0) (Written : Own → Type 0) (world : World Kept) (node : ℕ) (taken : Taken Own)
     (packet : Packet) → IsSoundJob job IsKept Fits May Written → node < job.job.settings.nodes
     → Lasts job.job IsKept Fits world → Written taken.own → IsRecorded world packet
-    → IsMessage (message_of job.job.settings packet)
+    → IsMessage (packet_message job.job.settings packet)
     → falls {Call = OtherCall} job.job.settings world (delivery packet)
-    ≡ Some (record { node = node; event = Comes (message_of job.job.settings packet) })
+    ≡ Some (record { node = node; event = Comes (packet_message job.job.settings packet) })
     → (happened : List (Timed OtherCall))
     × Stage job.job IsKept Fits world node taken.now
-    (events_by job node taken true (Comes (message_of job.job.settings packet) ∷ []) (world node))
+    (events_by job node taken true (Comes (packet_message job.job.settings packet) ∷ []) (world node))
     (record { now = taken.now; event = delivery packet } ∷ happened)
 come_on {Kept} job IsKept Fits May Written world node taken packet J here L W recorded is falls_so =
     let first : Event OtherCall = delivery packet in
     let timed : Timed OtherCall = record { now = taken.now; event = first } in
-    let event : NodeEvent OtherCall = Comes (message_of job.job.settings packet) in
+    let event : NodeEvent OtherCall = Comes (packet_message job.job.settings packet) in
     let after = world_after job.job world timed in
     let there = recorded_among job.job IsKept world packet L.holds recorded in
     let among = delivery_among OtherCall job.job.settings packet there in
@@ -130,11 +130,11 @@ come_on {Kept} job IsKept Fits May Written world node taken packet J here L W re
     (more.0, stage_more job.job IsKept Fits world node taken.now event first _ more.0 among falls_so rest)
   where
     from_is : (packet : Packet) → sender packet < job.job.settings.nodes
-        → (message_of job.job.settings packet).from < job.job.settings.nodes
+        → (packet_message job.job.settings packet).from < job.job.settings.nodes
     from_is (Asking at content) low = low
     from_is (Replying at content) low = low
 
-version_is : (settings : Parameters) (packet : Packet) → (message_of settings packet).version ≡ settings.version
+version_is : (settings : Parameters) (packet : Packet) → (packet_message settings packet).version ≡ settings.version
 version_is settings (Asking at content) = refl
 version_is settings (Replying at content) = refl
 
@@ -172,7 +172,7 @@ turn_from job IsKept Fits May Written world node taken given (Some bytes) J here
     let settings = job.job.settings in
     let had = recorded node bytes may.1 in
     let packet = had.0 in
-    let message = message_of settings packet in
+    let message = packet_message settings packet in
     let is = recorded_message job.job IsKept Fits world packet L had.1 in
     let to : receiver packet ≡ node = ap (λ (d : ℕ × List ℕ). d.0) had.2 in
     let spelled : spelling message ≡ bytes = ap (λ (d : ℕ × List ℕ). d.1) had.2 in

@@ -25,7 +25,7 @@ use Rattle.node_runs.specs.Turn.{MachineState}
 use Rattle.node_runs.specs.Order.{Ranked, NodeEntry, own_entries, job_steps, GoInOrder}
 use Rattle.node_runs.specs.Merged.{nodes_from, order_of, Carries, carried}
 use Rattle.node_runs.specs.Fitting.{KeptFits, CallFits, CollectivesFit, IsFittingJob}
-use Rattle.node_runs.specs.WorldRun.{IsWorldRun, endpoint_job, opening_machines, joined}
+use Rattle.node_runs.specs.WorldRun.{IsWorldRun, endpoint_job, opening_machines, joined_events}
 use Rattle.node_runs.proofs.Turns.{AreWritten}
 use Rattle.node_runs.proofs.Runs.{run_from_opening}
 use Rattle.node_runs.proofs.Acting.{are_written}
@@ -59,14 +59,15 @@ world_run {Own} settings table meaning scripts Written own items fitting calls w
         nodes = λ node. R.nodes node
             ∙ ap (λ (m : MachineState EndpointLocal Own). m.node)
             (after_own job items (opening_machines settings own) node);
-        most = λ node. subst (IsGreatest (job_of settings table meaning) (joined it.0) (at_the_opening settings) node)
+        most = λ node. subst
+            (IsGreatest (job_of settings table meaning) (joined_events it.0) (at_the_opening settings) node)
             (run_most job node items it.0 (opening_machines settings own) (at_the_opening settings) (λ other. 0)
             R.turns_are (λ other. refl) (none node))
-            (run_greatest (job_of settings table meaning) (λ other. nothing_begun settings) (joined it.0) node);
+            (run_greatest (job_of settings table meaning) (λ other. nothing_begun settings) (joined_events it.0) node);
         answers = R.answers;
         sent_is = R.sent_is;
         headline = headline (job_of settings table meaning) (IsEndpointKept settings) (λ node. nothing_begun settings)
-            (joined it.0) sound kept R.among;
+            (joined_events it.0) sound kept R.among;
         transfers = transfers_hold settings table meaning fitting.range fitting.lawful;
         barrier = barrier_holds settings table meaning fitting.range fitting.lawful;
       },

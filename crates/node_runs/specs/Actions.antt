@@ -41,9 +41,9 @@ pub data Form (Kept : Type 0) : Type 0 where
   Several : (first later : Part) → Form Kept
 
 -- the part of a step of several calls that a try is, by the answer with which the step began
-abbrev pub part_of : (first later : Part) → (began : Option Answer) → Part
-part_of first later None = first
-part_of first later (Some answer) = later
+abbrev pub step_part_of : (first later : Part) → (began : Option Answer) → Part
+step_part_of first later None = first
+step_part_of first later (Some answer) = later
 
 -- the calls of a try, in order, by the answer with which the step began
 abbrev pub calls_of : {Kept : Type 0} → Form Kept → (began : Option Answer) → List ThreadCall
@@ -54,7 +54,7 @@ calls_of (Twice begin next waits says) None = begin ∷ []
 calls_of (Twice begin next waits says) (Some answer) = option_to_list (next answer)
 calls_of (Looks begin ready) None = begin ∷ []
 calls_of (Looks begin ready) (Some answer) = []
-calls_of (Several first later) began = (part_of first later began).calls
+calls_of (Several first later) began = (step_part_of first later began).calls
 
 -- the answer, unless it is one to wait at
 abbrev pub unless : Bool → Answer → Option ScriptAnswer
@@ -76,7 +76,7 @@ ended_by (Twice begin next waits says) (Some first) after (Some answer) = unless
 ended_by (Looks begin ready) None after None = None
 ended_by (Looks begin ready) None after (Some answer) = unless (not (ready answer after)) answer
 ended_by (Looks begin ready) (Some first) after answer = unless (not (ready first after)) first
-ended_by (Several first later) began after answer = (part_of first later began).ended
+ended_by (Several first later) began after answer = (step_part_of first later began).ended
 
 -- the step begins something that a later try finds again
 abbrev pub begins : {Kept : Type 0} → Form Kept → Bool
@@ -89,7 +89,7 @@ begins (Several first later) = is_none first.ended && is_some first.next
 
 -- the try of a step that began so changes the node's collectives
 abbrev pub moves : {Kept : Type 0} → Form Kept → (began : Option Answer) → Bool
-moves (Several first later) began = is_some (part_of first later began).next
+moves (Several first later) began = is_some (step_part_of first later began).next
 moves form began = false
 
 -- ---- the scripts of a node
@@ -157,7 +157,7 @@ tried_step form at began (action ∷ rest) before after answer =
 -- how far the node's collectives are after a try of this form
 abbrev pub collectives_after : {Kept : Type 0} → Form Kept → (began : Option Answer) → Option CollectivesState
     → Option CollectivesState
-collectives_after (Several first later) began now = option_or (part_of first later began).next now
+collectives_after (Several first later) began now = option_or (step_part_of first later began).next now
 collectives_after form began now = now
 
 -- and after a try of the thread's next step, where this is left of its script

@@ -17,15 +17,15 @@ nodes_from machines first (trace ∷ traces) =
     ∷ nodes_from machines (first + 1) traces
 
 -- the next entry of a node of which so many have gone
-abbrev pub next_of : {State : Type 0} → (count : ℕ) → Option (Node State) → Option Entry
-next_of count None = None
-next_of count (Some node) = slice_get node.entries count
+abbrev pub next_entry_of : {State : Type 0} → (count : ℕ) → Option (Node State) → Option Entry
+next_entry_of count None = None
+next_entry_of count (Some node) = slice_get node.entries count
 
 -- the next entry of the node at the front, with its node
 abbrev pub next_at : {State : Type 0} → List (Node State) → (front : List ℕ) → (node : ℕ) → List NodeEntry
 next_at nodes front node =
     option_to_list (option_map (λ (entry : Entry). record { node = node; entry = entry })
-    (next_of (slice_index front node) (slice_get nodes node)))
+    (next_entry_of (slice_index front node) (slice_get nodes node)))
 
 -- the entries that go where the next entries of these nodes go one after another
 abbrev pub order_of : {State : Type 0}

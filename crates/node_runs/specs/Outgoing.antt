@@ -11,12 +11,12 @@ use Rattle.node_record.specs.Invariant.{NodeInvariant}
 use Rattle.node_record.specs.SlotMessages.{message_at}
 use Rattle.node_record.specs.NodeStep.{Job, NodeEvent, Asks, Does, Comes, Ticks, node_after}
 use Rattle.plain_world.specs.Sent.{Packet, Asking, Replying}
-use Rattle.node_runs.specs.Turn.{message_of, node_run, node_sends}
+use Rattle.node_runs.specs.Turn.{packet_message, node_run, node_sends}
 
 -- the slot of the node that sends it
-abbrev pub slot_of : Packet → SlotRef
-slot_of (Asking place content) = request_slot place.to place.slot
-slot_of (Replying place content) = reply_slot place.from place.slot
+abbrev pub slot_of_packet : Packet → SlotRef
+slot_of_packet (Asking place content) = request_slot place.to place.slot
+slot_of_packet (Replying place content) = reply_slot place.from place.slot
 
 -- the invariant holds of the node's record before and after each of these events
 abbrev pub StaysWell : {Local Call Told : Type 0}
@@ -36,21 +36,21 @@ AreOwn (Comes message ∷ events) = ⊥
 AreOwn (Ticks ∷ events) = AreOwn events
 
 -- it is no delivery, or that of a message
-abbrev pub IsFirst : {Call : Type 0} → NodeEvent Call → Type 0
-IsFirst (Asks ask) = Unit {0}
-IsFirst (Does thread call) = Unit {0}
-IsFirst (Comes message) = IsMessage message
-IsFirst Ticks = Unit {0}
+abbrev pub DeliversOnlyMessages : {Call : Type 0} → NodeEvent Call → Type 0
+DeliversOnlyMessages (Asks ask) = Unit {0}
+DeliversOnlyMessages (Does thread call) = Unit {0}
+DeliversOnlyMessages (Comes message) = IsMessage message
+DeliversOnlyMessages Ticks = Unit {0}
 
 -- at most the first is a delivery, and then that of a message
 abbrev pub ComesFirst : {Call : Type 0} → List (NodeEvent Call) → Type 0
 ComesFirst [] = Unit {0}
-ComesFirst (event ∷ events) = IsFirst event × AreOwn events
+ComesFirst (event ∷ events) = DeliversOnlyMessages event × AreOwn events
 
 -- after these events each message that they sent stands in its slot
 abbrev pub SentStands : {Local Call Told : Type 0}
     → Job Local Call Told → (me now : ℕ) → List (NodeEvent Call) → Node Local → Type 0
 SentStands job me now events node =
     (packet : Packet) → Contains (node_sends job me now events node) packet
-    → message_at job.settings me (node_run job me now events node) (slot_of packet)
-    ≡ Some (spelling (message_of job.settings packet))
+    → message_at job.settings me (node_run job me now events node) (slot_of_packet packet)
+    ≡ Some (spelling (packet_message job.settings packet))

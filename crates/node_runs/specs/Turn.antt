@@ -60,12 +60,12 @@ address settings (Asking place content) = address_in settings place.from place.t
 address settings (Replying place content) = address_in settings place.to place.from place.slot place.number
 
 -- the message itself
-abbrev pub message_of : Parameters → Packet → Message
-message_of settings packet = addressed (address settings packet) (says packet)
+abbrev pub packet_message : Parameters → Packet → Message
+packet_message settings packet = addressed (address settings packet) (says packet)
 
 -- its datagram, with the node that it is for
 abbrev pub datagram : Parameters → Packet → ℕ × List ℕ
-datagram settings packet = (receiver packet, spelling (message_of settings packet))
+datagram settings packet = (receiver packet, spelling (packet_message settings packet))
 
 -- ---- the try of a thread's next step
 

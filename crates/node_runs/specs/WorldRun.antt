@@ -64,9 +64,9 @@ AreTurns job machines world (item ∷ items) (events ∷ turns) =
 AreTurns job machines world _ _ = ⊥
 
 -- all events of the turns
-abbrev pub joined : {X : Type 0} → List (List X) → List X
-joined [] = []
-joined (xs ∷ more) = xs ++ joined more
+abbrev pub joined_events : {X : Type 0} → List (List X) → List X
+joined_events [] = []
+joined_events (xs ∷ more) = xs ++ joined_events more
 
 -- ---- a run
 
@@ -92,23 +92,24 @@ pub record IsWorldRun
     (turns : List (List (Timed OtherCall))) : Type 0 where
   pub turns_are : AreTurns (endpoint_job settings table meaning scripts) (opening_machines settings own)
       (at_the_opening settings) items turns
-  pub among : AllByRecursion (λ (timed : Timed OtherCall). IsAmong settings timed.event) (joined turns)
+  pub among : AllByRecursion (λ (timed : Timed OtherCall). IsAmong settings timed.event) (joined_events turns)
   -- it leaves each node the record that its machine's replay of its own entries has
   pub nodes : (node : ℕ)
-      → run (job_of settings table meaning) (joined turns) (at_the_opening settings) node
+      → run (job_of settings table meaning) (joined_events turns) (at_the_opening settings) node
       ≡ (replay (endpoint_job settings table meaning scripts) node (opening_machines settings own node)
       (own_entries node items)).node
   -- the most that the node held after any event is the most that its machine held after an entry of its own
   pub most : (node : ℕ)
-      → IsGreatest (job_of settings table meaning) (joined turns) (at_the_opening settings) node
+      → IsGreatest (job_of settings table meaning) (joined_events turns) (at_the_opening settings) node
       (most_in (endpoint_job settings table meaning scripts) node (opening_machines settings own node)
       (own_entries node items) 0)
   -- its answers are those of the machines' events, and what was sent in it are the machines' datagrams
-  pub answers : answers_of (job_of settings table meaning) (joined turns) (at_the_opening settings)
+  pub answers : answers_of (job_of settings table meaning) (joined_events turns) (at_the_opening settings)
       ≡ map OfNode (answers_by_all (endpoint_job settings table meaning scripts) (opening_machines settings own) items)
-  pub sent_is : map (datagram settings) (sent (job_of settings table meaning) (joined turns) (at_the_opening settings))
+  pub sent_is : map (datagram settings)
+      (sent (job_of settings table meaning) (joined_events turns) (at_the_opening settings))
       ≡ given_by_all (endpoint_job settings table meaning scripts) (opening_machines settings own) items
   -- so all that holds of every run of the world holds of it: the headline, and the laws of transfers and of the barrier
-  pub headline : Headline (job_of settings table meaning) (λ node. nothing_begun settings) (joined turns)
+  pub headline : Headline (job_of settings table meaning) (λ node. nothing_begun settings) (joined_events turns)
   pub transfers : TransfersHold settings table meaning
   pub barrier : BarrierHolds settings table meaning

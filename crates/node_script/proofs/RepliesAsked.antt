@@ -4,7 +4,8 @@ use Rattle.datagram_grammar.specs.Content.{Content, short_reply, medium_reply, l
 use Rattle.handler_rules.specs.declared.desk.Desk.{Desk}
 use Rattle.handler_rules.specs.declared.message.Replied.{Replied}
 use Rattle.handler_rules.specs.declared.message.Replied.TheVariants as answers
-use Rattle.handler_rules.specs.Desks.{At, Stage, answer_at, answered, arrival_at, frame_of, leaving, stage, start_of}
+use Rattle.handler_rules.specs.Desks.{At, Stage, answer_at_desk, answered, arrival_at, frame_of, leaving, stage}
+use Rattle.handler_rules.specs.Desks.{start_of}
 use Rattle.handler_rules.specs.Runs.{Outcome, IsSpelled, replying}
 use Rattle.handler_rules.proofs.Laws.{replying-leaving, cells-replying, writes-replying, IsSpelled-replying}
 use Rattle.raw_segment.specs.Image.{Write, written_by}
@@ -15,7 +16,7 @@ use Rattle.node_script.specs.ActionResult.{AsksReply}
 use Rattle.node_script.specs.Bodies.{operand_at, operand_value, payload_bytes, replied, segment_at}
 
 -- what a reply call of the desk ensures
-pub reply_asked : (old new : Desk) (content : Content) (result : Replied) → result ≡ answer_at old content
+pub reply_asked : (old new : Desk) (content : Content) (result : Replied) → result ≡ answer_at_desk old content
     → new ≡ answered old content result → (result ≡ answers.Sent → IsSpelled (frame_of old) (Some content))
     → AsksReply content old new
 reply_asked old new content result judge after spelled = λ desk outcome is before. record {

@@ -16,7 +16,7 @@ use Rattle.node_record.specs.Behaviour.{Sending}
 use Rattle.node_record.specs.Requests.{Due, all_dues, free_slot, next_claim, open_in, sent_at, unreturned}
 use Rattle.node_record.specs.Step.{Site, after_resend, after_sending, can_ask, new_request, next_due, put, request_slot}
 use Rattle.node_record.specs.Invariant.{NodeInvariant}
-use Rattle.node_record.specs.SlotMessages.{has_slot, number_at}
+use Rattle.node_record.specs.SlotMessages.{has_slot, number_in_slot}
 use Rattle.node_record.proofs.Keeping.{none_is, open_new, open_sent_here, open_taken}
 use Rattle.node_record.proofs.Orderly.{orderly_sent}
 use Rattle.node_record.proofs.Slots.{free_le, free_outside}
@@ -40,10 +40,11 @@ slot_there settings me peer slot low other few =
 sent_there : {Local : Type 0} (settings : Parameters) (IsKept : (me : ℕ) → Local → Type 0) (me : ℕ) (node : Node Local)
     (now : ℕ) (due : Due) (peer : ℕ) → NodeInvariant settings IsKept me node → peer < settings.nodes
     → IsDueOf now settings.resend peer 1 (node.asked peer) due
-    → number_at settings me (after_resend node now (Some due)) (request_slot due.peer due.slot) ≡ Some due.number
+    → number_in_slot settings me (after_resend node now (Some due)) (request_slot due.peer due.slot) ≡ Some due.number
 sent_there settings IsKept me node now due peer holds low is =
     subst
-    (λ (d : Due). number_at settings me (after_resend node now (Some d)) (request_slot d.peer d.slot) ≡ Some d.number)
+    (λ (d : Due). number_in_slot settings me (after_resend node now (Some d))
+    (request_slot d.peer d.slot) ≡ Some d.number)
     (sym is.is)
     (rw (slot_there settings me peer is.x.slot low other few) (at_slot ∙ ap Some (sym one_more)))
   where
@@ -79,7 +80,7 @@ sent_there settings IsKept me node now due peer holds low is =
 pub resent_there : {Local : Type 0} (settings : Parameters) (IsKept : (me : ℕ) → Local → Type 0) (me : ℕ)
     (node : Node Local) (now : ℕ) (due : Due) → NodeInvariant settings IsKept me node
     → next_due settings node now ≡ Some due
-    → number_at settings me (after_resend node now (Some due)) (request_slot due.peer due.slot) ≡ Some due.number
+    → number_in_slot settings me (after_resend node now (Some due)) (request_slot due.peer due.slot) ≡ Some due.number
 resent_there settings IsKept me node now due holds first =
     let among = earliest_in (all_dues now settings.resend node.asked settings.nodes) due first in
     let it = all_dues_has now settings.resend node.asked settings.nodes due among in
@@ -97,7 +98,7 @@ none_open requests =
 -- a request of the node's own accord stands at its slot once it was accepted
 pub first_sent_there : {Local : Type 0} (site : Site Local) (node : Node Local) (now : ℕ) (sending : Sending)
     → can_ask site node sending.to ≡ true
-    → number_at site.settings site.me (after_sending site node now sending)
+    → number_in_slot site.settings site.me (after_sending site node now sending)
     (request_slot sending.to (next_claim (node.asked sending.to)).slot)
     ≡ Some (next_claim (node.asked sending.to)).number
 first_sent_there site node now sending can =

@@ -16,7 +16,7 @@ use Rattle.handler_rules.specs.declared.rules.Forbidden.{Forbidden}
 use Rattle.handler_rules.specs.declared.rules.Forbidden.TheVariants as forbidden
 use Rattle.datagram_grammar.specs.Parameters.{Parameters}
 use Rattle.node_record.specs.Record.{Node}
-use Rattle.node_record.specs.SlotMessages.{number_at}
+use Rattle.node_record.specs.SlotMessages.{number_in_slot}
 use Rattle.am_core.specs.Kept.{segment_of}
 use Rattle.endpoint_rules.specs.EndpointLocal.{EndpointLocal}
 use Rattle.node_record.specs.declared.answer.Asked.{Asked}
@@ -193,7 +193,7 @@ local_words segment (local.Cell value) = codes "cell" ∷ signed_decimal value �
 
 -- the number of the message at each slot of the node `me`, which has this record; 0 where there is none
 abbrev pub numbers_of : Parameters → (me : ℕ) → Node EndpointLocal → SlotRef → ℕ
-numbers_of settings me node at = unwrap_or (number_at settings me node at) 0
+numbers_of settings me node at = unwrap_or (number_in_slot settings me node at) 0
 
 -- this word, and the target, the slot and the number of the request at this slot
 abbrev pub sent_words : Word → SlotRef → (number : ℕ) → Line

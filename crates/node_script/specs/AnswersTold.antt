@@ -1,7 +1,7 @@
 -- What an answer names, of an endpoint as it stands after it.
 use Rattle.std.specs.Prelude.{◌≡◌, ◌+◌, ◌≤◌, ℕ, length, Some}
 use Rattle.node_record.specs.Record.{Node}
-use Rattle.node_record.specs.SlotMessages.{number_at}
+use Rattle.node_record.specs.SlotMessages.{number_in_slot}
 use Rattle.node_record.specs.declared.answer.SlotRef.{SlotRef}
 use Rattle.node_record.specs.declared.answer.Ticked.{Ticked}
 use Rattle.node_record.specs.declared.answer.Ticked.TheVariants as ticked
@@ -23,7 +23,7 @@ pub record HasNumber (endpoint : EndpointState) (at : SlotRef) : Type 0 where
   pub node : Node EndpointLocal
   pub stands : EndpointStands endpoint node
   pub number : ℕ
-  pub there : number_at endpoint.core.settings endpoint.core.me node at ≡ Some number
+  pub there : number_in_slot endpoint.core.settings endpoint.core.me node at ≡ Some number
 
 -- the range lies inside the segment of the endpoint
 pub record HasRange (endpoint : EndpointState) (offset len : ℕ) : Type 0 where

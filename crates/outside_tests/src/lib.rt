@@ -4,6 +4,12 @@
 //! has sockets of 127.0.0.1, the clock and processes.
 #![tactic(auto)]
 
+use datagram_grammar::MAX_DATAGRAM as LONGEST;
+use gas_outside::MAX_DATAGRAM;
+
+// A sieve and a sealed link take every datagram of a job.
+const _: () = prove!(MAX_DATAGRAM == LONGEST);
+
 #[cfg(test)]
 mod system;
 #[cfg(test)]

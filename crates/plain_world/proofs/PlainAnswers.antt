@@ -10,7 +10,7 @@ use Rattle.node_record.specs.Step.{reply_slot}
 use Rattle.node_record.specs.NodeStep.{Job, OfDelivery}
 use Rattle.plain_world.specs.World.{RequestComes, ReplyComes, WorldAnswer, OfNode, Unsent}
 use Rattle.plain_world.specs.Plain.{Plain, Labelled, IsRequest, InRuns, IsPassed}
-use Rattle.plain_world.specs.PlainStep.{Named, IsFresh, IsToTake, PlainStep}
+use Rattle.plain_world.specs.PlainStep.{Named, IsUnrun, IsToTake, PlainStep}
 use Rattle.plain_world.proofs.PlainReadings.{reply_among}
 
 -- a request of a pair by its number is one
@@ -25,7 +25,7 @@ Is answer b = answer ≡ OfNode (OfDelivery b)
 -- a request that hasn't run runs where it comes
 pub first_ran : {Local Call Told : Type 0} (job : Job Local Call Told) (p q : Plain Local) (name : Named)
     (request : Labelled)
-    (a : WorldAnswer Told) → IsFresh p name request
+    (a : WorldAnswer Told) → IsUnrun p name request
     → job.behaviour.messages.waits request.content (p.local name.to) ≡ None
     → PlainStep job p (RequestComes name.from name.to name.number) a q
     → Is a (job.behaviour.messages.runs_as request.content (reply_slot name.from request.label))
@@ -45,7 +45,7 @@ first_ran job p q name request a F free h = absurd h
 -- one that waits for a lock is deferred
 pub first_waits : {Local Call Told : Type 0} (job : Job Local Call Told) (p q : Plain Local) (name : Named)
     (request : Labelled)
-    (lock : ℕ) (a : WorldAnswer Told) → IsFresh p name request
+    (lock : ℕ) (a : WorldAnswer Told) → IsUnrun p name request
     → job.behaviour.messages.waits request.content (p.local name.to) ≡ Some lock
     → PlainStep job p (RequestComes name.from name.to name.number) a q → Is a (delivered.Deferred lock)
 first_waits job p q name request lock (OfNode (OfDelivery (delivered.Duplicate at))) F waits h = absurd (F.new h.1.ran)

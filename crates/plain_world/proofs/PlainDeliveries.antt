@@ -18,7 +18,7 @@ use Rattle.node_record.specs.declared.answer.Delivered.TheVariants as delivered
 use Rattle.node_record.specs.Record.{Request, Run}
 use Rattle.node_record.specs.Executed.{greatest, run_of}
 use Rattle.node_record.specs.Credits.{Limits, limits_of}
-use Rattle.node_record.specs.Behaviour.{IsRun, is_request, asks_well, replies_well}
+use Rattle.node_record.specs.Behaviour.{RanRequest, is_request, asks_well, replies_well}
 use Rattle.node_record.specs.Step.{refusal, Verdict, Duplicated, Passed, Runs, Missed, Returns, Waits, judged, taken_back}
 use Rattle.node_record.specs.Step.{verdict, answer_by, with_sender, reply_slot, after_delivery}
 use Rattle.node_record.specs.NodeStep.{Job, site_of, IsAllSound}
@@ -136,11 +136,11 @@ first_run : {Local Call Told : Type 0} (job : Job Local Call Told) (IsKept : (me
     (plain_of (put world to
     (after_delivery (site_of job to) (world to) (request_message job.settings from to number x) Runs)))
 first_run job IsKept world from to number x sound e new free a is =
-    go a is (subst (λ b. IsRun b (reply_slot from x.slot)) is
+    go a is (subst (λ b. RanRequest b (reply_slot from x.slot)) is
     (sound.messages.runs_as x.content (reply_slot from x.slot)))
   where
     go : (a : Delivered) → job.behaviour.messages.runs_as x.content (reply_slot from x.slot) ≡ a
-        → IsRun a (reply_slot from x.slot)
+        → RanRequest a (reply_slot from x.slot)
         → RunStep job.behaviour.messages (plain_of world) (named from to number) a
         (plain_of (put world to
         (after_delivery (site_of job to) (world to) (request_message job.settings from to number x) Runs)))

@@ -21,7 +21,7 @@ use Rattle.node_record.proofs.Runs.{run_of_there, greatest_bounds}
 use Rattle.plain_world.specs.World.{World, RequestComes, ReplyComes}
 use Rattle.plain_world.specs.Invariant.{Holds}
 use Rattle.plain_world.specs.Plain.{Labelled, IsRequest, IsPassed, plain_of, labelled}
-use Rattle.plain_world.specs.Laws.{IsWithin, FindSlots, ReplyStands, NonePasses, RepliesFindRequests, BackRan}
+use Rattle.plain_world.specs.Laws.{IsWithinCredits, FindSlots, ReplyStands, NonePasses, RepliesFindRequests, BackRan}
 use Rattle.plain_world.proofs.PlainReadings.{outstanding_is, is_back_at, is_back_says}
 use Rattle.plain_world.proofs.PlainReadings.{among_from, from_reply, reply_among}
 use Rattle.plain_world.proofs.PlainDeliveries.{greatest_run}
@@ -57,7 +57,7 @@ back_ran job IsKept world holds i j k back =
 
 -- requests are of one node to another one, and within the credits
 pub requests_within : {Local Call Told : Type 0} (job : Job Local Call Told) (IsKept : (me : ℕ) → Local → Type 0)
-    (world : World Local) → Holds job IsKept world → IsWithin job.settings world
+    (world : World Local) → Holds job IsKept world → IsWithinCredits job.settings world
 requests_within job IsKept world holds = record {
   nodes = λ i j k x e.
       let requests = (world i).asked j in

@@ -80,7 +80,7 @@ earliest_has P (c ∷ ds) d a e = subst P (same_Some _ _ e) (go (earliest ds) (�
     go None each = a.0
     go (Some b) each = elim (is_earlier b c) as (λ t. P (cond t b c)) [ true ↦ each b refl | false ↦ a.0 ]
 
--- the same numbers are exhausted out
+-- the same numbers are exhausted
 pub exhausted_is : {Local : Type 0} (settings : Parameters) (world : World Local) (i : ℕ)
     → plain_exhausted settings (plain_of world) i ≡ is_exhausted settings (world i)
 exhausted_is settings world i = fun_ext (λ to. ap (leb settings.last) (length-map ((world i).asked to) labelled))

@@ -67,7 +67,7 @@ settings = record {
   resend = 10;
 }
 
--- a call puts its number in front, and is told how many nodes' numbers are exhausted out of 0 to 2
+-- a call puts its number in front, and is told how many nodes' numbers are exhausted of 0 to 2
 abbrev job : Job (List ℕ) ℕ ℕ
 job = record {
   settings = settings;

@@ -7,7 +7,7 @@ use Rattle.node_record.specs.declared.answer.SlotRef.{SlotRef}
 use Rattle.node_record.specs.declared.answer.Delivered.{Delivered}
 use Rattle.node_record.specs.declared.answer.Delivered.TheVariants as delivered
 use Rattle.node_record.specs.Held.{held}
-use Rattle.node_record.specs.Behaviour.{IsRun}
+use Rattle.node_record.specs.Behaviour.{RanRequest}
 use Rattle.node_record.specs.NodeStep.{Job, OfDelivery}
 use Rattle.plain_world.specs.World.{World, opening, Event, RequestComes, ReplyComes, Timed, WorldAnswer, OfNode}
 use Rattle.plain_world.specs.World.{world_answer, run, answers_of}
@@ -56,7 +56,7 @@ pub record Delivers
 
 -- the answer says that a request was run
 abbrev pub IsRanAnswer : Delivered → Type 0
-IsRanAnswer answer = (at : SlotRef) × IsRun answer at
+IsRanAnswer answer = (at : SlotRef) × RanRequest answer at
 
 -- the answer says that a reply was taken
 abbrev pub IsReturned : Delivered → Type 0

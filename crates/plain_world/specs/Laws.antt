@@ -19,7 +19,7 @@ use Rattle.node_record.specs.SlotMessages.{message_at}
 use Rattle.node_record.specs.NodeStep.{Job, site_of, OfRequest, OfDelivery}
 use Rattle.plain_world.specs.World.{World, Event, Asks, RequestComes, ReplyComes, WorldAnswer, OfNode, world_answer}
 use Rattle.plain_world.specs.Plain.{Labelled, IsRequest, InRuns, IsPassed, reply_of, outstanding, plain_held, plain_of}
-use Rattle.plain_world.specs.PlainStep.{Named, Passes, IsFresh, IsToTake}
+use Rattle.plain_world.specs.PlainStep.{Named, Passes, IsUnrun, IsToTake}
 
 -- ---- answers
 
@@ -38,7 +38,7 @@ IsDelivered job world event answer = IsAnswered job world event (OfNode (OfDeliv
 
 -- requests are those of one node that is there to another one, with labels below the credits of the pair; of no pair
 -- more than these aren't back
-pub record IsWithin {Local : Type 0} (settings : Parameters) (world : World Local) : Type 0 where
+pub record IsWithinCredits {Local : Type 0} (settings : Parameters) (world : World Local) : Type 0 where
   pub nodes : (from to number : ℕ) (request : Labelled)
       → IsRequest (plain_of world) from to number request
       → (from < settings.nodes) × (to < settings.nodes) × (from ≢ to)
@@ -88,7 +88,7 @@ pub record FindsItsSlot
 
 abbrev pub FindSlots : {Local Call Told : Type 0} → Job Local Call Told → World Local → Type 0
 FindSlots job world =
-    (name : Named) (request : Labelled) → IsFresh (plain_of world) name request → FindsItsSlot job world name request
+    (name : Named) (request : Labelled) → IsUnrun (plain_of world) name request → FindsItsSlot job world name request
 
 -- the reply of the named request stands in the slot that the request reserved: its datagram is the message of that slot
 -- at the target, and the request, come again, is answered by it
@@ -151,7 +151,7 @@ BackRan world =
 
 -- the laws of a state
 pub record IsLawful {Local Call Told : Type 0} (job : Job Local Call Told) (world : World Local) : Type 0 where
-  pub within : IsWithin job.settings world
+  pub within : IsWithinCredits job.settings world
   pub few : HoldsFew job.settings world
   pub counts : CountsAgree job.settings world
   pub not_yet : NotYetExactly job world

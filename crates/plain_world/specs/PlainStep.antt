@@ -12,7 +12,7 @@ use Rattle.node_record.specs.declared.answer.Delivered.TheVariants as delivered
 use Rattle.node_record.specs.declared.answer.Ticked.{Ticked}
 use Rattle.node_record.specs.declared.answer.Ticked.TheVariants as ticked
 use Rattle.node_record.specs.Requests.{Claim}
-use Rattle.node_record.specs.Behaviour.{Behaviour, Ask, Contact, Sending, IsRun, IsFirstSent}
+use Rattle.node_record.specs.Behaviour.{Behaviour, Ask, Contact, Sending, RanRequest, IsFirstSent}
 use Rattle.node_record.specs.Step.{Site, request_fault, ran_here, reply_slot, request_slot}
 use Rattle.node_record.specs.NodeStep.{Job, site_of, NodeAnswer, OfRequest, OfCall, OfDelivery, OfTick}
 use Rattle.plain_world.specs.World.{Event, Asks, Does, RequestComes, ReplyComes, Ticks, Timed, WorldAnswer, OfNode}
@@ -85,7 +85,7 @@ abbrev pub named : (from to number : ℕ) → Named
 named from to number = record { from = from; to = to; number = number }
 
 -- the request was accepted, and hasn't run
-pub record IsFresh {Local : Type 0} (plain : Plain Local) (name : Named) (request : Labelled) : Type 0 where
+pub record IsUnrun {Local : Type 0} (plain : Plain Local) (name : Named) (request : Labelled) : Type 0 where
   pub is : IsRequest plain name.from name.to name.number request
   pub new : InRuns plain name.from name.to name.number → ⊥
 
@@ -114,10 +114,10 @@ pub record RunsFirst
     {Local : Type 0} (behaviour : Behaviour Local) (before : Plain Local) (name : Named) (answer : Delivered)
     (after : Plain Local) : Type 0 where
   pub request : Labelled
-  pub fresh : IsFresh before name request
+  pub fresh : IsUnrun before name request
   pub free : behaviour.waits request.content (before.local name.to) ≡ None
   pub runs_as : answer ≡ behaviour.runs_as request.content (reply_slot name.from request.label)
-  pub is_run : IsRun answer (reply_slot name.from request.label)
+  pub is_run : RanRequest answer (reply_slot name.from request.label)
   pub leaves :
       let out = behaviour.run (at_target name request) request.content (before.local name.to) in
       after ≡ with_replied before name.from name.to (record { number = name.number; reply = out.1 }) out.0
@@ -132,7 +132,7 @@ RunStep behaviour before name delivered.Stale after =
     (request : Labelled) × IsRepeat before name request
     × IsPassed before name.from name.to name.number request × (after ≡ before)
 RunStep behaviour before name (delivered.Deferred lock) after =
-    (request : Labelled) × IsFresh before name request
+    (request : Labelled) × IsUnrun before name request
     × (behaviour.waits request.content (before.local name.to) ≡ Some lock)
     × (after ≡ before)
 RunStep behaviour before name answer after = RunsFirst behaviour before name answer after

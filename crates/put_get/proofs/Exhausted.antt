@@ -1,4 +1,4 @@
--- The smallest node that is exhausted out and has an unissued chunk.
+-- The smallest node that is exhausted and has an unissued chunk.
 use Rattle.std.proofs.Common.{◌≡◌, inl, inr, ℕ, ◌≤◌, ◌==◌, Bool, true, false, true≢false, ◌&&◌, min, List, [], ◌∷◌}
 use Rattle.std.proofs.Common.{Option, None, Some, refl, sym, ap, ◌∙◌, subst, arith, eq-eqb}
 use Rattle.std.specs.List.{list_any}

@@ -11,7 +11,7 @@ use Rattle.put_get.specs.declared.table.Check.TheVariants.{Any, Others, Unissued
 use Rattle.put_get.specs.declared.operation.ImplicitKinds.{ImplicitKinds}
 use Rattle.put_get.specs.Operation.{Operation, Sent, returned_of, has_next, is_complete, target}
 use Rattle.put_get.specs.Syncs.{Choice, chosen, members, in_region, is_name, is_empty, is_other, implicit_of}
-use Rattle.put_get.specs.Table.{on_place, picked, passes, has}
+use Rattle.put_get.specs.Table.{on_place, picked, passes, has_passing}
 use Rattle.put_get.specs.Stands.{kept, Keeps, Agrees, member_in}
 use Rattle.put_get.proofs.Tests.{same_test, any_at, any_from}
 use Rattle.put_get.proofs.Counts.{number_at}
@@ -107,7 +107,7 @@ flipped (operation ∷ operations) = refl
 pub any_there : (places : List (Option Standing)) (operations : List Operation) (choice : Choice)
     (test : Standing → Bool)
     → Keeps places operations → Agrees choice test
-    → has test Any places ≡ not (is_empty (chosen choice 1 operations))
+    → has_passing test Any places ≡ not (is_empty (chosen choice 1 operations))
 any_there places operations choice test K A =
     any_is places operations choice test (λ operation. true) (passes Any) K A (λ number operation. refl)
     ∙ flipped (chosen choice 1 operations)
@@ -189,14 +189,14 @@ all_not_any (operation ∷ operations) = let later = all_not_any operations in
 pub others_is : (places : List (Option Standing)) (operations : List Operation) (choice : Choice)
     (test : Standing → Bool) (thread : ℕ)
     → Keeps places operations → Agrees choice test
-    → has test (Others thread) places ≡ list_any (is_other thread) (chosen choice 1 operations)
+    → has_passing test (Others thread) places ≡ list_any (is_other thread) (chosen choice 1 operations)
 others_is places operations choice test thread K A =
     any_is places operations choice test (is_other thread) (passes (Others thread)) K A (λ number operation. refl)
 
 pub complete_is : (places : List (Option Standing)) (operations : List Operation) (choice : Choice)
     (test : Standing → Bool)
     → Keeps places operations → Agrees choice test
-    → list_all is_complete (chosen choice 1 operations) ≡ not (has test Unfinished places)
+    → list_all is_complete (chosen choice 1 operations) ≡ not (has_passing test Unfinished places)
 complete_is places operations choice test K A =
     all_not_any (chosen choice 1 operations)
     ∙ ap not (sym
@@ -206,14 +206,14 @@ complete_is places operations choice test K A =
 pub unissued_is : (places : List (Option Standing)) (operations : List Operation) (choice : Choice)
     (test : Standing → Bool)
     → Keeps places operations → Agrees choice test
-    → has test Unissued places ≡ list_any has_next (chosen choice 1 operations)
+    → has_passing test Unissued places ≡ list_any has_next (chosen choice 1 operations)
 unissued_is places operations choice test K A =
     any_is places operations choice test has_next (passes Unissued) K A (λ number operation. refl)
 
 pub to_is : (places : List (Option Standing)) (operations : List Operation) (choice : Choice) (test : Standing → Bool)
     (node : ℕ)
     → Keeps places operations → Agrees choice test
-    → has test (UnissuedTo node) places
+    → has_passing test (UnissuedTo node) places
     ≡ list_any (λ operation. has_next operation && (target operation.transfer == node)) (chosen choice 1 operations)
 to_is places operations choice test node K A =
     any_is places operations choice test (λ operation. has_next operation && (target operation.transfer == node))

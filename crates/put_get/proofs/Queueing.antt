@@ -8,7 +8,7 @@ use Rattle.std.proofs.lemmas.List.{length-map}
 use Rattle.std.proofs.lemmas.Map.Steps.{length-le_from_distinct_below}
 use Rattle.std.proofs.lemmas.Option.{same_Some}
 use Rattle.put_get.specs.declared.queue.Queued.{Queued}
-use Rattle.put_get.specs.Queue.{IsQueue, IsAt, IsNowhere, IsQueuedAs, IsIndexFor, Leaves, Enters, Changes, Queues}
+use Rattle.put_get.specs.Queue.{IsQueue, WaitsAt, IsNowhere, IsQueuedAs, IsIndexFor, Leaves, Enters, Changes, Queues}
 use Rattle.put_get.proofs.Counts.{none_same}
 use Rattle.put_get.proofs.Edits.{inserted_was, inserted_here, inserted_kept, removed_was, removed_kept}
 
@@ -33,7 +33,7 @@ queue_removed queue index Q = record {
 }
 
 -- the place that was removed is nowhere any more
-pub removed_nowhere : (queue : List Queued) (index place : ℕ) → IsQueue queue → IsAt queue index place
+pub removed_nowhere : (queue : List Queued) (index place : ℕ) → IsQueue queue → WaitsAt queue index place
     → IsNowhere (remove queue index) place
 removed_nowhere queue index place Q A = λ at entry is same. elim (removed_was queue index at entry is) [
   | inl a ↦ (Q.order at index entry A.entry a.0 a.1 A.here).1 (same ∙ sym A.same)
@@ -42,7 +42,7 @@ removed_nowhere queue index place Q A = λ at entry is same. elim (removed_was q
 
 -- a place that waited left
 pub queue_left : (place : ℕ) (was : Option ℕ) (old new : List Queued) (index : ℕ) → is_some was ≡ true
-    → IsAt old index place → new ≡ remove old index → IsQueue old → Leaves place was old new
+    → WaitsAt old index place → new ≡ remove old index → IsQueue old → Leaves place was old new
 queue_left place None old new index some at is Q = absurd (true≢false (sym some))
 queue_left place (Some number) old new index some at is Q = record {
   goes = (index, at, is);
@@ -116,7 +116,7 @@ places : List Queued → List ℕ
 places queue = map (λ (entry : Queued). entry.place) queue
 
 place_at : (queue : List Queued) (place : ℕ) → list_any (eqb place) (places queue) ≡ true
-    → (index : ℕ) × IsAt queue index place
+    → (index : ℕ) × WaitsAt queue index place
 unfolding places
 place_at [] place is = absurd (true≢false (sym is))
 place_at (entry ∷ queue) place is = elim (cases_eq place entry.place) [
@@ -205,7 +205,7 @@ queues_left waits later place (Some number) old new Q was none others L = record
     is : new ≡ remove old L.goes.0
     is = L.goes.2
 
-    at_was : IsAt old L.goes.0 place
+    at_was : WaitsAt old L.goes.0 place
     at_was = L.goes.1
 
     before : (index : ℕ) (entry : Queued) → slice_get new index ≡ Some entry → waits entry.place ≡ Some entry.number

@@ -10,7 +10,7 @@ pub record IsQueue (queue : List Queued) : Type 0 where
   pub inside : (index : ℕ) (entry : Queued) → slice_get queue index ≡ Some entry → entry.place < 256
 
 -- the place waits there
-pub record IsAt (queue : List Queued) (index place : ℕ) : Type 0 where
+pub record WaitsAt (queue : List Queued) (index place : ℕ) : Type 0 where
   pub entry : Queued
   pub here : slice_get queue index ≡ Some entry
   pub same : entry.place ≡ place
@@ -22,7 +22,7 @@ IsNowhere queue place = (index : ℕ) (entry : Queued) → slice_get queue index
 -- the place waits exactly where there is a number by which it does
 abbrev pub IsQueuedAs : List Queued → (place : ℕ) → Option ℕ → Type 0
 IsQueuedAs queue place None = IsNowhere queue place
-IsQueuedAs queue place (Some number) = (index : ℕ) × IsAt queue index place
+IsQueuedAs queue place (Some number) = (index : ℕ) × WaitsAt queue index place
 
 -- an entry of that number goes there
 pub record IsIndexFor (queue : List Queued) (number index : ℕ) : Type 0 where
@@ -33,7 +33,7 @@ pub record IsIndexFor (queue : List Queued) (number index : ℕ) : Type 0 where
 -- the queue without the place, if it waited
 abbrev pub Goes : (place : ℕ) → Option ℕ → (old new : List Queued) → Type 0
 Goes place None old new = new ≡ old
-Goes place (Some number) old new = (index : ℕ) × (IsAt old index place) × (new ≡ remove old index)
+Goes place (Some number) old new = (index : ℕ) × (WaitsAt old index place) × (new ≡ remove old index)
 
 -- and the place doesn't wait any more
 pub record Leaves (place : ℕ) (was : Option ℕ) (old new : List Queued) : Type 0 where

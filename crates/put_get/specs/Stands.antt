@@ -14,7 +14,7 @@ use Rattle.put_get.specs.Operation.{Operation, returned_of, size, chunk_start, c
 use Rattle.put_get.specs.Operation.{standing}
 use Rattle.put_get.specs.SlotsState.{entry_at}
 use Rattle.put_get.specs.Outs.{Out, outs}
-use Rattle.put_get.specs.Table.{taken, on_place, picked, has, IsPlaceOf}
+use Rattle.put_get.specs.Table.{taken, on_place, picked, has_passing, IsPlaceOf}
 use Rattle.put_get.specs.Syncs.{Choice, is_name, is_implicit}
 
 -- what is kept of the operation of that number
@@ -65,6 +65,10 @@ pub record Stands (table : Transfers) (operations : List Operation) : Type 0 whe
 abbrev pub HasOperations : Transfers → Type 0
 HasOperations table = (operations : List Operation) × Stands table operations
 
+-- this holds of all operations of which the table is that
+abbrev pub ForItsOperations : Transfers → (List Operation → Type 0) → Type 0
+ForItsOperations table Holds = (operations : List Operation) → Stands table operations → Holds operations
+
 -- for how many nodes there is a table by slot, and how many slots each of them has
 pub record Room : Type 0 where
   pub nodes : ℕ
@@ -92,7 +96,8 @@ member_of_any places handles there =
 
 -- all members of the handle pass as complete
 abbrev pub is_whole_in : (places : List (Option Standing)) → Handle → Bool
-is_whole_in places handle = not (handle.serial == 0) && not (has (member_in places handle.serial) Unfinished places)
+is_whole_in places handle =
+    not (handle.serial == 0) && not (has_passing (member_in places handle.serial) Unfinished places)
 
 abbrev pub whole_here : (places : List (Option Standing)) → Handle → Standing → Bool
 whole_here places handle there = is_whole_in places handle && member_in places handle.serial there
@@ -107,12 +112,13 @@ pub record Agrees (choice : Choice) (test : Standing → Bool) : Type 0 where
       → choice number operation ≡ test (kept number operation)
   pub open_only : (number : ℕ) (operation : Operation) → choice number operation ≡ true → operation.synced ≡ false
 
--- the first node that is exhausted out and to which a record has an unissued chunk
+-- the first node that is exhausted and to which a record has an unissued chunk
 abbrev pub IsFirstExhausted : (exhausted : ℕ → Bool) → (Standing → Bool) → List (Option Standing) → Option ℕ → Type 0
-IsFirstExhausted exhausted test places None = (node : ℕ) → exhausted node ≡ true → has test (UnissuedTo node) places ≡ false
+IsFirstExhausted exhausted test places None =
+    (node : ℕ) → exhausted node ≡ true → has_passing test (UnissuedTo node) places ≡ false
 IsFirstExhausted exhausted test places (Some node) =
-    (exhausted node ≡ true) × (has test (UnissuedTo node) places ≡ true)
-    × ((other : ℕ) → other < node → exhausted other ≡ true → has test (UnissuedTo other) places ≡ false)
+    (exhausted node ≡ true) × (has_passing test (UnissuedTo node) places ≡ true)
+    × ((other : ℕ) → other < node → exhausted other ≡ true → has_passing test (UnissuedTo other) places ≡ false)
 
 -- ---- the next chunk
 

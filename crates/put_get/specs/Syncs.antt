@@ -75,7 +75,7 @@ abbrev pub less : ℕ → Option ℕ → Option ℕ
 less node None = Some node
 less node (Some other) = Some (min node other)
 
--- the smallest node that is exhausted out and has an unissued chunk of these
+-- the smallest node that is exhausted and has an unissued chunk of these
 abbrev pub exhausted_of : (exhausted : ℕ → Bool) → List Operation → Option ℕ
 exhausted_of exhausted [] = None
 exhausted_of exhausted (operation ∷ later) =

@@ -20,5 +20,5 @@ mod slots;
 mod table;
 mod transfers;
 
-pub use operation::{Handle, ImplicitKinds, Mode, Next, Synced, TooMany, Transfer};
+pub use operation::{Handle, ImplicitKinds, MAX_CHUNK, Mode, Next, Synced, TooMany, Transfer};
 pub use transfers::Transfers;

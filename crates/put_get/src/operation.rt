@@ -3,7 +3,11 @@
 ghost use Rattle.std.specs.Prelude.{◌≡◌};
 ghost use Rattle.put_get.specs.Operation.{target, size, is_get, chunks};
 
+use std::fmt;
 use std::fmt::Debug;
+
+/// The most bytes of a chunk: as many as the payload of a message may have.
+pub const MAX_CHUNK: u64 = 8192;
 
 /// What an operation of the extended API is called by. Number 0 is GASNET_INVALID_HANDLE: it stands for a finished
 /// operation.
@@ -74,7 +78,7 @@ pub enum Synced {
     NotYours,
     /// No operation and no region that stands has the handle's number.
     BadHandle,
-    /// Some chunk can't be issued any more: the numbers to this node are exhausted out. It is the smallest such node
+    /// Some chunk can't be issued any more: the numbers to this node are exhausted. It is the smallest such node
     /// (profile).
     Exhausted(u16),
 }
@@ -82,6 +86,12 @@ pub enum Synced {
 /// No operation can begin: 256 records stand, or number 2^64 - 1 was given.
 #[derive(Clone, Copy, PartialEq, Eq)]
 pub struct TooMany;
+
+impl fmt::Display for TooMany {
+    fn fmt<W: fmt::Write>(&self, f: &mut fmt::Formatter<W>) -> fmt::Result {
+        write!(f, "the node has as many operations as it can have")
+    }
+}
 
 /// A chunk that is to be issued next: `len` bytes from `start` on in the ranges of the transfer.
 #[derive(Clone, Copy)]
@@ -131,6 +141,6 @@ impl Transfer {
     pub fn chunks(&self) -> u64
         ensures { result ≡ chunks (size self.now) }
     {
-        self.size().div_ceil(8192)
+        self.size().div_ceil(MAX_CHUNK)
     }
 }

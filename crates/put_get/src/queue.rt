@@ -2,7 +2,7 @@
 
 ghost use Rattle.std.specs.Prelude.{◌≡◌, ◌<◌, ◌==◌, ℕ, [], Option, length, slice_get, IfOk, IfSome, IfNone};
 ghost use Rattle.put_get.specs.declared.queue.Queued.{Queued};
-ghost use Rattle.put_get.specs.Queue.{IsQueue, IsAt, IsNowhere, IsIndexFor, IsQueuedAs, Leaves, Enters, Changes};
+ghost use Rattle.put_get.specs.Queue.{IsQueue, WaitsAt, IsNowhere, IsIndexFor, IsQueuedAs, Leaves, Enters, Changes};
 
 use std::alloc::{AllocError, Global};
 use std::collections::VecDeque;
@@ -85,7 +85,7 @@ impl Queue {
 
     /// The index of a place.
     fn index_of(&self, place: usize) -> Option<usize>
-        ensures found { IfSome result (λ index. IsAt self.now index place) }
+        ensures found { IfSome result (λ index. WaitsAt self.now index place) }
         ensures none { IfNone result (IsNowhere self.now place) }
     {
         for index in 0..self.len() {

@@ -4,7 +4,7 @@ ghost use Rattle.std.specs.Prelude.{◌≡◌, ◌<◌, ◌≤◌, ℕ, List, Op
 ghost use Rattle.std.specs.Prelude.{slice_set, IfOk, IfSome, IfNone, Bool, not, ◌||◌, ◌&&◌};
 ghost use Rattle.put_get.specs.Syncs.{is_kind, flag_at};
 ghost use Rattle.put_get.specs.Table.{taken, is_unissued, waits_by, passes, picked, on_place, picks, ready, IsLeast};
-ghost use Rattle.put_get.specs.Table.{unless_marked, also, has, AreMarks, IsPlaceOf, AreDropped};
+ghost use Rattle.put_get.specs.Table.{unless_marked, also, has_passing, AreMarks, IsPlaceOf, AreDropped};
 ghost use Rattle.std.specs.List.{list_any};
 
 use crate::extent::Extent;
@@ -301,7 +301,7 @@ impl Table {
 
     /// Whether some record that is meant passes. It looks at none behind the first one that does.
     pub fn any_passes(&self, pick: Pick, check: Check) -> bool
-        ensures { result ≡ has (picked pick) check self.now }
+        ensures { result ≡ has_passing (picked pick) check self.now }
     {
         for place in 0..self.extent.end {
             if is_match(self.at(place), pick, check) {
@@ -324,7 +324,7 @@ impl Table {
     /// Whether some record that is marked passes.
     pub fn has(&self, marks: &[bool; 256], check: Check) -> bool
         ensures { (test : Standing → Bool) → AreMarks test self.now marks.now
-            → result ≡ has test check self.now }
+            → result ≡ has_passing test check self.now }
     {
         for place in 0..self.extent.end {
             if picks(self.at(place), flag_at(marks, place), check) {

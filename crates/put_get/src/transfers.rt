@@ -12,10 +12,11 @@ ghost use Rattle.put_get.specs.Syncs.{Choice, is_implicit, chosen, flag_at, memb
 ghost use Rattle.put_get.specs.Syncs.{after_handle, implicit_of, implicit_answer, left_by, issued_answer, fault_here};
 ghost use Rattle.put_get.specs.Syncs.{fault_of, members_of, all_answer, whole_of, some_here, some_answer, is_whole};
 ghost use Rattle.put_get.specs.Table.{AreMarks, also, is_unissued, picked};
-ghost use Rattle.put_get.specs.Stands.{HasOperations, room_of, Stands, Agrees, member_in, member_of, member_of_any};
+ghost use Rattle.put_get.specs.Stands.{HasOperations, ForItsOperations, room_of, Stands, Agrees, member_in};
+ghost use Rattle.put_get.specs.Stands.{member_of, member_of_any};
 ghost use Rattle.put_get.specs.Stands.{is_whole_in, whole_here, whole_in, IsFirstExhausted, CanNote, next_of};
 
-use crate::operation::{Handle, ImplicitKinds, Mode, Next, Synced, TooMany, Transfer};
+use crate::operation::{Handle, ImplicitKinds, MAX_CHUNK, Mode, Next, Synced, TooMany, Transfer};
 use crate::slots::{Slots, Waiting};
 use crate::table::{Check, Pick, Standing, Table, either, flag_at};
 use std::alloc::{AllocError, Global};
@@ -33,8 +34,8 @@ fn next_of(standing: Standing) -> Next
     requires { is_unissued standing ≡ true }
     ensures { result ≡ next_of standing }
 {
-    let start = standing.issued * 8192;
-    let len = (standing.transfer.size() - start).min(8192);
+    let start = standing.issued * MAX_CHUNK;
+    let len = (standing.transfer.size() - start).min(MAX_CHUNK);
     Next {
         number: standing.number,
         transfer: standing.transfer,
@@ -83,10 +84,10 @@ impl Transfers {
     /// was given. Nothing is issued yet. `InRegion(None)` names a new region by the operation's own number. (GASNet
     /// 1.8.1 extended API, gasnet_put_nb_bulk, gasnet_get_nbi and their like.)
     pub fn begin(&mut self, thread: u16, transfer: Transfer, mode: Mode) -> Result<Handle, TooMany>
-        ensures answer { (operations : List Operation) → Stands self.old operations
-            → result ≡ begin_answer operations }
-        ensures stands { (operations : List Operation) → Stands self.old operations
-            → Stands self.new (after_begin thread transfer mode operations) }
+        ensures answer { ForItsOperations self.old (λ operations.
+            result ≡ begin_answer operations) }
+        ensures stands { ForItsOperations self.old (λ operations.
+            Stands self.new (after_begin thread transfer mode operations)) }
         ensures room { room_of self.new ≡ room_of self.old }
     {
         let Some(place) = self.table.first_blank() else {
@@ -115,8 +116,8 @@ impl Transfers {
     /// for each node. Chunks of one operation come in the order of their ranges. It looks at no operation whose chunks
     /// were all issued, and at none that began later than the one that it finds.
     pub fn next(&self, can: &[bool]) -> Option<Next>
-        ensures next { (operations : List Operation) → Stands self.now operations
-            → result ≡ next_chunk (flag_at can.now) 1 operations }
+        ensures next { ForItsOperations self.now (λ operations.
+            result ≡ next_chunk (flag_at can.now) 1 operations) }
         ensures can_note { IfSome result (λ next. CanNote self.now next.number) }
     {
         match self.table.oldest(can) {
@@ -127,10 +128,10 @@ impl Transfers {
 
     /// Whether no operation has an unissued chunk. It looks at no record.
     pub fn is_idle(&self) -> bool
-        ensures idle { (operations : List Operation) → Stands self.now operations
-            → result ≡ not (list_any has_next operations) }
-        ensures next { (can : ℕ → Bool) (operations : List Operation) → Stands self.now operations
-            → result ≡ true → next_chunk can 1 operations ≡ None }
+        ensures idle { ForItsOperations self.now (λ operations.
+            result ≡ not (list_any has_next operations)) }
+        ensures next { (can : ℕ → Bool) → ForItsOperations self.now (λ operations.
+            result ≡ true → next_chunk can 1 operations ≡ None) }
     {
         self.table.is_idle()
     }
@@ -141,10 +142,10 @@ impl Transfers {
         requires stands { CanNote self.old next.now.number }
         requires to_in { target next.now.transfer < (room_of self.old).nodes }
         requires slot_in { slot < (room_of self.old).credits }
-        ensures stands { (can : ℕ → Bool) (operations : List Operation) (bytes : List ℕ)
-            → Stands self.old operations → next_chunk can 1 operations ≡ Some next.now
+        ensures stands { (can : ℕ → Bool) (bytes : List ℕ)
+            → ForItsOperations self.old (λ operations. next_chunk can 1 operations ≡ Some next.now
             → IsFreeSlot operations (target next.now.transfer) slot
-            → Stands self.new (issue (target next.now.transfer) slot request bytes operations) }
+            → Stands self.new (issue (target next.now.transfer) slot request bytes operations)) }
         ensures room { room_of self.new ≡ room_of self.old }
     {
         let Some(place) = self.table.place_of(next.number) else {
@@ -163,10 +164,10 @@ impl Transfers {
     /// back now.
     pub fn back(&mut self, to: u16, slot: u16, number: u64) -> bool
         requires { HasOperations self.old }
-        ensures answer { (operations : List Operation) → Stands self.old operations
-            → result ≡ has_out to slot number operations }
-        ensures stands { (operations : List Operation) → Stands self.old operations
-            → Stands self.new (come_back to slot number operations) }
+        ensures answer { ForItsOperations self.old (λ operations.
+            result ≡ has_out to slot number operations) }
+        ensures stands { ForItsOperations self.old (λ operations.
+            Stands self.new (come_back to slot number operations)) }
         ensures room { room_of self.new ≡ room_of self.old }
     {
         let Some(waiting) = self.slots.at(to, slot) else {
@@ -201,8 +202,8 @@ impl Transfers {
     /// Whether each chunk of a handle's operations was issued. `Some(true)` for the invalid handle, and `None` where no
     /// operation and no region has the number. It doesn't ask whose the handle is.
     pub fn issued(&self, handle: Handle) -> Option<bool>
-        ensures { (operations : List Operation) → Stands self.now operations
-            → result ≡ issued_answer handle.serial operations }
+        ensures { ForItsOperations self.now (λ operations.
+            result ≡ issued_answer handle.serial operations) }
     {
         if handle.serial == 0 {
             return Some(true);
@@ -220,13 +221,13 @@ impl Transfers {
     /// handle. It doesn't ask whose the operation is. (What gasnet_put_nb and gasnet_put_nbi wait for; of a region
     /// `issued` speaks.)
     pub fn has_unissued(&self, handle: Handle) -> bool
-        ensures { (operations : List Operation) → Stands self.now operations
-            → result ≡ has_unissued handle.serial operations }
+        ensures { ForItsOperations self.now (λ operations.
+            result ≡ has_unissued handle.serial operations) }
     {
         self.table.place_of(handle.serial).is_some()
     }
 
-    /// The smallest node that is exhausted out and has an unissued chunk of what is marked.
+    /// The smallest node that is exhausted and has an unissued chunk of what is marked.
     fn first_exhausted(&self, exhausted: &[bool], marks: &[bool; 256]) -> Option<u16>
         requires { length exhausted.now ≤ 65536 }
         ensures { (test : Standing → Bool) → AreMarks test self.now.table marks.now
@@ -243,14 +244,14 @@ impl Transfers {
     /// Where what is marked is complete it goes.
     fn sync_marked(&mut self, exhausted: &[bool], marks: &[bool; 256]) -> Synced
         requires { length exhausted.now ≤ 65536 }
-        ensures answer { (operations : List Operation) (choice : Choice) (test : Standing → Bool)
-            → Stands self.old operations
+        ensures answer { ForItsOperations self.old (λ operations.
+            (choice : Choice) (test : Standing → Bool)
             → AreMarks test self.old.table marks.now → Agrees choice test
-            → result ≡ sync_answer (flag_at exhausted.now) (chosen choice 1 operations) }
-        ensures stands { (operations : List Operation) (choice : Choice) (test : Standing → Bool)
-            → Stands self.old operations
+            → result ≡ sync_answer (flag_at exhausted.now) (chosen choice 1 operations)) }
+        ensures stands { ForItsOperations self.old (λ operations.
+            (choice : Choice) (test : Standing → Bool)
             → AreMarks test self.old.table marks.now → Agrees choice test
-            → Stands self.new (left_by result choice operations) }
+            → Stands self.new (left_by result choice operations)) }
         ensures room { room_of self.new ≡ room_of self.old }
     {
         if !self.table.has(marks, Check::Unfinished) {
@@ -263,7 +264,7 @@ impl Transfers {
         }
     }
 
-    /// The smallest node that is exhausted out and has an unissued chunk of what is meant.
+    /// The smallest node that is exhausted and has an unissued chunk of what is meant.
     fn first_exhausted_of(&self, exhausted: &[bool], pick: Pick) -> Option<u16>
         requires { length exhausted.now ≤ 65536 }
         ensures { IsFirstExhausted (flag_at exhausted.now) (picked pick) self.now.table result }
@@ -282,12 +283,12 @@ impl Transfers {
     /// record is marked.
     fn sync_picked(&mut self, exhausted: &[bool], pick: Pick) -> Synced
         requires { length exhausted.now ≤ 65536 }
-        ensures answer { (operations : List Operation) (choice : Choice) → Stands self.old operations
+        ensures answer { ForItsOperations self.old (λ operations. (choice : Choice)
             → Agrees choice (picked pick)
-            → result ≡ sync_answer (flag_at exhausted.now) (chosen choice 1 operations) }
-        ensures stands { (operations : List Operation) (choice : Choice) → Stands self.old operations
+            → result ≡ sync_answer (flag_at exhausted.now) (chosen choice 1 operations)) }
+        ensures stands { ForItsOperations self.old (λ operations. (choice : Choice)
             → Agrees choice (picked pick)
-            → Stands self.new (left_by result choice operations) }
+            → Stands self.new (left_by result choice operations)) }
         ensures room { room_of self.new ≡ room_of self.old }
     {
         if !self.table.any_passes(pick, Check::Unfinished) {
@@ -305,10 +306,10 @@ impl Transfers {
     /// What is wrong with a handle whose members are marked, if anything is: no operation and no region has it, or
     /// another thread's has.
     fn fault(&self, thread: u16, marks: &[bool; 256]) -> Option<Synced>
-        ensures { (operations : List Operation) (choice : Choice) (test : Standing → Bool)
-            → Stands self.now operations
+        ensures { ForItsOperations self.now (λ operations.
+            (choice : Choice) (test : Standing → Bool)
             → AreMarks test self.now.table marks.now → Agrees choice test
-            → result ≡ fault_here thread (chosen choice 1 operations) }
+            → result ≡ fault_here thread (chosen choice 1 operations)) }
     {
         if !self.table.has(marks, Check::Any) {
             return Some(Synced::BadHandle);
@@ -319,17 +320,17 @@ impl Transfers {
         None
     }
 
-    /// A sync of a handle that doesn't wait; `exhausted` has a flag for each node whose numbers are exhausted out. The first of
-    /// these that applies: `Ok` for the invalid handle; `BadHandle` where no operation and no region that stands has
+    /// A sync of a handle that doesn't wait; `exhausted` has a flag for each node whose numbers are exhausted. The
+    /// first of these that applies: `Ok` for the invalid handle; `BadHandle` where no operation and no region that stands has
     /// the number; `NotYours` where it belongs to another thread; `Ok` where the operation is complete, or all those of
-    /// the region are, and their records go; `Exhausted` with the smallest exhausted-out node to which a chunk is unissued;
+    /// the region are, and their records go; `Exhausted` with the smallest exhausted node to which a chunk is unissued;
     /// else `NotReady`. (GASNet 1.8.1 extended API, gasnet_try_syncnb.)
     pub fn try_sync(&mut self, exhausted: &[bool], thread: u16, handle: Handle) -> Synced
         requires { length exhausted.now ≤ 65536 }
-        ensures answer { (operations : List Operation) → Stands self.old operations
-            → result ≡ handle_answer (flag_at exhausted.now) thread handle.serial operations }
-        ensures stands { (operations : List Operation) → Stands self.old operations
-            → Stands self.new (after_handle result handle.serial operations) }
+        ensures answer { ForItsOperations self.old (λ operations.
+            result ≡ handle_answer (flag_at exhausted.now) thread handle.serial operations) }
+        ensures stands { ForItsOperations self.old (λ operations.
+            Stands self.new (after_handle result handle.serial operations)) }
         ensures room { room_of self.new ≡ room_of self.old }
     {
         if handle.serial == 0 {
@@ -343,8 +344,8 @@ impl Transfers {
         }
     }
 
-    /// A sync of the thread's implicit operations outside regions that doesn't wait: `Ok`, `Exhausted` or `NotReady`, as
-    /// with `try_sync`. (GASNet 1.8.1 extended API, gasnet_try_syncnbi_all and its like.)
+    /// A sync of the thread's implicit operations outside regions that doesn't wait: `Ok`, `Exhausted` or `NotReady`,
+    /// as with `try_sync`. (GASNet 1.8.1 extended API, gasnet_try_syncnbi_all and its like.)
     pub fn try_sync_implicit(
         &mut self,
         exhausted: &[bool],
@@ -352,10 +353,10 @@ impl Transfers {
         which: ImplicitKinds,
     ) -> Synced
         requires { length exhausted.now ≤ 65536 }
-        ensures answer { (operations : List Operation) → Stands self.old operations
-            → result ≡ implicit_answer (flag_at exhausted.now) thread which operations }
-        ensures stands { (operations : List Operation) → Stands self.old operations
-            → Stands self.new (left_by result (implicit_of thread which) operations) }
+        ensures answer { ForItsOperations self.old (λ operations.
+            result ≡ implicit_answer (flag_at exhausted.now) thread which operations) }
+        ensures stands { ForItsOperations self.old (λ operations.
+            Stands self.new (left_by result (implicit_of thread which) operations)) }
         ensures room { room_of self.new ≡ room_of self.old }
     {
         self.sync_picked(exhausted, Pick::Implicit { thread, which })
@@ -365,8 +366,8 @@ impl Transfers {
 impl Transfers {
     /// What is wrong with a handle other than the invalid one, if anything is.
     fn fault_of(&self, thread: u16, handle: u64) -> Option<Synced>
-        ensures { (operations : List Operation) → Stands self.now operations
-            → result ≡ fault_here thread (chosen (members handle operations) 1 operations) }
+        ensures { ForItsOperations self.now (λ operations.
+            result ≡ fault_here thread (chosen (members handle operations) 1 operations)) }
     {
         let mut marks = [false; 256];
         self.mark_members(handle, &mut marks);
@@ -375,8 +376,8 @@ impl Transfers {
 
     /// The first fault of these handles.
     fn first_fault(&self, thread: u16, handles: &[Handle]) -> Option<Synced>
-        ensures { (operations : List Operation) → Stands self.now operations
-            → result ≡ fault_of thread operations handles.now }
+        ensures { ForItsOperations self.now (λ operations.
+            result ≡ fault_of thread operations handles.now) }
     {
         for handle in handles {
             if handle.serial != 0 {
@@ -415,10 +416,10 @@ impl Transfers {
     /// all of them. Nothing changes unless it is `Ok` (profile). (GASNet 1.8.1 extended API, gasnet_try_syncnb_all.)
     pub fn try_sync_all(&mut self, exhausted: &[bool], thread: u16, handles: &[Handle]) -> Synced
         requires { length exhausted.now ≤ 65536 }
-        ensures answer { (operations : List Operation) → Stands self.old operations
-            → result ≡ all_answer (flag_at exhausted.now) thread handles.now operations }
-        ensures stands { (operations : List Operation) → Stands self.old operations
-            → Stands self.new (left_by result (members_of handles.now operations) operations) }
+        ensures answer { ForItsOperations self.old (λ operations.
+            result ≡ all_answer (flag_at exhausted.now) thread handles.now operations) }
+        ensures stands { ForItsOperations self.old (λ operations.
+            Stands self.new (left_by result (members_of handles.now operations) operations)) }
         ensures room { room_of self.new ≡ room_of self.old }
     {
         match self.first_fault(thread, handles) {
@@ -460,8 +461,7 @@ impl Transfers {
     /// Whether each of the handle's operations that stand is complete: each chunk of it was issued and is back. True
     /// where it has none, false for the invalid handle; it doesn't ask whose the handle is.
     pub fn is_complete(&self, handle: Handle) -> bool
-        ensures { (operations : List Operation) → Stands self.now operations
-            → result ≡ is_whole operations handle }
+        ensures { ForItsOperations self.now (λ operations. result ≡ is_whole operations handle) }
     {
         self.is_whole(handle)
     }
@@ -501,10 +501,10 @@ impl Transfers {
     /// A sync of those of these handles that are complete, where none has a fault.
     fn sync_some(&mut self, exhausted: &[bool], handles: &[Handle]) -> Synced
         requires { length exhausted.now ≤ 65536 }
-        ensures answer { (operations : List Operation) → Stands self.old operations
-            → result ≡ some_here (flag_at exhausted.now) handles.now operations }
-        ensures stands { (operations : List Operation) → Stands self.old operations
-            → Stands self.new (left_by result (whole_of handles.now operations) operations) }
+        ensures answer { ForItsOperations self.old (λ operations.
+            result ≡ some_here (flag_at exhausted.now) handles.now operations) }
+        ensures stands { ForItsOperations self.old (λ operations.
+            Stands self.new (left_by result (whole_of handles.now operations) operations)) }
         ensures room { room_of self.new ≡ room_of self.old }
     {
         let mut marks = [false; 256];
@@ -525,10 +525,10 @@ impl Transfers {
     /// gasnet_try_syncnb_some.)
     pub fn try_sync_some(&mut self, exhausted: &[bool], thread: u16, handles: &[Handle]) -> Synced
         requires { length exhausted.now ≤ 65536 }
-        ensures answer { (operations : List Operation) → Stands self.old operations
-            → result ≡ some_answer (flag_at exhausted.now) thread handles.now operations }
-        ensures stands { (operations : List Operation) → Stands self.old operations
-            → Stands self.new (left_by result (whole_of handles.now operations) operations) }
+        ensures answer { ForItsOperations self.old (λ operations.
+            result ≡ some_answer (flag_at exhausted.now) thread handles.now operations) }
+        ensures stands { ForItsOperations self.old (λ operations.
+            Stands self.new (left_by result (whole_of handles.now operations) operations)) }
         ensures room { room_of self.new ≡ room_of self.old }
     {
         match self.first_fault(thread, handles) {

@@ -5,9 +5,9 @@ use Rattle.raw_segment.specs.declared.raw.Bytes.{Bytes}
 use Rattle.raw_segment.specs.contracts.raw.Bytes.{the_row}
 use Rattle.raw_segment.specs.Bytes.{with_lent}
 
-abbrev pub with_run : Bytes → (offset len : ℕ) → List ℕ → Bytes
-with_run bytes offset len written = record bytes { items = with_lent bytes.items offset len written }
+abbrev pub with_written_run : Bytes → (offset len : ℕ) → List ℕ → Bytes
+with_written_run bytes offset len written = record bytes { items = with_lent bytes.items offset len written }
 
 abbrev pub LendsRun : MutBor Bytes → (offset len : ℕ) → MutBor (List ℕ) → Fml
 LendsRun bytes offset len lent =
-    Lends the_row (Array u8 0) bytes lent (with_run bytes.now offset len)
+    Lends the_row (Array u8 0) bytes lent (with_written_run bytes.now offset len)

@@ -8,16 +8,16 @@ use arrayvec::ArrayVec;
 use std::alloc::{AllocError, Global};
 use std::marker::Model;
 
-/// The bytes of a part.
+/// The bytes of a part: as many as the longest datagram has.
 pub const PART_BYTES: usize = 8296;
 
-static ZEROS: [u8; 8296] = [0; 8296];
+static ZEROS: [u8; PART_BYTES] = [0; PART_BYTES];
 
 // A part, and the bytes up to the next one: 8,320 bytes together. An `ArrayVec` keeps its length
 // while it is lent.
 #[derive(Drop)]
 struct Part {
-    bytes: ArrayVec<u8, 8296>,
+    bytes: ArrayVec<u8, PART_BYTES>,
     gap: [u64; 2],
 }
 
@@ -39,7 +39,7 @@ impl Part {
         ensures { result ≡ replicate 8296 0 }
     {
         Part {
-            bytes: ArrayVec::from([0; 8296]),
+            bytes: ArrayVec::from([0; PART_BYTES]),
             gap: [0; 2],
         }
     }

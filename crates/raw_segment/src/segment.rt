@@ -5,11 +5,21 @@ ghost use Rattle.std.specs.Prelude.{◌≡◌, ◌+◌, ◌≤◌, IsTrue, ◌�
 use crate::plain::Plain;
 use crate::raw::{Bytes, Lease};
 use std::alloc::{AllocError, Global};
+use std::error::Error;
+use std::fmt;
 use std::marker::{Model, PhantomData};
 
 /// The range passes the end of the segment.
 #[derive(Clone, Copy, Debug, Drop)]
 pub struct Outside;
+
+impl fmt::Display for Outside {
+    fn fmt<W: fmt::Write>(&self, f: &mut fmt::Formatter<W>) -> fmt::Result {
+        write!(f, "the range passes the end of the segment")
+    }
+}
+
+impl Error for Outside {}
 
 /// Why two parts cannot be lent at once.
 #[derive(Clone, Copy, Debug, Drop)]
@@ -20,6 +30,17 @@ pub enum PartFault {
     Overlap,
 }
 
+impl fmt::Display for PartFault {
+    fn fmt<W: fmt::Write>(&self, f: &mut fmt::Formatter<W>) -> fmt::Result {
+        match *self {
+            PartFault::Outside => write!(f, "a part passes the end of the segment"),
+            PartFault::Overlap => write!(f, "the parts share a byte"),
+        }
+    }
+}
+
+impl Error for PartFault {}
+
 /// Why a number is not read or written.
 #[derive(Clone, Copy, Debug, Drop)]
 pub enum TypedFault {
@@ -28,6 +49,17 @@ pub enum TypedFault {
     /// They lie inside, and its offset is no multiple of its size.
     Unaligned,
 }
+
+impl fmt::Display for TypedFault {
+    fn fmt<W: fmt::Write>(&self, f: &mut fmt::Formatter<W>) -> fmt::Result {
+        match *self {
+            TypedFault::Outside => write!(f, "the number passes the end of the segment"),
+            TypedFault::Unaligned => write!(f, "the offset is no multiple of the size"),
+        }
+    }
+}
+
+impl Error for TypedFault {}
 
 /// The place of a `T` in a segment.
 #[derive(Clone, Copy, Drop)]

@@ -90,8 +90,8 @@ abbrev pub message_at : RepliesState → ℕ → ℕ → Option (List ℕ)
 message_at table from slot = option_and_then message_of (slot_at table from slot)
 
 -- the number of the request whose reply a slot of this node keeps
-abbrev pub number_at : RepliesState → ℕ → ℕ → Option ℕ
-number_at table from slot = option_and_then message_number (slot_at table from slot)
+abbrev pub kept_number_at : RepliesState → ℕ → ℕ → Option ℕ
+kept_number_at table from slot = option_and_then message_number (slot_at table from slot)
 
 -- how a request's number stands to the last number of a slot of this node
 abbrev pub JudgesAt : RepliesState → ℕ → ℕ → ℕ → Judged → Type 0

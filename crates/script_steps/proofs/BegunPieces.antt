@@ -26,8 +26,8 @@ use Rattle.job_text.specs.declared.vis.VisText.{VisText}
 use Rattle.job_text.proofs.VisLaws.{vis_from, vis_settings}
 use Rattle.node_caller.specs.Sites.{ThreadCall, node_in_the_end, node_then}
 use Rattle.std.specs.Prelude.{false, is_none, is_some}
-use Rattle.node_runs.specs.Actions.{FormMay, Part, part_of}
-use Rattle.node_runs.specs.Outgoing.{slot_of, StaysWell}
+use Rattle.node_runs.specs.Actions.{FormMay, Part, step_part_of}
+use Rattle.node_runs.specs.Outgoing.{slot_of_packet, StaysWell}
 use Rattle.node_runs.specs.Scripts.{TryContext}
 use Rattle.node_runs.specs.Turn.{events_of, first_answer, node_run, node_sends}
 use Rattle.node_runs.specs.declared.script_answer.ScriptAnswer.TheVariants as said
@@ -187,10 +187,10 @@ pieces_tried meaning old new last trial plan from register answer lawful B is =
     (subst (λ (one : Vis). DoesPart meaning old trial node tried
     (begun_by (in_one_try (part_at one)) trial.began tried.ended) new (part_at one)) (B.answered node stands) (
       subst (EndpointStands new) does.leaves (B.leaves node stands),
-      sym (ap (map slot_of) does.sends),
+      sym (ap (map slot_of_packet) does.sends),
       does.well,
       refl,
-      none_begun false (is_none trial.began) (is_some (part_of (part_at answer) (part_at answer) trial.began).next)
+      none_begun false (is_none trial.began) (is_some (step_part_of (part_at answer) (part_at answer) trial.began).next)
           (first_answer (job_here meaning old) old.core.me trial.thread trial.time (part_at answer).calls node)
           trial.began tried.ended refl,
     ))))

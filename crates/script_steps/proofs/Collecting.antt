@@ -12,7 +12,7 @@ use Rattle.gas_collectives.specs.CollectivesState.{CollectivesState, IsSameNode}
 use Rattle.gas_endpoint.specs.EndpointState.{EndpointState, EndpointStands, ForItsRecord}
 use Rattle.job_text.specs.declared.job.CollectiveText.{CollectiveText}
 use Rattle.job_text.specs.declared.job.CollectiveText.TheVariants as text
-use Rattle.node_runs.specs.Actions.{Form, Several, Part, StepContext, collectives_after, part_of}
+use Rattle.node_runs.specs.Actions.{Form, Several, Part, StepContext, collectives_after, step_part_of}
 use Rattle.node_runs.specs.Scripts.{TryContext}
 use Rattle.node_runs.specs.declared.script_answer.ScriptAnswer.{ScriptAnswer}
 use Rattle.collective_steps.specs.Parts.{first_part, later_part}
@@ -61,7 +61,7 @@ part_tries meaning old new trial part it next told same tried ends =
       P.ended,
       never_begun told.moved told.ended ended
           ∙ none_begun (is_none (part node).ended && is_some (part node).next) (is_none trial.began)
-          (is_some (part_of (part node) (part node) trial.began).next) _ trial.began told.ended ended,
+          (is_some (step_part_of (part node) (part node) trial.began).next) _ trial.began told.ended ended,
     ))
 
 -- a node without collectives
@@ -74,7 +74,7 @@ nothing_tries meaning old trial =
   where
     by_began : (began : Option Answer) (node : Node EndpointLocal) → EndpointStands old node
         → DoesPart meaning old trial node no_collectives (begun_by nothing_there began no_collectives.ended) old
-        (part_of nothing_part nothing_part began)
+        (step_part_of nothing_part nothing_part began)
     by_began None node stands = (stands, refl, well_of old node stands, refl, refl)
     by_began (Some first) node stands = (stands, refl, well_of old node stands, refl, refl)
 

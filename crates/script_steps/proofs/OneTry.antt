@@ -7,14 +7,14 @@ use Rattle.node_record.specs.Record.{Node}
 use Rattle.endpoint_rules.specs.EndpointLocal.{EndpointLocal, IsEndpointKept}
 use Rattle.endpoint_rules.specs.declared.answer.Answer.{Answer}
 use Rattle.gas_endpoint.specs.EndpointState.{EndpointState, EndpointStands, job_here}
-use Rattle.node_runs.specs.Actions.{Part, part_of}
-use Rattle.node_runs.specs.Outgoing.{slot_of, StaysWell}
+use Rattle.node_runs.specs.Actions.{Part, step_part_of}
+use Rattle.node_runs.specs.Outgoing.{slot_of_packet, StaysWell}
 use Rattle.node_runs.specs.Turn.{events_of, first_answer, node_run, node_sends}
 use Rattle.node_runs.specs.declared.script_answer.ScriptAnswer.{ScriptAnswer}
 use Rattle.script_steps.specs.declared.trial.Trial.{Trial}
 use Rattle.script_steps.specs.declared.trial.Tried.{Tried}
 
-pub one_part : (part : Part) (began : Option Answer) → part_of part part began ≡ part
+pub one_part : (part : Part) (began : Option Answer) → step_part_of part part began ≡ part
 one_part part None = refl
 one_part part (Some answer) = refl
 
@@ -44,7 +44,7 @@ DoesPart meaning old trial node tried begun new part =
     let job = job_here meaning old in
     let events = events_of trial.thread part.calls in
     EndpointStands new (node_run job old.core.me trial.time events node)
-    × (option_to_list tried.sent ≡ map slot_of (node_sends job old.core.me trial.time events node))
+    × (option_to_list tried.sent ≡ map slot_of_packet (node_sends job old.core.me trial.time events node))
     × StaysWell job (IsEndpointKept job.settings) old.core.me trial.time events node
     × (tried.ended ≡ part.ended)
     × (tried.began ≡ begun (first_answer job old.core.me trial.thread trial.time part.calls node))

@@ -19,12 +19,12 @@ use Rattle.endpoint_rules.specs.EndpointRules.{told, transition}
 use Rattle.endpoint_rules.specs.Sends.{sends}
 use Rattle.endpoint_rules.specs.declared.answer.Answer.{Answer}
 use Rattle.gas_endpoint.specs.EndpointState.{EndpointState, EndpointStands, ForItsRecord, NodeSteps, job_here}
-use Rattle.gas_endpoint.specs.Sends.{AreThatOf, NodeSends, slot_of as endpoint_slot}
+use Rattle.gas_endpoint.specs.Sends.{AreThatOf, NodeSends, sender_slot as endpoint_slot}
 use Rattle.job_text.specs.declared.job.ScriptStep.{ScriptStep}
 use Rattle.node_runs.specs.Actions.{Form, Once, Again, Until, Twice, Looks, Several, Progress, calls_of, ended_by}
 use Rattle.node_runs.specs.Actions.{begins, moves}
 use Rattle.node_runs.specs.Actions.{progress_after, tried_form}
-use Rattle.node_runs.specs.Outgoing.{slot_of, StaysWell}
+use Rattle.node_runs.specs.Outgoing.{slot_of_packet, StaysWell}
 use Rattle.node_runs.specs.declared.script_answer.ScriptAnswer.{ScriptAnswer}
 use Rattle.node_runs.specs.Scripts.{ThreadCall, Tried as FormTried}
 use Rattle.node_runs.specs.Turn.{node_run, node_sends, events_of, first_answer}
@@ -50,17 +50,17 @@ well_of endpoint node stands =
       kept = stands.kept;
     }
 
-same_slot : (packet : Packet) → endpoint_slot packet ≡ slot_of packet
+same_slot : (packet : Packet) → endpoint_slot packet ≡ slot_of_packet packet
 same_slot (Asking place content) = refl
 same_slot (Replying place content) = refl
 
 -- the slot that an answer tells
 pub slots_told : (told_slot : Option SlotRef) (packets : List Packet) → AreThatOf told_slot packets
-    → option_to_list told_slot ≡ map slot_of (packets ++ [])
-slots_told None packets none = ap (λ (list : List Packet). map slot_of (list ++ [])) (sym none)
+    → option_to_list told_slot ≡ map slot_of_packet (packets ++ [])
+slots_told None packets none = ap (λ (list : List Packet). map slot_of_packet (list ++ [])) (sym none)
 slots_told (Some at) packets one =
     ap (λ (slot : SlotRef). slot ∷ []) (sym one.2 ∙ same_slot one.0)
-    ∙ ap (λ (list : List Packet). map slot_of (list ++ [])) (sym one.1)
+    ∙ ap (λ (list : List Packet). map slot_of_packet (list ++ [])) (sym one.1)
 
 -- what holds at the node after an event holds at the same node before it
 pub at_same : (old new : CoreState) (Holds : Parameters → ℕ → Type 0) → IsSameNode old new
@@ -118,7 +118,7 @@ CallsOf meaning old trial tried new node calls =
     let after = node_run job old.core.me trial.now events node in
     let answer = first_answer job old.core.me trial.thread trial.now calls node in
     EndpointStands new after
-    × (option_to_list tried.sent ≡ map slot_of (node_sends job old.core.me trial.now events node))
+    × (option_to_list tried.sent ≡ map slot_of_packet (node_sends job old.core.me trial.now events node))
     × StaysWell job (IsEndpointKept job.settings) old.core.me trial.now events node
     × (tried.ended ≡ ended_by (trial.form node) trial.began after answer)
     × (tried.began ≡ begun_by (trial.form node) trial.began tried.ended answer)

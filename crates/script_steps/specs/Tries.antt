@@ -21,8 +21,8 @@ use Rattle.gas_collectives.specs.declared.answers.StepAnswer.TheVariants as step
 use Rattle.node_runs.specs.declared.script_answer.ScriptAnswer.TheVariants as said
 use Rattle.gas_collectives.specs.CollectivesState.{CollectivesState}
 use Rattle.node_runs.specs.Actions.{Form, Several, Progress, StepContext, calls_of, collectives_after, ended_by, begins}
-use Rattle.node_runs.specs.Actions.{part_of, tried_form, unless}
-use Rattle.node_runs.specs.Outgoing.{slot_of, StaysWell}
+use Rattle.node_runs.specs.Actions.{step_part_of, tried_form, unless}
+use Rattle.node_runs.specs.Outgoing.{slot_of_packet, StaysWell}
 use Rattle.node_runs.specs.declared.script_answer.ScriptAnswer.{ScriptAnswer}
 use Rattle.node_runs.specs.Scripts.{ThreadCall, Tried as FormTried, TryContext}
 use Rattle.node_runs.specs.Turn.{node_run, node_sends, events_of, first_answer}
@@ -51,7 +51,7 @@ pub record HasHappened
     (job : EndpointJob) (me : ℕ) (happening : Happening) (node : Node EndpointLocal) (new : EndpointState) : Type 0
   where
     pub stands : EndpointStands new (node_run job me happening.now (happening.events node) node)
-    pub slots_are : happening.slots ≡ map slot_of (node_sends job me happening.now (happening.events node) node)
+    pub slots_are : happening.slots ≡ map slot_of_packet (node_sends job me happening.now (happening.events node) node)
     pub well : StaysWell job (IsEndpointKept job.settings) me happening.now (happening.events node) node
 
 -- the core of the same node of the same job, with the same table
@@ -116,7 +116,7 @@ trial_after job me trial node = node_run job me trial.now (trial_events trial no
 -- the answer with which a step of this form began, where this try changed the node's collectives, and didn't end it
 abbrev pub moved_by : Form EndpointLocal → (began : Option Answer) → (ended : Option ScriptAnswer) → Option Answer
 moved_by (Several first later) began ended =
-    if is_some (part_of first later began).next && is_none ended then began else None
+    if is_some (step_part_of first later began).next && is_none ended then began else None
 moved_by form began ended = None
 
 -- the answer with which a try of this form began its step, where it began it and didn't end it; or with which an earlier
@@ -192,15 +192,15 @@ abbrev pub as_form : Meaning → Found → Trial → FormTrial
 as_form meaning found trial = read_as trial (step_form trial.step.now (step_here meaning found trial.thread trial.time))
 
 -- what is left of the script whose step was tried, and behind which this is left
-abbrev pub left_by : Trial → Tried → (rest : List ScriptStep) → Progress ScriptStep
-left_by trial tried rest =
+abbrev pub rest_left : Trial → Tried → (rest : List ScriptStep) → Progress ScriptStep
+rest_left trial tried rest =
     if is_some tried.ended then record { left = rest; began = None }
     else record { left = trial.step.now ∷ rest; began = option_or tried.began trial.began }
 
 -- how the try went, as what it told says it
 abbrev pub as_tried : Trial → Tried → (rest : List ScriptStep) → FormTried (Progress ScriptStep)
 as_tried trial tried rest =
-    record { left = left_by trial tried rest; ended = tried.ended; began = is_some tried.began }
+    record { left = rest_left trial tried rest; ended = tried.ended; began = is_some tried.began }
 
 -- of a record that the try found: it went as the step's form says
 abbrev pub IsTriedSo : Meaning → Found → Trial → Tried → Node EndpointLocal → Type 0

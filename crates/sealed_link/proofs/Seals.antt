@@ -16,30 +16,30 @@ use Rattle.gas_outside.specs.Link.{SentTold}
 use Rattle.gas_outside.specs.declared.link.LinkAnswer.{LinkAnswer}
 use Rattle.gas_outside.specs.declared.link.LinkAnswer.TheVariants as answer
 use Rattle.sealed_link.specs.Hmac.{hmac}
-use Rattle.sealed_link.specs.Seal.{tag, sealed, front, behind, is_sealed, opened, unsealed, heard}
+use Rattle.sealed_link.specs.Seal.{tag, sealed_under, front, behind, is_sealed, opened_under, unsealed, heard}
 
 -- a tag has 16 bytes
 pub length-tag : (key datagram : List ℕ) → length (tag key datagram) ≡ 16
 length-tag key datagram = length-take 16 (hmac key datagram) ∙ ap (min 16) (length-sha256 _)
 
-pub length-sealed : (key datagram : List ℕ) → length (sealed key datagram) ≡ length datagram + 16
+pub length-sealed : (key datagram : List ℕ) → length (sealed_under key datagram) ≡ length datagram + 16
 length-sealed key datagram =
     length-append datagram (tag key datagram) ∙ ap (λ n. length datagram + n) (length-tag key datagram)
 
-before : (key datagram : List ℕ) → length (sealed key datagram) - 16 ≡ length datagram
+before : (key datagram : List ℕ) → length (sealed_under key datagram) - 16 ≡ length datagram
 before key datagram = ap (λ n. n - 16) (length-sealed key datagram) ∙ omega arith
 
-pub front-sealed : (key datagram : List ℕ) → front (sealed key datagram) ≡ datagram
+pub front-sealed : (key datagram : List ℕ) → front (sealed_under key datagram) ≡ datagram
 front-sealed key datagram =
-    ap (λ n. take n (sealed key datagram)) (before key datagram) ∙ take-append_seam datagram (tag key datagram)
+    ap (λ n. take n (sealed_under key datagram)) (before key datagram) ∙ take-append_seam datagram (tag key datagram)
 
-pub behind-sealed : (key datagram : List ℕ) → behind (sealed key datagram) ≡ tag key datagram
+pub behind-sealed : (key datagram : List ℕ) → behind (sealed_under key datagram) ≡ tag key datagram
 behind-sealed key datagram =
-    ap (λ n. drop n (sealed key datagram)) (before key datagram) ∙ drop-append_seam datagram (tag key datagram)
+    ap (λ n. drop n (sealed_under key datagram)) (before key datagram) ∙ drop-append_seam datagram (tag key datagram)
 
-is_sealed-sealed : (key datagram : List ℕ) → length datagram ≤ 8296 → is_sealed key (sealed key datagram) ≡ true
+is_sealed-sealed : (key datagram : List ℕ) → length datagram ≤ 8296 → is_sealed key (sealed_under key datagram) ≡ true
 is_sealed-sealed key datagram short =
-    let whole = sealed key datagram in
+    let whole = sealed_under key datagram in
     let size = length-sealed key datagram in
     let least : 16 ≤ length datagram + 16 = omega arith in
     let most : length datagram + 16 ≤ 8312 = omega arith in
@@ -50,23 +50,24 @@ is_sealed-sealed key datagram short =
     ((bytes_eq-Decides (behind whole) (tag key (front whole))).1 same)
 
 -- what is sealed is opened as it was
-pub opens : (key datagram : List ℕ) → length datagram ≤ 8296 → opened key (sealed key datagram) ≡ Some datagram
+pub opens : (key datagram : List ℕ) → length datagram ≤ 8296
+    → opened_under key (sealed_under key datagram) ≡ Some datagram
 opens key datagram short =
-    ap (λ b. if b then Some (front (sealed key datagram)) else None) (is_sealed-sealed key datagram short)
+    ap (λ b. if b then Some (front (sealed_under key datagram)) else None) (is_sealed-sealed key datagram short)
     ∙ ap Some (front-sealed key datagram)
 
 -- a datagram that was sent sealed is told without its tag
 pub told_sent : (key datagram : List ℕ) (to : ℕ) (told : Option (List (ℕ × List ℕ)))
-    → option_map (map unsealed) (and_then told (to, sealed key datagram))
+    → option_map (map unsealed) (and_then told (to, sealed_under key datagram))
     ≡ and_then (option_map (map unsealed) told) (to, datagram)
 told_sent key datagram to None = refl
 told_sent key datagram to (Some list) =
-    ap Some (map_push unsealed list (to, sealed key datagram)
+    ap Some (map_push unsealed list (to, sealed_under key datagram)
     ∙ ap (λ d. map unsealed list ++ (to, d) ∷ []) (front-sealed key datagram))
 
 -- so a link before one that was sent it sealed tells that it was sent
 pub told_unsealed : (key datagram : List ℕ) (to : ℕ) (result : LinkAnswer) (old new : Option (List (ℕ × List ℕ)))
-    → SentTold result (to, sealed key datagram) old new
+    → SentTold result (to, sealed_under key datagram) old new
     → SentTold result (to, datagram) (option_map (map unsealed) old) (option_map (map unsealed) new)
 told_unsealed key datagram to answer.Done old new h = ap (option_map (map unsealed)) h ∙ told_sent key datagram to old
 told_unsealed key datagram to answer.Failed old new h = ap (option_map (map unsealed)) h
@@ -102,21 +103,22 @@ nothing_more None = refl
 nothing_more (Some list) = ap Some (append-nil list)
 
 told_more : (key whole : List ℕ) (told : Option (List (List ℕ)))
-    → option_map (filter_map (opened key)) (and_then told whole)
-    ≡ and_all (option_map (filter_map (opened key)) told) (option_to_list (opened key whole))
+    → option_map (filter_map (opened_under key)) (and_then told whole)
+    ≡ and_all (option_map (filter_map (opened_under key)) told) (option_to_list (opened_under key whole))
 told_more key whole None = refl
 told_more key whole (Some list) =
-    ap Some (filter_map-append (opened key) list (whole ∷ [])
-    ∙ ap (λ more. filter_map (opened key) list ++ more) (one_kept (opened key whole)))
+    ap Some (filter_map-append (opened_under key) list (whole ∷ [])
+    ∙ ap (λ more. filter_map (opened_under key) list ++ more) (one_kept (opened_under key whole)))
 
 -- a datagram that opens is heard as what it opens to
-pub heard_opened : (key whole datagram : List ℕ) (told : Option (List (List ℕ))) → Some datagram ≡ opened key whole
+pub heard_opened : (key whole datagram : List ℕ) (told : Option (List (List ℕ)))
+    → Some datagram ≡ opened_under key whole
     → heard key (and_then told whole) ≡ and_then (heard key told) datagram
 heard_opened key whole datagram told found =
     told_more key whole told ∙ ap (λ o. and_all (heard key told) (option_to_list o)) (sym found)
 
 -- one that doesn't open isn't heard
-pub heard_dropped : (key whole : List ℕ) (told : Option (List (List ℕ))) → None ≡ opened key whole
+pub heard_dropped : (key whole : List ℕ) (told : Option (List (List ℕ))) → None ≡ opened_under key whole
     → heard key (and_then told whole) ≡ heard key told
 heard_dropped key whole told found =
     told_more key whole told

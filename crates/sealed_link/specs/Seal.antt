@@ -11,8 +11,8 @@ abbrev pub tag : (key datagram : List ℕ) → List ℕ
 tag key datagram = take 16 (hmac key datagram)
 
 -- a datagram with its tag behind it
-abbrev pub sealed : (key datagram : List ℕ) → List ℕ
-sealed key datagram = datagram ++ tag key datagram
+abbrev pub sealed_under : (key datagram : List ℕ) → List ℕ
+sealed_under key datagram = datagram ++ tag key datagram
 
 -- what stands before the tag
 abbrev pub front : (whole : List ℕ) → List ℕ
@@ -28,8 +28,8 @@ is_sealed key whole =
     nat_le 16 (length whole) && nat_le (length whole) 8312 && bytes_eq (behind whole) (tag key (front whole))
 
 -- the datagram, where it is sealed under this key
-abbrev pub opened : (key whole : List ℕ) → Option (List ℕ)
-opened key whole = if is_sealed key whole then Some (front whole) else None
+abbrev pub opened_under : (key whole : List ℕ) → Option (List ℕ)
+opened_under key whole = if is_sealed key whole then Some (front whole) else None
 
 -- a datagram that was sent to a node, without its tag
 abbrev pub unsealed : ℕ × List ℕ → ℕ × List ℕ
@@ -37,7 +37,7 @@ unsealed whole = (whole.0, front whole.1)
 
 -- the datagrams among these that are sealed under this key, without their tags, where they are told
 abbrev pub heard : (key : List ℕ) → Option (List (List ℕ)) → Option (List (List ℕ))
-heard key told = option_map (filter_map (opened key)) told
+heard key told = option_map (filter_map (opened_under key)) told
 
 -- what is told of one more datagram: as a link tells it, and of one that was dropped nothing
 abbrev pub OneTold : Option Received → List ℕ → Option (List (List ℕ)) → Option (List (List ℕ)) → Type 0

@@ -1,10 +1,10 @@
 //! The law of seals.
 
 ghost use Rattle.std.specs.Prelude.{◌≡◌, ◌≤◌, ℕ, List, Some, length};
-ghost use Rattle.sealed_link.specs.Seal.{sealed, opened};
+ghost use Rattle.sealed_link.specs.Seal.{sealed_under, opened_under};
 
 /// What is sealed under a key is opened under it as the same bytes, where these are at most 8,296.
 pub fn seal_law()
     ensures opens { (key bytes : List ℕ) → length bytes ≤ 8296
-        → opened key (sealed key bytes) ≡ Some bytes }
+        → opened_under key (sealed_under key bytes) ≡ Some bytes }
 {}

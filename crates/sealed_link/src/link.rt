@@ -4,19 +4,16 @@ ghost use Rattle.std.specs.Prelude.{◌≡◌, ◌≤◌, ◌+◌, length, take,
 ghost use Rattle.std.specs.Prelude.{IfOk, IfSome};
 ghost use Rattle.gas_outside.specs.Faults.{Rose};
 ghost use Rattle.gas_outside.specs.Link.{SentTold, IsFailed, IsReceiveFailed};
-ghost use Rattle.sealed_link.specs.Seal.{Sealing, sealed, opened, unsealed, heard, OneTold};
+ghost use Rattle.sealed_link.specs.Seal.{Sealing, sealed_under, opened_under, unsealed, heard, OneTold};
 
 use crate::dropped::Dropped;
 use crate::key::{Key, TAG_BYTES};
-use gas_outside::{Link, LinkAnswer, Received};
+use gas_outside::{Link, LinkAnswer, MAX_DATAGRAM, Received};
 use std::alloc::{AllocError, Global};
 use std::marker::Model;
 
-/// The bytes of the longest datagram.
-const LONGEST: usize = 8296;
-
 /// The bytes of the buffer: the longest datagram, its tag, and one byte more.
-const ROOM: usize = 8313;
+const ROOM: usize = MAX_DATAGRAM + TAG_BYTES + 1;
 
 /// How many unsealed datagrams a call of `receive` drops, at most.
 const DROPS: u32 = 64;
@@ -79,7 +76,7 @@ fn seal(key: &Key, datagram: &[u8], buffer: &mut [u8]) -> usize
     requires room { length buffer.old ≡ 8313 }
     ensures room { length buffer.new ≡ 8313 }
     ensures bound { result ≤ 8313 }
-    ensures sealed { take result buffer.new ≡ sealed key.now datagram.now }
+    ensures sealed { take result buffer.new ≡ sealed_under key.now datagram.now }
 {
     let len = datagram.len();
     let tag = key.tag(datagram);
@@ -91,10 +88,10 @@ fn seal(key: &Key, datagram: &[u8], buffer: &mut [u8]) -> usize
 /// Copies a datagram to the front of a buffer, where it was sealed so, and answers how many bytes it has.
 fn open(key: &Key, whole: &[u8], into: &mut [u8]) -> Option<usize>
     requires { 8296 ≤ length into.old }
-    ensures opened { option_map (λ len. take len into.new) result ≡ opened key.now whole.now }
+    ensures opened { option_map (λ len. take len into.new) result ≡ opened_under key.now whole.now }
     ensures fits { IfSome result (λ len. len ≤ length into.new) }
 {
-    if whole.len() < TAG_BYTES || whole.len() > LONGEST + TAG_BYTES {
+    if whole.len() < TAG_BYTES || whole.len() > MAX_DATAGRAM + TAG_BYTES {
         return None;
     }
     let len = whole.len() - TAG_BYTES;
@@ -137,7 +134,7 @@ fn receive_one<L: Link>(
 impl<L: Link> SealedLink<'_, L> {
     /// Sends a datagram sealed by the link behind.
     fn hand(&mut self, to: u16, bytes: &[u8]) -> LinkAnswer
-        ensures seals { SentTold result (to, sealed self.old.key bytes.now)
+        ensures seals { SentTold result (to, sealed_under self.old.key bytes.now)
             (L.sent self.old.inner) (L.sent self.new.inner) }
         ensures key { self.new.key ≡ self.old.key }
         ensures bound { L.bound self.new.inner ≡ L.bound self.old.inner }
@@ -148,7 +145,7 @@ impl<L: Link> SealedLink<'_, L> {
             → Rose (L.faults self.old.inner + self.old.refused)
             (L.faults self.new.inner + self.new.refused) }
     {
-        if bytes.len() > LONGEST {
+        if bytes.len() > MAX_DATAGRAM {
             self.refused = self.refused.saturating_add(1);
             return LinkAnswer::Failed;
         }
@@ -189,7 +186,7 @@ impl<L: Link> Link for SealedLink<'_, L> {
         ensures cause { IsFailed result
             → Rose (L.faults self.old.inner + self.old.refused)
             (L.faults self.new.inner + self.new.refused) }
-        ensures seals { SentTold result (to, sealed self.old.key bytes.now)
+        ensures seals { SentTold result (to, sealed_under self.old.key bytes.now)
             (L.sent self.old.inner) (L.sent self.new.inner) }
     {
         self.hand(to, bytes)
@@ -197,7 +194,7 @@ impl<L: Link> Link for SealedLink<'_, L> {
 
     /// Receives the first datagram that is sealed under the key.
     fn receive(&mut self, buf: &mut [u8]) -> Received {
-        if buf.len() < LONGEST {
+        if buf.len() < MAX_DATAGRAM {
             return Received::Empty;
         }
         for _ in 0..DROPS {

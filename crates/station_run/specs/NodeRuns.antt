@@ -14,7 +14,7 @@ use Rattle.endpoint_lock.specs.declared.ends.End.{End}
 use Rattle.endpoint_lock.specs.declared.ends.End.TheVariants.{Over, Stuck, LinkFault, WriteFault, JournalFull, NoMemory}
 use Rattle.endpoint_lock.specs.declared.ends.Ended.{Ended}
 use Rattle.endpoint_lock.specs.declared.recorder.Recorder.{Ghosts as RecorderGhosts}
-use Rattle.endpoint_lock.specs.Leaving.{Leaves}
+use Rattle.endpoint_lock.specs.Leaving.{StationLeaves}
 use Rattle.endpoint_lock.specs.StationState.{Opening, opened_with}
 use Rattle.gasnet_trace.specs.Lines.{Line, line_text, spell}
 use Rattle.gasnet_trace.specs.TraceText.{trace_text, head_lines, head_text, entry_line}
@@ -42,7 +42,7 @@ pub record RunsBound {M L C D : Type 0} (m : MachineGhosts M) (l : LinkGhosts L)
   pub bound : l.bound link ≡ Some (node.place.rank, node.place.nodes, node.place.port)
   pub same : TellsTheSame l node.link link
   pub later : l.faults node.link ≤ l.faults link
-  pub leaves : Leaves m l c d (opening_over link recorder node) left
+  pub leaves : StationLeaves m l c d (opening_over link recorder node) left
 
 -- the link failed as it was to be bound, and nothing was done
 pub record IsUnbound {M L C D : Type 0} (l : LinkGhosts L) (node : Node M L C) (recorder : D) (left : Ended M L C D)
@@ -141,6 +141,6 @@ pub record IsUnopened {M L C K : Type 0} (k : SinkGhosts K) (node : Node M L C) 
   pub written : GathersFront (outbox k.taken k.faults sink) (outbox k.taken k.faults run.left.recorder)
       (whole_text node.place [])
 
-abbrev pub Runs : {M L C K : Type 0} → MachineGhosts M → LinkGhosts L → ClockGhosts C → SinkGhosts K → Node M L C
+abbrev pub RunsStation : {M L C K : Type 0} → MachineGhosts M → LinkGhosts L → ClockGhosts C → SinkGhosts K → Node M L C
     → Gathering K → NodeRun M L C K → Type 0
-Runs m l c k node sink run = RunsOpen m l c k node sink run ⊎ IsUnopened k node sink run
+RunsStation m l c k node sink run = RunsOpen m l c k node sink run ⊎ IsUnopened k node sink run

@@ -2,8 +2,8 @@
 
 ghost use Rattle.std.specs.Prelude.{◌≡◌, ◌≤◌, [], Some};
 ghost use Rattle.gas_outside.specs.Buffered.{outbox};
-ghost use Rattle.endpoint_lock.specs.Leaving.{Leaves};
-ghost use Rattle.station_run.specs.NodeRuns.{RunsSome, Runs, Finishes, opening_over};
+ghost use Rattle.endpoint_lock.specs.Leaving.{StationLeaves};
+ghost use Rattle.station_run.specs.NodeRuns.{RunsSome, RunsStation, Finishes, opening_over};
 
 use crate::recorder::TraceSink;
 use endpoint_lock::{End, Ended, Recorder, Station, Unmade, run_threads};
@@ -63,7 +63,8 @@ fn run_bound<
     G: Waiter + Sync,
 >(rt: &R, alloc: Global, node: Node<M, L, C>, recorder: D, waiter: &G) -> Ended<M, L, C, D>
     requires { 1 ≤ node.patience }
-    ensures { Leaves M.Machine L.Link C.Clock D.Recorder (opening_over node.link recorder node) result }
+    ensures { StationLeaves M.Machine L.Link C.Clock D.Recorder
+        (opening_over node.link recorder node) result }
 {
     let Node {
         place: _,
@@ -189,7 +190,7 @@ pub fn run_node<
     sink: BufferedSink<K>,
 ) -> NodeRun<M, L, C, K>
     requires { 1 ≤ node.patience }
-    ensures { Runs M.Machine L.Link C.Clock K.Sink node sink result }
+    ensures { RunsStation M.Machine L.Link C.Clock K.Sink node sink result }
 {
     let mut sink = sink;
     match print_head(

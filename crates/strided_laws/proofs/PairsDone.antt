@@ -43,7 +43,7 @@ use Rattle.gas_strided.specs.declared.shapes.Piece.{Piece}
 use Rattle.gas_strided.specs.Pairs.{Pair, pair}
 use Rattle.gas_strided.specs.Pieces.{pairs_in, spelled}
 use Rattle.gas_strided.specs.Beginning.{transfer_of}
-use Rattle.strided_laws.specs.StridedLaws.{before, LiesAt, IsWithin, PairPut, PairGot, PairDone, PairsAreDone}
+use Rattle.strided_laws.specs.StridedLaws.{before, LiesAt, WritesWithin, PairPut, PairGot, PairDone, PairsAreDone}
 use Rattle.strided_laws.specs.StridedLaws.{stretch_of, WritesByte}
 use Rattle.strided_laws.proofs.Located.{get_pairs, length-pairs_from, lies_once}
 
@@ -94,7 +94,7 @@ in_piece all index at inside =
 -- what a chunk of a piece writes lies where bytes of the pairs go
 put_within : (pieces : List Piece) (pairs : List Pair) (place : ℕ) (piece : Piece) (index : ℕ) (bytes : List ℕ)
     → spelled pieces ≡ pairs → slice_get pieces place ≡ Some piece → length bytes ≤ chunk_size piece.len index
-    → IsWithin Put pairs (record { offset = piece.remote + chunk_start index; bytes = bytes })
+    → WritesWithin Put pairs (record { offset = piece.remote + chunk_start index; bytes = bytes })
 put_within pieces pairs place piece index bytes spells there few at inside =
     let offset = chunk_start index + at in
     let low : offset < piece.len = in_piece piece.len index at (omega (arith, inside, few)) in
@@ -107,7 +107,7 @@ put_within pieces pairs place piece index bytes spells there few at inside =
 
 get_within : (pieces : List Piece) (pairs : List Pair) (place : ℕ) (piece : Piece) (index : ℕ) (bytes : List ℕ)
     → spelled pieces ≡ pairs → slice_get pieces place ≡ Some piece → length bytes ≤ chunk_size piece.len index
-    → IsWithin Get pairs (record { offset = piece.local + chunk_start index; bytes = bytes })
+    → WritesWithin Get pairs (record { offset = piece.local + chunk_start index; bytes = bytes })
 get_within pieces pairs place piece index bytes spells there few at inside =
     let offset = chunk_start index + at in
     let low : offset < piece.len = in_piece piece.len index at (omega (arith, inside, few)) in

@@ -92,8 +92,8 @@ pub record WritesByte (job : EndpointJob) (node offset byte : ℕ) (write : Writ
   pub offset_is : offset ≡ write.offset + at
 
 -- the write has bytes for no other places than those where the pairs are written
-abbrev pub IsWithin : Way → List Pair → Write → Type 0
-IsWithin way pairs write =
+abbrev pub WritesWithin : Way → List Pair → Write → Type 0
+WritesWithin way pairs write =
     (at : ℕ) → at < length write.bytes
     → (number : ℕ) × (pair : Pair) × (slice_get pairs number ≡ Some pair) × (written way pair ≡ write.offset + at)
 
@@ -114,7 +114,7 @@ pub record PairPut (job : EndpointJob) (stretch : Stretch) (node : ℕ) (chunk :
   pub written : HappensIn job stretch (λ moment. Runs job (request_of_chunk node chunk number) moment
       × WritesByte job (target chunk.transfer) pair.remote byte write moment)
   pub back : HappensOnceIn job stretch (ComesBack job (request_of_chunk node chunk number))
-  pub within : IsWithin Put pairs write
+  pub within : WritesWithin Put pairs write
 
 -- The chunk got the pair: a tick issued it; its request ran exactly once, while the target's byte was this; its reply
 -- came back exactly once, and wrote that byte to the local place. What it wrote lies where the pairs are written
@@ -130,7 +130,7 @@ pub record PairGot (job : EndpointJob) (stretch : Stretch) (node : ℕ) (chunk :
   pub back : HappensOnceIn job stretch (ComesBack job (request_of_chunk node chunk number))
   pub written : HappensIn job stretch (λ moment. ComesBack job (request_of_chunk node chunk number) moment
       × WritesByte job node pair.local byte write moment)
-  pub within : IsWithin Get pairs write
+  pub within : WritesWithin Get pairs write
 
 abbrev pub PairDone : Way → EndpointJob → Stretch → (node : ℕ) → Next → List Pair → Pair → Type 0
 PairDone Put job stretch node chunk pairs pair = PairPut job stretch node chunk pairs pair

@@ -7,9 +7,9 @@ use Rattle.std.proofs.lemmas.Fmt.{decimal_is_IsNumeral}
 use Rattle.node_script.specs.Lines.{Word}
 use Rattle.top_call.specs.Outsides.{Call, Course, Spawning, course_in, spawning_in, took_in}
 use Rattle.top_call.specs.Commands.{Asks, AsksNothing, IsAsked, IsCommand, code_of, command_words}
-use Rattle.top_call.specs.HowEnds.{Means}
+use Rattle.top_call.specs.HowEnds.{EndMeans}
 use Rattle.top_call.specs.TopCall.{IsComplete, LeavesAlone, StatusMeans}
-use Rattle.top_call.specs.TopParts.{Ends, Keeps}
+use Rattle.top_call.specs.TopParts.{Ends, KeepsOutside}
 use Rattle.top_call.specs.declared.ending.End.{End}
 use Rattle.top_call.specs.declared.words.Command.{Command}
 use Rattle.top_call.specs.declared.words.Command.TheVariants as commands
@@ -79,7 +79,7 @@ none_asked words (Some command) is nothing = absurd (nothing command is)
 
 -- how what was asked for ended
 abbrev EndedAs : Call → End → Option Command → Type 0
-EndedAs call end asked = Means (Ends asked (course_in call) (spawning_in call)) (took_in call) call.given end
+EndedAs call end asked = EndMeans (Ends asked (course_in call) (spawning_in call)) (took_in call) call.given end
 
 -- a call with the words of this command ended as the command does
 ended_as : (call : Call) (asked : Option Command) (end : End) (command : Command) → IsAsked call.words asked
@@ -116,7 +116,7 @@ completes call asked end is h = record {
 
 -- what of the outside stands as it did after what was asked for
 abbrev KeptAs : Call → Option Command → Type 0
-KeptAs call asked = Keeps asked (course_in call) (spawning_in call)
+KeptAs call asked = KeepsOutside asked (course_in call) (spawning_in call)
 
 unlaunched : (call : Call) (asked : Option Command) → IsAsked call.words asked → KeptAs call asked
     → ((port : ℕ) → Asks call.words (commands.Launch port) → ⊥) → call.after.spawner ≡ call.before.spawner

@@ -18,8 +18,8 @@ use Rattle.top_call.specs.Outsides.{Call, Input, IsFaultless, Reading, read_in, 
 use Rattle.top_call.specs.CheckCommand.{CheckCompletes, CheckEnds, CheckMeans, ChecksInput, GivesInput, HoldsInput}
 use Rattle.top_call.specs.CheckCommand.{HoldsRun}
 use Rattle.top_call.specs.Commands.{code_of}
-use Rattle.top_call.specs.HowEnds.{After, Means, gives, nothing, unasked}
-use Rattle.top_call.specs.TopParts.{EndsBy, Says, end_unread}
+use Rattle.top_call.specs.HowEnds.{After, EndMeans, gives, nothing, unasked}
+use Rattle.top_call.specs.TopParts.{EndsBy, SaysEnd, end_unread}
 use Rattle.top_call.specs.TracesReports.{TracesEnds}
 use Rattle.top_call.specs.declared.ending.End.{End}
 use Rattle.top_call.specs.declared.ending.End.TheVariants as ends
@@ -100,7 +100,7 @@ check_told reading job outputs old new ended read over told =
 -- a node of them failed, and so its status line was said
 pub child_told : (reading : Reading) (job : JobState) (outputs : List Output) (rank code : ℕ) (old new : Outbox)
     (ended : Ended) → GivesInput reading job outputs → IsFirstFailed outputs rank code
-    → Says (ends.Child rank code) nothing old new ended → EndsBy (CheckEnds reading) old new ended
+    → SaysEnd (ends.Child rank code) nothing old new ended → EndsBy (CheckEnds reading) old new ended
 child_told reading job outputs rank code old new ended read failed says =
     says_alone (CheckEnds reading) old new (ends.Child rank code) ended (weak_check reading) tt (record {
       job = job;
@@ -113,7 +113,7 @@ child_told reading job outputs rank code old new ended read failed says =
 -- no input was read, and so the status line was said
 pub unread_told : (reading : Reading) (fault : InputFault) (old new : Outbox) (ended : Ended)
     → IsUnread reading.before.left reading.after.left reading.before.faults reading.after.faults fault
-    → Says (end_unread fault) nothing old new ended → EndsBy (CheckEnds reading) old new ended
+    → SaysEnd (end_unread fault) nothing old new ended → EndsBy (CheckEnds reading) old new ended
 unread_told reading (inputs.Bad line reason) old new ended none says =
     says_alone (CheckEnds reading) old new (ends.BadJob line reason) ended (weak_check reading) tt
     (record { read = none; alone = alone (ends.BadJob line reason) }) says
@@ -125,7 +125,7 @@ unread_told reading inputs.NoMemory old new ended short says =
 
 -- ---- exit statuses
 
-check_codes : (call : Call) (end : End) → Means (CheckEnds (read_in call)) (took_in call) call.given end
+check_codes : (call : Call) (end : End) → EndMeans (CheckEnds (read_in call)) (took_in call) call.given end
     → Contains (0 ∷ 1 ∷ 3 ∷ 4 ∷ 5 ∷ 8 ∷ 11 ∷ 12 ∷ []) (code_of end)
 check_codes call ends.Done h = (0, lit< tt, refl)
 check_codes call ends.Violations h = (1, lit< tt, refl)
@@ -141,7 +141,7 @@ check_codes call ends.SpawnFault h = absurd h.ends
 check_codes call ends.Stuck h = absurd h.ends
 check_codes call ends.JournalFull h = absurd h.ends
 
-pub check_means : (call : Call) (end : End) → Means (CheckEnds (read_in call)) (took_in call) call.given end
+pub check_means : (call : Call) (end : End) → EndMeans (CheckEnds (read_in call)) (took_in call) call.given end
     → CheckMeans call (code_of end)
 check_means call end h = code_means call (CheckEnds (read_in call)) _ end (check_codes call end h) h
 
@@ -165,7 +165,7 @@ was_no_input source left line reason holds none =
     not_no_input holds.bytes left holds.job holds.outputs line reason holds.text
     (subst (λ (before : Option (List ℕ)). TakesNone before left line reason) holds.told none)
 
-check_judges : (call : Call) (end : End) → Means (CheckEnds (read_in call)) (took_in call) call.given end
+check_judges : (call : Call) (end : End) → EndMeans (CheckEnds (read_in call)) (took_in call) call.given end
     → HoldsInput call.before.source → IsFaultless call → Contains (0 ∷ 1 ∷ 8 ∷ 11 ∷ 12 ∷ []) (code_of end)
 check_judges call ends.Done h holds faultless = (0, lit< tt, refl)
 check_judges call ends.Violations h holds faultless = (1, lit< tt, refl)
@@ -211,7 +211,7 @@ none_failed outputs rank code over failed =
     let one = all_at (λ (output : Output). is_over output.status ≡ true) outputs rank failed.output over failed.at in
     absurd (true≢false (sym one ∙ failed.failed))
 
-check_finds : (call : Call) (end : End) → Means (CheckEnds (read_in call)) (took_in call) call.given end
+check_finds : (call : Call) (end : End) → EndMeans (CheckEnds (read_in call)) (took_in call) call.given end
     → HoldsRun call.before.source → IsFaultless call → Contains (0 ∷ 1 ∷ 8 ∷ []) (code_of end)
 check_finds call ends.Done h run faultless = (0, lit< tt, refl)
 check_finds call ends.Violations h run faultless = (1, lit< tt, refl)
@@ -232,6 +232,6 @@ check_finds call ends.WriteFault h run faultless = absurd (faultless.sink h.cut.
 check_finds call (ends.BadJob line reason) h run faultless =
     absurd (was_no_input call.before.source call.after.source.left line reason run.holds h.ends.read)
 
-pub check_completes : (call : Call) (end : End) → Means (CheckEnds (read_in call)) (took_in call) call.given end
+pub check_completes : (call : Call) (end : End) → EndMeans (CheckEnds (read_in call)) (took_in call) call.given end
     → CheckCompletes call (code_of end)
 check_completes call end h = record { judged = check_judges call end h; is_run = check_finds call end h }

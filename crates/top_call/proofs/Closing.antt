@@ -10,11 +10,11 @@ use Rattle.launch_run.specs.Children.{spawner_seen}
 use Rattle.node_call.specs.Seen.{devices_seen}
 use Rattle.node_script.specs.Lines.{Word}
 use Rattle.top_call.specs.Commands.{IsAsked, code_of}
-use Rattle.top_call.specs.HowEnds.{Means}
-use Rattle.top_call.specs.Outsides.{Call, Course, Spawning, call_of, course_in, course_of, given_by, input, seen}
-use Rattle.top_call.specs.Outsides.{spawning_in, spawning_of, took_in}
+use Rattle.top_call.specs.HowEnds.{EndMeans}
+use Rattle.top_call.specs.Outsides.{Call, Course, Spawning, call_of, course_in, course_with, given_with, reading_over}
+use Rattle.top_call.specs.Outsides.{seen, spawning_in, spawning_of, took_in}
 use Rattle.top_call.specs.TopCall.{IsSaid}
-use Rattle.top_call.specs.TopParts.{Closes, Ends, EndsAs, EndsBy, Keeps, StandsOver, with_sink}
+use Rattle.top_call.specs.TopParts.{Closes, Ends, EndsAs, EndsBy, KeepsOutside, StandsOver, with_sink}
 use Rattle.top_call.specs.declared.ending.Ended.{Ended}
 use Rattle.top_call.specs.declared.ending.Given.{Given}
 use Rattle.top_call.specs.declared.outside.Outside.{Outside}
@@ -29,7 +29,7 @@ asks_for asked some this is same = is ∙ ap Some same
 
 -- what was asked for is this, and so it ended
 pub ends_as : (asked what : Option Command) (course : Course) (spawning : Spawning) (old new : Outbox) (ended : Ended)
-    → asked ≡ what → EndsBy (Ends what course spawning) old new ended → Keeps what course spawning
+    → asked ≡ what → EndsBy (Ends what course spawning) old new ended → KeepsOutside what course spawning
     → EndsAs asked course spawning old new ended
 ends_as asked what course spawning old new ended is ends keeps =
     subst (λ (one : Option Command). EndsAs one course spawning old new ended) (sym is)
@@ -41,7 +41,7 @@ module _ {S K L P C G : Type 0} (sources : SourceGhosts S) (sinks : SinkGhosts K
   abbrev pub RanOver : (first last : Outside S (Gathering K) L P C G) → Ended → Type 0
   RanOver first last ended =
       EndsAs asked
-      (course_of (input sources.left sources.faults first.source) (input sources.left sources.faults last.source)
+      (course_with (reading_over sources.left sources.faults first.source last.source)
       (devices_seen links clocks first.link first.clock) (devices_seen links clocks last.link last.clock))
       (spawning_of (spawner_seen spawners first.spawner) (spawner_seen spawners last.spawner))
       (outbox sinks.taken sinks.faults first.sink) (outbox sinks.taken sinks.faults last.sink) ended
@@ -53,18 +53,18 @@ module _ {S K L P C G : Type 0} (sources : SourceGhosts S) (sinks : SinkGhosts K
   pub closed_call : (outside back : Outside S K L P C G) (first last : Outside S (Gathering K) L P C G) (ended : Ended)
       (status : Status) → IsAsked words asked → StandsOver outside first → RanOver first last ended
       → Closes sinks.taken sinks.faults ended last status back
-      → IsSaid (call_over outside back (given_by status)) status.code
+      → IsSaid (call_over outside back (given_with status)) status.code
   closed_call outside back first last ended status is over ran closes =
       let call = call_over (with_sink first first.sink.inner) (with_sink last closes.sink.inner)
       closes.over.given in
       let end = closes.over.end in
-      let m : Means (Ends asked (course_in call) (spawning_in call)) (took_in call) call.given end =
+      let m : EndMeans (Ends asked (course_in call) (spawning_in call)) (took_in call) call.given end =
       means (Ends asked (course_in call) (spawning_in call)) (outbox sinks.taken sinks.faults first.sink)
       (outbox sinks.taken sinks.faults last.sink) (outbox sinks.taken sinks.faults closes.sink) ended closes.over
       (weak_ends asked (course_in call) (spawning_in call)) over.empty ran.ends closes.gives_on in
-      subst (λ (one : Outside S K L P C G). IsSaid (call_over one back (given_by status)) status.code) (sym over.is)
+      subst (λ (one : Outside S K L P C G). IsSaid (call_over one back (given_with status)) status.code) (sym over.is)
       (subst (λ (one : Outside S K L P C G).
-      IsSaid (call_over (with_sink first first.sink.inner) one (given_by status)) status.code) (sym closes.is)
+      IsSaid (call_over (with_sink first first.sink.inner) one (given_with status)) status.code) (sym closes.is)
       (subst (λ (given : Given). IsSaid (call_over (with_sink first first.sink.inner)
       (with_sink last closes.sink.inner) given) status.code) (sym closes.given)
       (subst (λ (code : ℕ). IsSaid call code) (sym closes.code) (record {

@@ -15,7 +15,7 @@ use Rattle.job_text.specs.declared.fault.JobFault.TheVariants as faults
 use Rattle.top_call.specs.Outsides.{Input, Reading}
 use Rattle.top_call.specs.HowEnds.{After, EndsHow, gives, nothing, said_last}
 use Rattle.top_call.specs.JobReads.{HoldsJob, ReadsJob, ReadsNoJob, ReadsNone}
-use Rattle.top_call.specs.TopParts.{EndsBy, IsUnread, Says}
+use Rattle.top_call.specs.TopParts.{EndsBy, IsUnreadJob, SaysEnd}
 use Rattle.top_call.specs.declared.ending.End.{End}
 use Rattle.top_call.specs.declared.ending.End.TheVariants as ends
 use Rattle.top_call.specs.declared.ending.Ended.{Ended}
@@ -117,7 +117,7 @@ abbrev pub MayReadNone : EndsHow → Reading → Type 1
 MayReadNone Ends reading = (end : End) (after : After) (said : List ℕ) → ReadsNone reading end after said
     → Ends end after said
 
-unread_said : (reading : Reading) (end : End) → IsUnread reading end → IsSaid end
+unread_said : (reading : Reading) (end : End) → IsUnreadJob reading end → IsSaid end
 unread_said reading (ends.BadJob line reason) h = tt
 unread_said reading ends.ReadFault h = tt
 unread_said reading ends.NoMemory h = tt
@@ -132,7 +132,7 @@ unread_said reading ends.JournalFull h = tt
 unread_said reading (ends.NotARun node entry) h = tt
 unread_said reading (ends.Child rank code) h = tt
 
-reads_none : (reading : Reading) (end : End) → IsUnread reading end
+reads_none : (reading : Reading) (end : End) → IsUnreadJob reading end
     → ReadsNone reading end (gives nothing) (said_last [] end)
 reads_none reading (ends.BadJob line reason) h = record { read = h; alone = alone (ends.BadJob line reason) }
 reads_none reading ends.ReadFault h = record { rose = h; alone = alone ends.ReadFault }
@@ -150,7 +150,7 @@ reads_none reading (ends.Child rank code) h = h
 
 -- it says so
 pub unread_told : (Ends : EndsHow) (reading : Reading) (old new : Outbox) (end : End) (ended : Ended)
-    → Weakens Ends → MayReadNone Ends reading → IsUnread reading end → Says end nothing old new ended
+    → Weakens Ends → MayReadNone Ends reading → IsUnreadJob reading end → SaysEnd end nothing old new ended
     → EndsBy Ends old new ended
 unread_told Ends reading old new end ended weak may h says =
     says_alone Ends old new end ended weak (unread_said reading end h)

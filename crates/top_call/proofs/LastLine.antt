@@ -7,10 +7,10 @@ use Rattle.gas_outside.proofs.Outboxes.{flushed, front_given, gathers_more}
 use Rattle.gas_outside.proofs.Outboxes.{gathers_none, gathers_then, rose_later}
 use Rattle.node_script.specs.Lines.{Line, spell, line_text}
 use Rattle.drill_run.proofs.LinesWritten.{one_more}
-use Rattle.top_call.specs.Outsides.{Output, Takes}
+use Rattle.top_call.specs.Outsides.{Output, TakesBytes}
 use Rattle.top_call.specs.Commands.{status_line}
-use Rattle.top_call.specs.HowEnds.{After, Cut, EndsHow, Means, SaysAlone, Told, gives, nothing, said_last, unasked}
-use Rattle.top_call.specs.TopParts.{EndsBy, GivesOn, Says}
+use Rattle.top_call.specs.HowEnds.{After, Cut, EndsHow, EndMeans, SaysAlone, Told, gives, nothing, said_last, unasked}
+use Rattle.top_call.specs.TopParts.{EndsBy, GivesOn, SaysEnd}
 use Rattle.top_call.specs.declared.ending.End.{End}
 use Rattle.top_call.specs.declared.ending.End.TheVariants as ends
 use Rattle.top_call.specs.declared.ending.Ended.{Ended}
@@ -35,7 +35,7 @@ IsSaid _ = Unit {0}
 
 -- all that it says went in
 all_told : (Ends : EndsHow) (took : List ℕ → Wrote → Type 0) (end : End) (given : Given) → IsSaid end
-    → Told Ends took end given → Means Ends took given end
+    → Told Ends took end given → EndMeans Ends took given end
 all_told Ends took ends.WriteFault given said h = absurd said
 all_told Ends took end given said h = h
 
@@ -43,7 +43,7 @@ all_told Ends took end given said h = h
 pub says_last : (Ends : EndsHow) (old middle new : Outbox) (front : List Line) (end : End) (given : Given)
     (ended : Ended)
     → Weakens Ends → IsSaid end → Ends end (gives given) (said_last front end) → Gathers old middle (spell front)
-    → Says end given middle new ended → EndsBy Ends old new ended
+    → SaysEnd end given middle new ended → EndsBy Ends old new ended
 says_last Ends old middle new front end given ended weak is_said ends_so h says = elim says [
   | inl done ↦ subst (λ (e : Ended). EndsBy Ends old new e) (sym done.0)
       (all_told Ends (GathersAll old new) end given is_said (record {
@@ -69,7 +69,7 @@ abbrev pub Widens : (part whole : EndsHow) → Type 1
 Widens part whole = (end : End) (after : After) (said : List ℕ) → part end after said → whole end after said
 
 pub widened : (part whole : EndsHow) (took : List ℕ → Wrote → Type 0) (given : Given) (end : End) → Widens part whole
-    → Means part took given end → Means whole took given end
+    → EndMeans part took given end → EndMeans whole took given end
 widened part whole took given ends.WriteFault wide h = record {
   end = h.end;
   said = h.said;
@@ -84,7 +84,7 @@ widened part whole took given end wide h =
 
 -- behind nothing
 pub says_alone : (Ends : EndsHow) (old new : Outbox) (end : End) (ended : Ended)
-    → Weakens Ends → IsSaid end → Ends end (gives nothing) (said_last [] end) → Says end nothing old new ended
+    → Weakens Ends → IsSaid end → Ends end (gives nothing) (said_last [] end) → SaysEnd end nothing old new ended
     → EndsBy Ends old new ended
 says_alone Ends old new end ended weak is_said ends_so says =
     says_last Ends old old new [] end nothing ended weak is_said ends_so (gathers_none old) says
@@ -99,7 +99,7 @@ alone end = record { nothing_given = refl; said_is = refl }
 means_by : (Ends : EndsHow) (took other : List ℕ → Wrote → Type 0) (given : Given) (end : End)
     → ((end ≡ ends.WriteFault → ⊥) → (bytes : List ℕ) → took bytes wrote.Done → other bytes wrote.Done)
     → (end ≡ ends.WriteFault → (bytes : List ℕ) → took bytes wrote.Fault → other bytes wrote.Fault)
-    → Means Ends took given end → Means Ends other given end
+    → EndMeans Ends took given end → EndMeans Ends other given end
 means_by Ends took other given ends.WriteFault done fault h =
     record { end = h.end; said = h.said; ends = h.ends; cut = fault refl _ h.cut; nothing_given = h.nothing_given }
 means_by Ends took other given end done fault h =
@@ -108,7 +108,7 @@ means_by Ends took other given end done fault h =
 -- all that it says went in, and then the sink failed
 cut_after : (Ends : EndsHow) (took other : List ℕ → Wrote → Type 0) (given : Given) (end : End)
     → Weakens Ends → (end ≡ ends.WriteFault → ⊥)
-    → ((bytes : List ℕ) → took bytes wrote.Done → other bytes wrote.Fault) → Means Ends took given end
+    → ((bytes : List ℕ) → took bytes wrote.Done → other bytes wrote.Fault) → EndMeans Ends took given end
     → Cut Ends other nothing
 cut_after Ends took other given ends.WriteFault weak other_end by h = absurd (other_end refl)
 cut_after Ends took other given end weak other_end by h = record {
@@ -125,12 +125,12 @@ behind out = record { taken = out.given; faults = out.faults }
 
 -- a front of the bytes went in where nothing waited: the sink behind took a front of them
 took_front : (old new : Outbox) (bytes : List ℕ) → old.pending ≡ [] → GathersAll old new bytes wrote.Fault
-    → Takes (behind old) (behind new) bytes wrote.Fault
+    → TakesBytes (behind old) (behind new) bytes wrote.Fault
 took_front old new bytes none h = (h.rose, new.pending ++ h.rest, front_given old new bytes h.rest none h.went)
 
 -- all went in where nothing waited, and then not all was given on
 took_some : (old middle new : Outbox) (bytes : List ℕ) → old.pending ≡ [] → Gathers old middle bytes
-    → Flushes middle new wrote.Fault → Takes (behind old) (behind new) bytes wrote.Fault
+    → Flushes middle new wrote.Fault → TakesBytes (behind old) (behind new) bytes wrote.Fault
 took_some old middle new bytes none h flush =
     let rest = flushed old middle new bytes wrote.Fault none h flush in
     (rose_later old.faults middle.faults new.faults h.later flush.rose, rest.0, rest.1)
@@ -138,16 +138,16 @@ took_some old middle new bytes none h flush =
 -- how a command ended, once what waited was given on
 pub means : (Ends : EndsHow) (old middle new : Outbox) (before after : Ended)
     → Weakens Ends → old.pending ≡ [] → EndsBy Ends old middle before → GivesOn middle new before after
-    → Means Ends (Takes (behind old) (behind new)) after.given after.end
+    → EndMeans Ends (TakesBytes (behind old) (behind new)) after.given after.end
 means Ends old middle new before after weak none h given =
-    let took = Takes (behind old) (behind new) in
-    let So : Ended → Type 0 = λ ended. Means Ends took ended.given ended.end in
+    let took = TakesBytes (behind old) (behind new) in
+    let So : Ended → Type 0 = λ ended. EndMeans Ends took ended.given ended.end in
     elim given [
       | inl failed ↦ subst So (sym failed.1)
           (means_by Ends (GathersAll old middle) took before.given before.end
           (λ other. absurd (other failed.0))
           (λ is bytes front.
-          subst (λ (out : Outbox). Takes (behind old) (behind out) bytes wrote.Fault) (sym failed.2)
+          subst (λ (out : Outbox). TakesBytes (behind old) (behind out) bytes wrote.Fault) (sym failed.2)
           (took_front old middle bytes none front)) h)
       | inr (inl done) ↦ subst So (sym done.1)
           (means_by Ends (GathersAll old middle) took before.given before.end

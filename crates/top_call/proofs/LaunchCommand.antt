@@ -12,12 +12,12 @@ use Rattle.launch_run.specs.declared.fault.LaunchFault.{LaunchFault}
 use Rattle.launch_run.specs.declared.fault.LaunchFault.TheVariants as launches
 use Rattle.top_call.specs.Outsides.{Call, Input, IsFaultless, Reading, Spawning, read_in, spawning_in, took_in}
 use Rattle.top_call.specs.Commands.{code_of}
-use Rattle.top_call.specs.HowEnds.{After, Means, gives, nothing, unasked}
+use Rattle.top_call.specs.HowEnds.{After, EndMeans, gives, nothing, unasked}
 use Rattle.top_call.specs.JobReads.{GivesJob, ReadsJob}
 use Rattle.top_call.specs.LaunchCommand.{ChecksLaunch, HoldsLaunch, IsUnused, LaunchCompletes, LaunchEnds, LaunchMeans}
 use Rattle.top_call.specs.LaunchCommand.{ReadsLaunch, TellsRun, launch_of}
 use Rattle.top_call.specs.Ports.{has_ports}
-use Rattle.top_call.specs.TopParts.{EndsBy, Says, end_of_fault}
+use Rattle.top_call.specs.TopParts.{EndsBy, SaysEnd, end_of_fault}
 use Rattle.top_call.specs.TracesReports.{TracesEnds}
 use Rattle.top_call.specs.declared.ending.End.{End}
 use Rattle.top_call.specs.declared.ending.End.TheVariants as ends
@@ -100,7 +100,7 @@ launch_none port reading spawning unused (ends.Child rank code) after said h = a
 -- not each node has a port, and so the status line was said
 pub ports_told : (port : ℕ) (reading : Reading) (spawning : Spawning) (job : JobState) (old new : Outbox)
     (ended : Ended) → GivesJob reading job → has_ports port job.settings.nodes ≡ false → IsUnused spawning
-    → Says ends.Usage nothing old new ended → EndsBy (LaunchEnds port reading spawning) old new ended
+    → SaysEnd ends.Usage nothing old new ended → EndsBy (LaunchEnds port reading spawning) old new ended
 ports_told port reading spawning job old new ended read no_ports unused says =
     says_alone (LaunchEnds port reading spawning) old new ends.Usage ended (weak_launch port reading spawning) tt
     (record { job = job; read = read; no_ports = no_ports; unused = unused; alone = alone ends.Usage }) says
@@ -154,7 +154,7 @@ checked_told port reading spawning reads launch outputs old new ended is given t
 fault_said : (port : ℕ) (reading : Reading) (spawning : Spawning) (reads : ReadsLaunch port reading)
     (fault : LaunchFault) (old new : Outbox) (ended : Ended)
     → EndsLaunch (launch_of port reading reads) spawning.before spawning.after (Err fault)
-    → Says (end_of_fault fault) nothing old new ended → EndsBy (LaunchEnds port reading spawning) old new ended
+    → SaysEnd (end_of_fault fault) nothing old new ended → EndsBy (LaunchEnds port reading spawning) old new ended
 fault_said port reading spawning reads (launches.Child rank code) old new ended loses says =
     says_alone (LaunchEnds port reading spawning) old new (ends.Child rank code) ended
     (weak_launch port reading spawning) tt
@@ -172,7 +172,7 @@ fault_said port reading spawning reads launches.NoMemory old new ended (inr shor
 pub fault_told : (port : ℕ) (reading : Reading) (spawning : Spawning) (reads : ReadsLaunch port reading)
     (launch : Launch) (fault : LaunchFault) (old new : Outbox) (ended : Ended)
     → launch ≡ launch_of port reading reads → EndsLaunch launch spawning.before spawning.after (Err fault)
-    → Says (end_of_fault fault) nothing old new ended → EndsBy (LaunchEnds port reading spawning) old new ended
+    → SaysEnd (end_of_fault fault) nothing old new ended → EndsBy (LaunchEnds port reading spawning) old new ended
 fault_told port reading spawning reads launch fault old new ended is told says =
     fault_said port reading spawning reads fault old new ended
     (subst (λ (it : Launch). EndsLaunch it spawning.before spawning.after (Err fault)) is told) says
@@ -182,7 +182,7 @@ fault_told port reading spawning reads launch fault old new ended is told says =
 -- how a call of it ended
 abbrev EndedSo : Call → (port : ℕ) → End → Type 0
 EndedSo call port end =
-    Means (LaunchEnds port (read_in call) (spawning_in call)) (took_in call) call.given end
+    EndMeans (LaunchEnds port (read_in call) (spawning_in call)) (took_in call) call.given end
 
 launch_codes : (call : Call) (port : ℕ) (end : End) → EndedSo call port end
     → Contains (0 ∷ 1 ∷ 2 ∷ 3 ∷ 4 ∷ 5 ∷ 7 ∷ 8 ∷ 11 ∷ 12 ∷ []) (code_of end)

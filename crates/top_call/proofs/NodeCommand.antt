@@ -19,11 +19,11 @@ use Rattle.node_call.specs.declared.calling.NodeEnd.TheVariants as nodes
 use Rattle.drill_run.proofs.LinesWritten.{one_more}
 use Rattle.top_call.specs.Outsides.{Call, Course, Input, course_in, took_in}
 use Rattle.top_call.specs.Commands.{code_of, end_of, status_line}
-use Rattle.top_call.specs.HowEnds.{After, Means, gives, node_given, nothing, said_last, unasked}
+use Rattle.top_call.specs.HowEnds.{After, EndMeans, gives, node_given, nothing, said_last, unasked}
 use Rattle.top_call.specs.JobReads.{GivesJob, ReadsJob}
-use Rattle.top_call.specs.NodeCommand.{HoldsNode, LosesLink, NodeCompletes, NodeEnds, NodeMeans, has_place}
+use Rattle.top_call.specs.NodeCommand.{HoldsNode, LosesLink, NodeCompletes, NodeEnds, NodeMeans, has_node_place}
 use Rattle.top_call.specs.NodeCommand.{RunsNode, StopsAt}
-use Rattle.top_call.specs.TopParts.{EndsBy, Says, SaysNode, cut}
+use Rattle.top_call.specs.TopParts.{EndsBy, SaysEnd, SaysNode, cut_short}
 use Rattle.top_call.specs.declared.ending.End.{End}
 use Rattle.top_call.specs.declared.ending.End.TheVariants as ends
 use Rattle.top_call.specs.declared.ending.Ended.{Ended}
@@ -106,7 +106,7 @@ node_none rank port course (ends.Child child code) after said h = absurd h
 -- ---- a node ran
 
 module _ (rank port : ℕ) (course : Course) (job : JobState) (read : GivesJob course.reading job)
-    (place : has_place rank port job.settings.nodes ≡ true) where
+    (place : has_node_place rank port job.settings.nodes ≡ true) where
   -- its lines, and its run, as the command says them
   abbrev ran : (station : StationEnd) (end : End) (after : After)
       (run : RunsTo (post_of job rank port) course.before course.after station)
@@ -161,7 +161,7 @@ module _ (rank port : ℕ) (course : Course) (job : JobState) (read : GivesJob c
       (h : EndsAt (post_of job rank port) course.before course.after station old middle left) → IsSaid end
       → NodeEnds rank port course end (gives (node_given left))
       (said_last (node_lines (post_of job rank port) h.run.journal) end)
-      → Says end (node_given left) middle new ended → EndsBy (NodeEnds rank port course) old new ended
+      → SaysEnd end (node_given left) middle new ended → EndsBy (NodeEnds rank port course) old new ended
   told station end left old middle new ended h is_said so says =
       says_last (NodeEnds rank port course) old middle new (node_lines (post_of job rank port) h.run.journal) end
       (node_given left) ended (weak_node rank port course) is_said so h.written says
@@ -169,7 +169,7 @@ module _ (rank port : ℕ) (course : Course) (job : JobState) (read : GivesJob c
   -- a front of the lines of a run that ended so, and nothing behind it
   untold_by : (lines : List Line) (old new : Outbox) (end : End)
       → NodeEnds rank port course end unasked (said_last lines end) → GathersFront old new (spell lines)
-      → EndsBy (NodeEnds rank port course) old new cut
+      → EndsBy (NodeEnds rank port course) old new cut_short
   untold_by lines old new end so front = record {
     end = end;
     said = said_last lines end;
@@ -182,7 +182,7 @@ module _ (rank port : ℕ) (course : Course) (job : JobState) (read : GivesJob c
   -- the sink failed at an entry, or before all
   stopped : (journal : List Entry) (old new : Outbox) → StopsAt (post_of job rank port) course journal
       → GathersFront old new (spell (node_lines (post_of job rank port) journal))
-      → EndsBy (NodeEnds rank port course) old new cut
+      → EndsBy (NodeEnds rank port course) old new cut_short
   stopped journal old new stops front = record {
     end = ends.WriteFault;
     said = spell (node_lines (post_of job rank port) journal);
@@ -195,7 +195,7 @@ module _ (rank port : ℕ) (course : Course) (job : JobState) (read : GivesJob c
   untold : (station : StationEnd) (old new : Outbox) → (station ≡ stations.NoMemory → ⊥)
       → (run : RunsTo (post_of job rank port) course.before course.after station)
       → GathersFront old new (spell (node_lines (post_of job rank port) run.journal))
-      → EndsBy (NodeEnds rank port course) old new cut
+      → EndsBy (NodeEnds rank port course) old new cut_short
   untold stations.Over old new other run front =
       let noted = has_noted (record_after (post_of job rank port) run.journal) in
       untold_by (node_lines (post_of job rank port) run.journal) old new (end_of noted)
@@ -214,7 +214,7 @@ module _ (rank port : ℕ) (course : Course) (job : JobState) (read : GivesJob c
   -- memory ran out as the node ran
   open_told : (old middle new : Outbox) (ended : Ended)
       → EndsOpen (post_of job rank port) course.before course.after old middle
-      → Says ends.NoMemory nothing middle new ended → EndsBy (NodeEnds rank port course) old new ended
+      → SaysEnd ends.NoMemory nothing middle new ended → EndsBy (NodeEnds rank port course) old new ended
   open_told old middle new ended h says =
       says_last (NodeEnds rank port course) old middle new (node_open (post_of job rank port) h.run.journal)
       ends.NoMemory nothing ended (weak_node rank port course) tt
@@ -229,7 +229,7 @@ module _ (rank port : ℕ) (course : Course) (job : JobState) (read : GivesJob c
 
   -- or before it
   unmade_told : (old middle new : Outbox) (ended : Ended)
-      → EndsUnmade course.before course.after old middle → Says ends.NoMemory nothing middle new ended
+      → EndsUnmade course.before course.after old middle → SaysEnd ends.NoMemory nothing middle new ended
       → EndsBy (NodeEnds rank port course) old new ended
   unmade_told old middle new ended h says =
       says_last (NodeEnds rank port course) old middle new [] ends.NoMemory nothing ended (weak_node rank port course)
@@ -238,14 +238,14 @@ module _ (rank port : ℕ) (course : Course) (job : JobState) (read : GivesJob c
   early_told : (old middle new : Outbox) (ended : Ended)
       → (EndsOpen (post_of job rank port) course.before course.after old middle
       ⊎ EndsUnmade course.before course.after old middle)
-      → Says ends.NoMemory nothing middle new ended → EndsBy (NodeEnds rank port course) old new ended
+      → SaysEnd ends.NoMemory nothing middle new ended → EndsBy (NodeEnds rank port course) old new ended
   early_told old middle new ended (inl h) says = open_told old middle new ended h says
   early_told old middle new ended (inr h) says = unmade_told old middle new ended h says
 
   unwritten_told : (old new : Outbox)
       → (EndsCut (post_of job rank port) course.before course.after old new
       ⊎ EndsUnopened (post_of job rank port) course.before course.after old new)
-      → EndsBy (NodeEnds rank port course) old new cut
+      → EndsBy (NodeEnds rank port course) old new cut_short
   unwritten_told old new (inl h) = untold h.end old new h.some_text h.run h.written
   unwritten_told old new (inr h) = stopped [] old new (inr (h.kept, refl)) h.written
 
@@ -271,16 +271,16 @@ module _ (rank port : ℕ) (course : Course) (job : JobState) (read : GivesJob c
   node_told old middle new nodes.NoMemory left ended h says =
       let given = ap (λ (n : Option EndpointState). node_given n) h.no_node in
       early_told old middle new ended h.how
-      (subst (λ (g : Given). Says ends.NoMemory g middle new ended) given says)
+      (subst (λ (g : Given). SaysEnd ends.NoMemory g middle new ended) given says)
   node_told old middle new nodes.WriteFault left ended h says =
       subst (λ (e : Ended). EndsBy (NodeEnds rank port course) old new e) (sym says.0)
-      (subst (λ (out : Outbox). EndsBy (NodeEnds rank port course) old out cut) (sym says.1)
+      (subst (λ (out : Outbox). EndsBy (NodeEnds rank port course) old out cut_short) (sym says.1)
       (unwritten_told old middle h.how))
 
 -- no node of the job is asked for
 pub no_node_told : (rank port : ℕ) (course : Course) (job : JobState) (old new : Outbox) (ended : Ended)
-    → GivesJob course.reading job → has_place rank port job.settings.nodes ≡ false
-    → Says ends.Usage nothing old new ended
+    → GivesJob course.reading job → has_node_place rank port job.settings.nodes ≡ false
+    → SaysEnd ends.Usage nothing old new ended
     → EndsBy (NodeEnds rank port course) old new ended
 no_node_told rank port course job old new ended read none says =
     says_alone (NodeEnds rank port course) old new ends.Usage ended (weak_node rank port course) tt
@@ -289,7 +289,7 @@ no_node_told rank port course job old new ended read none says =
 -- ---- exit statuses
 
 node_codes : (rank port : ℕ) (call : Call) (end : End)
-    → Means (NodeEnds rank port (course_in call)) (took_in call) call.given end
+    → EndMeans (NodeEnds rank port (course_in call)) (took_in call) call.given end
     → Contains (0 ∷ 1 ∷ 2 ∷ 3 ∷ 4 ∷ 5 ∷ 6 ∷ 8 ∷ 9 ∷ 10 ∷ []) (code_of end)
 node_codes rank port call ends.Done h = (0, lit< tt, refl)
 node_codes rank port call ends.Violations h = (1, lit< tt, refl)
@@ -306,21 +306,22 @@ node_codes rank port call (ends.NotARun node entry) h = absurd h.ends
 node_codes rank port call (ends.Child child code) h = absurd h.ends
 
 pub node_means : (call : Call) (rank port : ℕ) (end : End)
-    → Means (NodeEnds rank port (course_in call)) (took_in call) call.given end
+    → EndMeans (NodeEnds rank port (course_in call)) (took_in call) call.given end
     → NodeMeans call rank port (code_of end)
 node_means call rank port end h =
     code_means call (NodeEnds rank port (course_in call)) _ end (node_codes rank port call end h) h
 
 is_no_node : (source : Input) (left : Option (List ℕ)) (rank port : ℕ) (job : JobState)
     → HoldsNode rank port source
-    → ReadsJob source.left left job → has_place rank port job.settings.nodes ≡ false → ⊥
+    → ReadsJob source.left left job → has_node_place rank port job.settings.nodes ≡ false → ⊥
 is_no_node source left rank port job holds read none =
     let same = one_job holds.holds.bytes left holds.holds.job job holds.holds.text
     (subst (λ (before : Option (List ℕ)). ReadsJob before left job) holds.holds.told read) in
-    absurd (true≢false (sym holds.place ∙ (ap (λ (j : JobState). has_place rank port j.settings.nodes) same ∙ none)))
+    absurd (true≢false
+    (sym holds.place ∙ (ap (λ (j : JobState). has_node_place rank port j.settings.nodes) same ∙ none)))
 
 pub node_completes : (call : Call) (rank port : ℕ) (end : End)
-    → Means (NodeEnds rank port (course_in call)) (took_in call) call.given end
+    → EndMeans (NodeEnds rank port (course_in call)) (took_in call) call.given end
     → NodeCompletes call rank port (code_of end)
 node_completes call rank port ends.Done h holds faultless linked = (0, lit< tt, refl)
 node_completes call rank port ends.Violations h holds faultless linked = (1, lit< tt, refl)

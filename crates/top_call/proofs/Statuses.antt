@@ -5,7 +5,7 @@ use Rattle.std.specs.List.{Contains}
 use Rattle.job_text.specs.declared.fault.JobWhy.{JobWhy}
 use Rattle.top_call.specs.Outsides.{Call, took_in}
 use Rattle.top_call.specs.Commands.{code_of}
-use Rattle.top_call.specs.HowEnds.{EndsHow, Means}
+use Rattle.top_call.specs.HowEnds.{EndsHow, EndMeans}
 use Rattle.top_call.specs.Statuses.{CodeMeans}
 use Rattle.top_call.specs.declared.ending.End.{End}
 use Rattle.top_call.specs.declared.ending.End.TheVariants as ends
@@ -97,7 +97,7 @@ a_child ends.JournalFull e = absurd (omega (arith, e))
 
 -- how a call ended, by its end
 abbrev EndedBy : Call → EndsHow → End → Type 0
-EndedBy call Ends end = Means Ends (took_in call) call.given end
+EndedBy call Ends end = EndMeans Ends (took_in call) call.given end
 
 pub code_means : (call : Call) (Ends : EndsHow) (codes : List ℕ) (end : End) → Contains codes (code_of end)
     → EndedBy call Ends end → CodeMeans call Ends codes (code_of end)

@@ -14,7 +14,7 @@ use Rattle.launch_run.specs.TracesEnd.{TracesEnd}
 use Rattle.launch_run.specs.TracesEnd.TheVariants as traces
 use Rattle.top_call.specs.Commands.{end_of, status_line}
 use Rattle.top_call.specs.HowEnds.{After, gives, nodes_given, nothing, said_last, unasked}
-use Rattle.top_call.specs.TopParts.{EndsBy, Says, SaysTraces}
+use Rattle.top_call.specs.TopParts.{EndsBy, SaysEnd, SaysTraces}
 use Rattle.top_call.specs.TracesReports.{RunsTraces, TracesEnds}
 use Rattle.top_call.specs.declared.ending.End.TheVariants as ends
 use Rattle.top_call.specs.declared.ending.Ended.{Ended}
@@ -67,7 +67,7 @@ by_end job these false after said h = h
 
 -- memory ran out before anything was said
 pub traces_unknown : (job : JobState) (these : List Trace) (old new : Outbox) (ended : Ended)
-    → Says ends.NoMemory nothing old new ended → EndsBy (TracesEnds job these) old new ended
+    → SaysEnd ends.NoMemory nothing old new ended → EndsBy (TracesEnds job these) old new ended
 traces_unknown job these old new ended says =
     says_alone (TracesEnds job these) old new ends.NoMemory ended (weak_traces job these) tt (inl (alone ends.NoMemory))
     says
@@ -90,7 +90,7 @@ traces_told job these old middle new (traces.Done violated nodes) ended told say
 traces_told job these old middle new (traces.NotARun node entry) ended told says =
     says_alone (TracesEnds job these) old new (ends.NotARun node entry) ended (weak_traces job these) tt
     (record { none = told.none; alone = alone (ends.NotARun node entry) })
-    (subst (λ (out : Outbox). Says (ends.NotARun node entry) nothing out new ended) told.same says)
+    (subst (λ (out : Outbox). SaysEnd (ends.NotARun node entry) nothing out new ended) told.same says)
 traces_told job these old middle new traces.Fault ended told says =
     let violated = is_violated job (struck_traces job these) in
     let end = end_of violated in
@@ -108,7 +108,7 @@ traces_told job these old middle new traces.Fault ended told says =
     })
 traces_told job these old middle new traces.NoMemory ended (inl same) says =
     traces_unknown job these old new ended
-    (subst (λ (out : Outbox). Says ends.NoMemory nothing out new ended) same says)
+    (subst (λ (out : Outbox). SaysEnd ends.NoMemory nothing out new ended) same says)
 traces_told job these old middle new traces.NoMemory ended (inr told) says =
     says_last (TracesEnds job these) old middle new told.lines.front ends.NoMemory nothing ended
     (weak_traces job these) tt

@@ -8,9 +8,9 @@ use Rattle.job_text.specs.JobText.{job_text}
 use Rattle.upgrade_law.specs.Upgraded.{in_version}
 use Rattle.top_call.specs.Outsides.{Call, Reading, read_in, took_in}
 use Rattle.top_call.specs.Commands.{code_of}
-use Rattle.top_call.specs.HowEnds.{After, Means, gives, nothing, unasked}
+use Rattle.top_call.specs.HowEnds.{After, EndMeans, gives, nothing, unasked}
 use Rattle.top_call.specs.JobReads.{GivesJob}
-use Rattle.top_call.specs.TopParts.{EndsBy, cut}
+use Rattle.top_call.specs.TopParts.{EndsBy, cut_short}
 use Rattle.top_call.specs.UpgradeCommand.{UpgradeCompletes, UpgradeEnds, UpgradeMeans, UpgradesJob}
 use Rattle.top_call.specs.declared.ending.End.{End}
 use Rattle.top_call.specs.declared.ending.End.TheVariants as ends
@@ -76,7 +76,7 @@ upgrade_done reading job old new read h = record {
 
 -- the sink failed
 pub upgrade_cut : (reading : Reading) (job : JobState) (old new : Outbox) → GivesJob reading job
-    → GathersAll old new (job_text (in_version job 2)) wrote.Fault → EndsBy (UpgradeEnds reading) old new cut
+    → GathersAll old new (job_text (in_version job 2)) wrote.Fault → EndsBy (UpgradeEnds reading) old new cut_short
 upgrade_cut reading job old new read h = record {
   end = ends.Done;
   said = job_text (in_version job 2);
@@ -87,7 +87,7 @@ upgrade_cut reading job old new read h = record {
 
 -- ---- exit statuses
 
-upgrade_codes : (call : Call) (end : End) → Means (UpgradeEnds (read_in call)) (took_in call) call.given end
+upgrade_codes : (call : Call) (end : End) → EndMeans (UpgradeEnds (read_in call)) (took_in call) call.given end
     → Contains (0 ∷ 3 ∷ 4 ∷ 5 ∷ 8 ∷ []) (code_of end)
 upgrade_codes call ends.Done h = (0, lit< tt, refl)
 upgrade_codes call (ends.BadJob line reason) h = (1, lit< tt, refl)
@@ -103,11 +103,11 @@ upgrade_codes call ends.JournalFull h = absurd h.ends
 upgrade_codes call (ends.NotARun node entry) h = absurd h.ends
 upgrade_codes call (ends.Child rank code) h = absurd h.ends
 
-pub upgrade_means : (call : Call) (end : End) → Means (UpgradeEnds (read_in call)) (took_in call) call.given end
+pub upgrade_means : (call : Call) (end : End) → EndMeans (UpgradeEnds (read_in call)) (took_in call) call.given end
     → UpgradeMeans call (code_of end)
 upgrade_means call end h = code_means call (UpgradeEnds (read_in call)) _ end (upgrade_codes call end h) h
 
-pub upgrade_completes : (call : Call) (end : End) → Means (UpgradeEnds (read_in call)) (took_in call) call.given end
+pub upgrade_completes : (call : Call) (end : End) → EndMeans (UpgradeEnds (read_in call)) (took_in call) call.given end
     → UpgradeCompletes call (code_of end)
 upgrade_completes call ends.Done h holds faultless = (0, lit< tt, refl)
 upgrade_completes call ends.NoMemory h holds faultless = (1, lit< tt, refl)

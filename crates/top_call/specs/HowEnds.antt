@@ -104,14 +104,14 @@ pub record Cut (Ends : EndsHow) (took : List ℕ → Wrote → Type 0) (given : 
   pub nothing_given : given ≡ nothing
 
 -- how a command ended, by what its sink took, and what was given
-abbrev pub Means : EndsHow → (took : List ℕ → Wrote → Type 0) → Given → End → Type 0
-Means Ends took given ends.WriteFault = Cut Ends took given
-Means Ends took given end = Told Ends took end given
+abbrev pub EndMeans : EndsHow → (took : List ℕ → Wrote → Type 0) → Given → End → Type 0
+EndMeans Ends took given ends.WriteFault = Cut Ends took given
+EndMeans Ends took given end = Told Ends took end given
 
 -- the call ended so
-abbrev pub Tells : Call → EndsHow → End → Type 0
-Tells call Ends end = Told Ends (took_in call) end call.given
+abbrev pub TellsEnd : Call → EndsHow → End → Type 0
+TellsEnd call Ends end = Told Ends (took_in call) end call.given
 
 -- it ended as its sink failed
-abbrev pub IsCut : Call → EndsHow → Type 0
-IsCut call Ends = Cut Ends (took_in call) call.given
+abbrev pub IsCutShort : Call → EndsHow → Type 0
+IsCutShort call Ends = Cut Ends (took_in call) call.given

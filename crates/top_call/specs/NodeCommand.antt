@@ -19,14 +19,14 @@ use Rattle.top_call.specs.declared.ending.End.{End}
 use Rattle.top_call.specs.declared.ending.End.TheVariants as ends
 
 -- among so many nodes there is one of this rank, and each has its port where rank 0 has this one
-abbrev pub has_place : (rank port nodes : ℕ) → Bool
-has_place rank port nodes = nat_lt rank nodes && has_ports port nodes
+abbrev pub has_node_place : (rank port nodes : ℕ) → Bool
+has_node_place rank port nodes = nat_lt rank nodes && has_ports port nodes
 
 -- a job was read, and it has no place for this node: the status line alone
 pub record HasNoPlace (rank port : ℕ) (course : Course) (after : After) (said : List ℕ) : Type 0 where
   pub job : JobState
   pub read : GivesJob course.reading job
-  pub no_place : has_place rank port job.settings.nodes ≡ false
+  pub no_place : has_node_place rank port job.settings.nodes ≡ false
   pub alone : SaysAlone ends.Usage after said
 
 -- a job was read, and its node of this rank ran until this end of its station: the trace of its journal, and the status
@@ -35,7 +35,7 @@ pub record RunsNode (rank port : ℕ) (course : Course) (station : StationEnd) (
     (said : List ℕ) : Type 0 where
   pub job : JobState
   pub read : GivesJob course.reading job
-  pub place : has_place rank port job.settings.nodes ≡ true
+  pub place : has_node_place rank port job.settings.nodes ≡ true
   pub run : RunsTo (post_of job rank port) course.before course.after station
   pub said_is : said ≡ said_last (node_lines (post_of job rank port) run.journal) end
   pub node_after : after.left run.left.machine.endpoint
@@ -54,7 +54,7 @@ pub record LosesLink (rank port : ℕ) (course : Course) (after : After) (said :
 pub record LosesMemory (rank port : ℕ) (course : Course) (after : After) (said : List ℕ) : Type 0 where
   pub job : JobState
   pub read : GivesJob course.reading job
-  pub place : has_place rank port job.settings.nodes ≡ true
+  pub place : has_node_place rank port job.settings.nodes ≡ true
   pub run : RunsTo (post_of job rank port) course.before course.after stations.NoMemory
   pub said_is : said ≡ said_last (node_open (post_of job rank port) run.journal) ends.NoMemory
   pub nothing_given : after.none
@@ -69,7 +69,7 @@ StopsAt post course journal =
 pub record LosesSink (rank port : ℕ) (course : Course) (said : List ℕ) : Type 0 where
   pub job : JobState
   pub read : GivesJob course.reading job
-  pub place : has_place rank port job.settings.nodes ≡ true
+  pub place : has_node_place rank port job.settings.nodes ≡ true
   pub journal : List Entry
   pub stops : StopsAt (post_of job rank port) course journal
   pub said_is : said ≡ spell (node_lines (post_of job rank port) journal)
@@ -100,7 +100,7 @@ NodeMeans call rank port code =
 -- the bytes that are left are told, and they are the text of some job with a place for this node
 pub record HoldsNode (rank port : ℕ) (source : Input) : Type 0 where
   pub holds : HoldsJob source
-  pub place : has_place rank port holds.job.settings.nodes ≡ true
+  pub place : has_node_place rank port holds.job.settings.nodes ≡ true
 
 -- where no count of faults rose, the node of a job that could be read came to its end, got stuck, or filled its
 -- journal, or memory ran out

@@ -62,8 +62,8 @@ abbrev pub call_of : List Word → (before after : Seen) → Given → Call
 call_of words before after given = record { words = words; before = before; after = after; given = given }
 
 -- what a call gives besides its exit status
-abbrev pub given_by : Status → Given
-given_by status = record { world = status.world; node = status.node; nodes = status.nodes }
+abbrev pub given_with : Status → Given
+given_with status = record { world = status.world; node = status.node; nodes = status.nodes }
 
 -- a source before and after it was read
 pub record Reading : Type 0 where
@@ -72,6 +72,10 @@ pub record Reading : Type 0 where
 
 abbrev pub reading_of : (before after : Input) → Reading
 reading_of before after = record { before = before; after = after }
+
+-- that of a source of any kind
+abbrev pub reading_over : {S : Type 0} → (left : S → Option (List ℕ)) → (faults : S → ℕ) → (before after : S) → Reading
+reading_over left faults before after = reading_of (input left faults before) (input left faults after)
 
 -- that of a call
 abbrev pub read_in : Call → Reading
@@ -85,9 +89,6 @@ pub record Course : Type 0 where
 
 abbrev pub course_with : Reading → (before after : DevicesSeen) → Course
 course_with reading before after = record { reading = reading; before = before; after = after }
-
-abbrev pub course_of : (old new : Input) → (before after : DevicesSeen) → Course
-course_of old new before after = course_with (reading_of old new) before after
 
 -- that of a call
 abbrev pub course_in : Call → Course
@@ -106,14 +107,14 @@ abbrev pub spawning_in : Call → Spawning
 spawning_in call = spawning_of call.before.spawner call.after.spawner
 
 -- what a sink took of some bytes: all of them; or it failed, and a front of them
-abbrev pub Takes : (old new : Output) → List ℕ → Wrote → Type 0
-Takes old new bytes wrote.Done = Appends old.taken new.taken bytes
-Takes old new bytes wrote.Fault =
+abbrev pub TakesBytes : (old new : Output) → List ℕ → Wrote → Type 0
+TakesBytes old new bytes wrote.Done = Appends old.taken new.taken bytes
+TakesBytes old new bytes wrote.Fault =
     Rose old.faults new.faults × (rest : List ℕ) × TakesUpTo old.taken new.taken bytes rest
 
 -- what the sink of a call took of some bytes in the call
 abbrev pub took_in : Call → List ℕ → Wrote → Type 0
-took_in call = Takes call.before.sink call.after.sink
+took_in call = TakesBytes call.before.sink call.after.sink
 
 -- neither the source's count of faults nor the sink's rose in the call, or stands at its last value; of the link's and
 -- the spawner's it says nothing

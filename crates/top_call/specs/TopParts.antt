@@ -16,9 +16,9 @@ use Rattle.launch_run.specs.TracesEnd.{TracesEnd}
 use Rattle.launch_run.specs.TracesEnd.TheVariants as traces
 use Rattle.launch_run.specs.declared.fault.LaunchFault.{LaunchFault}
 use Rattle.launch_run.specs.declared.fault.LaunchFault.TheVariants as launches
-use Rattle.top_call.specs.Outsides.{Course, Reading, Spawning, given_by}
+use Rattle.top_call.specs.Outsides.{Course, Reading, Spawning, given_with}
 use Rattle.top_call.specs.Commands.{code_of, end_of, status_line}
-use Rattle.top_call.specs.HowEnds.{EndsHow, Means, node_given, nodes_given, nothing, world_given}
+use Rattle.top_call.specs.HowEnds.{EndsHow, EndMeans, node_given, nodes_given, nothing, world_given}
 use Rattle.top_call.specs.JobReads.{GivesJob, ReadsNoJob}
 use Rattle.top_call.specs.WorldCommand.{WorldEnds}
 use Rattle.top_call.specs.UpgradeCommand.{UpgradeEnds}
@@ -52,7 +52,7 @@ Ends (Some (commands.Drill seed)) course spawning = DrillEnds seed
 
 -- how a command ended, by what went into a sink that gathers
 abbrev pub EndsBy : EndsHow → (old new : Outbox) → Ended → Type 0
-EndsBy Ends old new ended = Means Ends (GathersAll old new) ended.given ended.end
+EndsBy Ends old new ended = EndMeans Ends (GathersAll old new) ended.given ended.end
 
 -- what is seen of the source stands as it did
 abbrev pub KeepsSource : Course → Type 0
@@ -63,21 +63,21 @@ abbrev pub KeepsDevices : Course → Type 0
 KeepsDevices course = course.after ≡ course.before
 
 -- what is seen of the outside and stands as it did, by what was asked for
-abbrev pub Keeps : Option Command → Course → Spawning → Type 0
-Keeps None course spawning = KeepsSource course × KeepsDevices course × IsUnused spawning
-Keeps (Some commands.World) course spawning = KeepsDevices course × IsUnused spawning
-Keeps (Some commands.Upgrade) course spawning = KeepsDevices course × IsUnused spawning
-Keeps (Some commands.Check) course spawning = KeepsDevices course × IsUnused spawning
-Keeps (Some (commands.Launch port)) course spawning = KeepsDevices course
-Keeps (Some (commands.Node rank port)) course spawning = IsUnused spawning
-Keeps (Some (commands.Drill seed)) course spawning =
+abbrev pub KeepsOutside : Option Command → Course → Spawning → Type 0
+KeepsOutside None course spawning = KeepsSource course × KeepsDevices course × IsUnused spawning
+KeepsOutside (Some commands.World) course spawning = KeepsDevices course × IsUnused spawning
+KeepsOutside (Some commands.Upgrade) course spawning = KeepsDevices course × IsUnused spawning
+KeepsOutside (Some commands.Check) course spawning = KeepsDevices course × IsUnused spawning
+KeepsOutside (Some (commands.Launch port)) course spawning = KeepsDevices course
+KeepsOutside (Some (commands.Node rank port)) course spawning = IsUnused spawning
+KeepsOutside (Some (commands.Drill seed)) course spawning =
     KeepsSource course × KeepsDevices course × IsUnused spawning
 
 -- how what was asked for ended, and what it left as it stood
 pub record EndsAs (asked : Option Command) (course : Course) (spawning : Spawning) (old new : Outbox) (ended : Ended)
     : Type 0 where
   pub ends : EndsBy (Ends asked course spawning) old new ended
-  pub keeps : Keeps asked course spawning
+  pub keeps : KeepsOutside asked course spawning
 
 -- it isn't to run a node
 abbrev pub IsNoNode : Option Command → Type 0
@@ -86,20 +86,20 @@ IsNoNode asked = (rank port : ℕ) → asked ≡ Some (commands.Node rank port) 
 -- ---- reading
 
 -- why reading a job gave none
-abbrev pub IsUnread : Reading → End → Type 0
-IsUnread reading (ends.BadJob line why) = ReadsNoJob reading.before.left reading.after.left line why
-IsUnread reading ends.ReadFault = Rose reading.before.faults reading.after.faults
-IsUnread reading ends.NoMemory = ⊤
-IsUnread reading ends.Done = ⊥
-IsUnread reading ends.Violations = ⊥
-IsUnread reading ends.Usage = ⊥
-IsUnread reading ends.WriteFault = ⊥
-IsUnread reading ends.LinkFault = ⊥
-IsUnread reading ends.SpawnFault = ⊥
-IsUnread reading ends.Stuck = ⊥
-IsUnread reading ends.JournalFull = ⊥
-IsUnread reading (ends.NotARun node entry) = ⊥
-IsUnread reading (ends.Child rank code) = ⊥
+abbrev pub IsUnreadJob : Reading → End → Type 0
+IsUnreadJob reading (ends.BadJob line why) = ReadsNoJob reading.before.left reading.after.left line why
+IsUnreadJob reading ends.ReadFault = Rose reading.before.faults reading.after.faults
+IsUnreadJob reading ends.NoMemory = ⊤
+IsUnreadJob reading ends.Done = ⊥
+IsUnreadJob reading ends.Violations = ⊥
+IsUnreadJob reading ends.Usage = ⊥
+IsUnreadJob reading ends.WriteFault = ⊥
+IsUnreadJob reading ends.LinkFault = ⊥
+IsUnreadJob reading ends.SpawnFault = ⊥
+IsUnreadJob reading ends.Stuck = ⊥
+IsUnreadJob reading ends.JournalFull = ⊥
+IsUnreadJob reading (ends.NotARun node entry) = ⊥
+IsUnreadJob reading (ends.Child rank code) = ⊥
 
 -- what reading a job and its bytes gave
 abbrev pub GivesText : Reading → JobState → List ℕ → Type 0
@@ -107,12 +107,12 @@ GivesText reading job bytes = (read : GivesJob reading job) × (read.bytes ≡ b
 
 abbrev pub ReadsTextOrNot : Reading → Result JobRead End → Type 0
 ReadsTextOrNot reading (Ok read) = GivesText reading read.job read.bytes.items
-ReadsTextOrNot reading (Err end) = IsUnread reading end
+ReadsTextOrNot reading (Err end) = IsUnreadJob reading end
 
 -- what reading a job gave
 abbrev pub ReadsOrNot : Reading → Result JobState End → Type 0
 ReadsOrNot reading (Ok job) = GivesJob reading job
-ReadsOrNot reading (Err end) = IsUnread reading end
+ReadsOrNot reading (Err end) = IsUnreadJob reading end
 
 -- how `check` ends where no input was read
 abbrev pub end_unread : InputFault → End
@@ -131,47 +131,47 @@ end_of_fault launches.NoMemory = ends.NoMemory
 -- ---- saying
 
 -- how a command ends whose sink failed
-abbrev pub cut : Ended
-cut = record { end = ends.WriteFault; given = nothing }
+abbrev pub cut_short : Ended
+cut_short = record { end = ends.WriteFault; given = nothing }
 
 -- the status line of this end went in, and so the command ended, and gave this; or the sink failed, and a front of that
 -- line went in
-abbrev pub Says : End → Given → (old new : Outbox) → Ended → Type 0
-Says end given old new ended =
+abbrev pub SaysEnd : End → Given → (old new : Outbox) → Ended → Type 0
+SaysEnd end given old new ended =
     ((ended ≡ record { end = end; given = given }) × Gathers old new (line_text (status_line end)))
-    ⊎ ((ended ≡ cut) × GathersFront old new (line_text (status_line end)))
+    ⊎ ((ended ≡ cut_short) × GathersFront old new (line_text (status_line end)))
 
 -- what is said behind the lines of a run that ended so: the status line, with the world after the run; nothing where
 -- the sink failed
 abbrev pub SaysRun : RunEnd → (old new : Outbox) → Ended → Type 0
-SaysRun (runs.Done violated world) old new ended = Says (end_of violated) (world_given world) old new ended
-SaysRun runs.Fault old new ended = (ended ≡ cut) × (new ≡ old)
-SaysRun runs.NoMemory old new ended = Says ends.NoMemory nothing old new ended
+SaysRun (runs.Done violated world) old new ended = SaysEnd (end_of violated) (world_given world) old new ended
+SaysRun runs.Fault old new ended = (ended ≡ cut_short) × (new ≡ old)
+SaysRun runs.NoMemory old new ended = SaysEnd ends.NoMemory nothing old new ended
 
 -- what is said behind the trace of a node whose run ended so: the status line, with this node, where one is left;
 -- nothing where the sink failed
 abbrev pub SaysNode : NodeEnd → Option EndpointState → (old new : Outbox) → Ended → Type 0
-SaysNode (nodes.Over violated) left old new ended = Says (end_of violated) (node_given left) old new ended
-SaysNode nodes.Stuck left old new ended = Says ends.Stuck (node_given left) old new ended
-SaysNode nodes.LinkFault left old new ended = Says ends.LinkFault (node_given left) old new ended
-SaysNode nodes.JournalFull left old new ended = Says ends.JournalFull (node_given left) old new ended
-SaysNode nodes.NoMemory left old new ended = Says ends.NoMemory (node_given left) old new ended
-SaysNode nodes.WriteFault left old new ended = (ended ≡ cut) × (new ≡ old)
+SaysNode (nodes.Over violated) left old new ended = SaysEnd (end_of violated) (node_given left) old new ended
+SaysNode nodes.Stuck left old new ended = SaysEnd ends.Stuck (node_given left) old new ended
+SaysNode nodes.LinkFault left old new ended = SaysEnd ends.LinkFault (node_given left) old new ended
+SaysNode nodes.JournalFull left old new ended = SaysEnd ends.JournalFull (node_given left) old new ended
+SaysNode nodes.NoMemory left old new ended = SaysEnd ends.NoMemory (node_given left) old new ended
+SaysNode nodes.WriteFault left old new ended = (ended ≡ cut_short) × (new ≡ old)
 
 -- what is said behind the lines of traces whose check ended so: the status line, with the nodes after them; nothing
 -- where the sink failed
 abbrev pub SaysTraces : TracesEnd → (old new : Outbox) → Ended → Type 0
-SaysTraces (traces.Done violated nodes) old new ended = Says (end_of violated) (nodes_given nodes) old new ended
-SaysTraces (traces.NotARun node entry) old new ended = Says (ends.NotARun node entry) nothing old new ended
-SaysTraces traces.Fault old new ended = (ended ≡ cut) × (new ≡ old)
-SaysTraces traces.NoMemory old new ended = Says ends.NoMemory nothing old new ended
+SaysTraces (traces.Done violated nodes) old new ended = SaysEnd (end_of violated) (nodes_given nodes) old new ended
+SaysTraces (traces.NotARun node entry) old new ended = SaysEnd (ends.NotARun node entry) nothing old new ended
+SaysTraces traces.Fault old new ended = (ended ≡ cut_short) × (new ≡ old)
+SaysTraces traces.NoMemory old new ended = SaysEnd ends.NoMemory nothing old new ended
 
 -- what waited was given on, and the end stays; or the sink failed at that. After a fault nothing more is given on
 abbrev pub GivesOn : (old new : Outbox) → (before after : Ended) → Type 0
 GivesOn old new before after =
     ((before.end ≡ ends.WriteFault) × (after ≡ before) × (new ≡ old))
     ⊎ (((before.end ≡ ends.WriteFault → ⊥) × (after ≡ before) × Flushes old new wrote.Done)
-    ⊎ ((before.end ≡ ends.WriteFault → ⊥) × (after ≡ cut) × Flushes old new wrote.Fault))
+    ⊎ ((before.end ≡ ends.WriteFault → ⊥) × (after ≡ cut_short) × Flushes old new wrote.Fault))
 
 -- the outside with this sink
 abbrev pub with_sink : {S J K L P C G : Type 0} → Outside S J L P C G → K → Outside S K L P C G
@@ -197,5 +197,5 @@ pub record Closes {S K L P C G : Type 0} (taken : K → Option (List ℕ)) (faul
   pub over : Ended
   pub gives_on : GivesOn (outbox taken faults gathering.sink) (outbox taken faults sink) ended over
   pub code : status.code ≡ code_of over.end
-  pub given : given_by status ≡ over.given
+  pub given : given_with status ≡ over.given
   pub is : outside ≡ with_sink gathering sink.inner

@@ -5,7 +5,7 @@ ghost use Rattle.gas_outside.specs.Buffered.{outbox};
 ghost use Rattle.job_text.specs.JobText.{IsJob};
 ghost use Rattle.launch_run.specs.CheckInputs.{HaveTraces};
 ghost use Rattle.top_call.specs.CheckCommand.{CheckEnds, GivesInput};
-ghost use Rattle.top_call.specs.Outsides.{Reading, input, reading_of};
+ghost use Rattle.top_call.specs.Outsides.{Reading, reading_over};
 ghost use Rattle.top_call.specs.TopParts.{EndsBy, end_unread};
 
 use crate::ending::{End, Ended, Given};
@@ -62,8 +62,7 @@ pub fn check_command<S: Source, K: Sink, N: Notes>(
     notes: &mut N,
 ) -> Ended
     ensures { EndsBy
-        (CheckEnds (reading_of (input S.left S.faults source.old)
-        (input S.left S.faults source.new)))
+        (CheckEnds (reading_over S.left S.faults source.old source.new))
         (outbox K.taken K.faults sink.old) (outbox K.taken K.faults sink.new) result }
 {
     match read_input(alloc, source) {

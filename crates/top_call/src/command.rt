@@ -3,7 +3,7 @@
 ghost use Rattle.gas_outside.specs.Buffered.{outbox};
 ghost use Rattle.launch_run.specs.Children.{spawner_seen};
 ghost use Rattle.node_call.specs.Seen.{devices_seen};
-ghost use Rattle.top_call.specs.Outsides.{course_of, input, spawning_of};
+ghost use Rattle.top_call.specs.Outsides.{course_with, reading_over, spawning_of};
 ghost use Rattle.top_call.specs.TopParts.{EndsAs, IsNoNode};
 
 use crate::check::check_command;
@@ -28,12 +28,13 @@ pub fn returning_command<S: Source, K: Sink, L: Link, P: Spawner, C: Clock, G, N
 ) -> Ended
     requires { IsNoNode asked }
     ensures { EndsAs asked
-        (course_of (input S.left S.faults outside.old.source) (input S.left S.faults outside.new.source)
+        (course_with (reading_over S.left S.faults outside.old.source outside.new.source)
         (devices_seen L.Link C.Clock outside.old.link outside.old.clock)
         (devices_seen L.Link C.Clock outside.new.link outside.new.clock))
         (spawning_of (spawner_seen P.Spawner outside.old.spawner)
         (spawner_seen P.Spawner outside.new.spawner))
-        (outbox K.taken K.faults outside.old.sink) (outbox K.taken K.faults outside.new.sink) result }
+        (outbox K.taken K.faults outside.old.sink) (outbox K.taken K.faults outside.new.sink)
+        result }
 {
     match asked {
         Some(Command::World) => world_command(alloc, &mut outside.source, &mut outside.sink),

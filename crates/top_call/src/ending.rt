@@ -3,7 +3,7 @@
 ghost use Rattle.std.specs.Prelude.{◌≡◌};
 ghost use Rattle.top_call.specs.Commands.{code_of, end_of, why_word};
 ghost use Rattle.top_call.specs.HowEnds.{node_given, nodes_given, nothing, world_given};
-ghost use Rattle.top_call.specs.TopParts.{cut};
+ghost use Rattle.top_call.specs.TopParts.{cut_short};
 
 use gas_endpoint::Endpoint;
 use gas_world::World;
@@ -155,7 +155,7 @@ pub struct Ended {
 impl Ended {
     /// The sink failed.
     pub fn cut() -> Ended
-        ensures { result ≡ cut }
+        ensures { result ≡ cut_short }
     {
         Ended {
             end: End::WriteFault,

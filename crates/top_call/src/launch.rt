@@ -5,7 +5,7 @@ ghost use Rattle.gas_outside.specs.Buffered.{outbox};
 ghost use Rattle.job_text.specs.JobText.{IsJob};
 ghost use Rattle.launch_run.specs.Children.{spawner_seen};
 ghost use Rattle.top_call.specs.LaunchCommand.{LaunchEnds};
-ghost use Rattle.top_call.specs.Outsides.{Reading, input, reading_of, spawning_of};
+ghost use Rattle.top_call.specs.Outsides.{Reading, reading_over, spawning_of};
 ghost use Rattle.top_call.specs.TopParts.{EndsBy, GivesText, end_of_fault};
 
 use crate::ending::{End, Ended, Given};
@@ -76,7 +76,7 @@ pub fn launch_command<S: Source, P: Spawner, K: Sink, N: Notes>(
     notes: &mut N,
 ) -> Ended
     ensures { EndsBy (LaunchEnds at.port
-        (reading_of (input S.left S.faults source.old) (input S.left S.faults source.new))
+        (reading_over S.left S.faults source.old source.new)
         (spawning_of (spawner_seen P.Spawner spawner.old) (spawner_seen P.Spawner spawner.new)))
         (outbox K.taken K.faults sink.old) (outbox K.taken K.faults sink.new) result }
 {

@@ -5,10 +5,10 @@ ghost use Rattle.gas_outside.specs.Buffered.{outbox};
 ghost use Rattle.job_text.specs.JobText.{IsJob};
 ghost use Rattle.node_call.specs.Seen.{devices_seen};
 ghost use Rattle.top_call.specs.JobReads.{GivesJob};
-ghost use Rattle.top_call.specs.NodeCommand.{NodeEnds, has_place};
-ghost use Rattle.top_call.specs.Outsides.{Reading, course_of, course_with, input};
+ghost use Rattle.top_call.specs.NodeCommand.{NodeEnds, has_node_place};
+ghost use Rattle.top_call.specs.Outsides.{Reading, course_with, reading_over};
 ghost use Rattle.top_call.specs.HowEnds.{nothing};
-ghost use Rattle.top_call.specs.TopParts.{EndsBy, Says, SaysNode};
+ghost use Rattle.top_call.specs.TopParts.{EndsBy, SaysEnd, SaysNode};
 
 use crate::ending::{End, Ended, Given};
 use crate::outside::Outside;
@@ -36,7 +36,7 @@ pub struct AskedNode {
 impl AskedNode {
     /// Whether it is among so many nodes, and each of them has its port.
     fn has_place(&self, nodes: u16) -> bool
-        ensures { result ≡ has_place self.now.rank self.now.port nodes }
+        ensures { result ≡ has_node_place self.now.rank self.now.port nodes }
     {
         self.rank < nodes && has_ports(self.port, nodes)
     }
@@ -83,7 +83,7 @@ fn say_unrun<K: Sink, L, C, G>(
     end: End,
     devices: Devices<'_, L, C, G>,
 ) -> NodeEnded<L, C, K>
-    ensures says { Says end nothing (outbox K.taken K.faults sink)
+    ensures says { SaysEnd end nothing (outbox K.taken K.faults sink)
         (outbox K.taken K.faults result.sink) result.ended }
     ensures link { result.link ≡ devices.entry.link }
     ensures clock { result.clock ≡ devices.entry.clock }
@@ -175,7 +175,7 @@ pub fn node_command<
     outside: Outside<S, BufferedSink<K>, L, P, C, G>,
 ) -> (Ended, Outside<S, BufferedSink<K>, L, P, C, G>)
     ensures ends { EndsBy (NodeEnds asked.rank asked.port
-        (course_of (input S.left S.faults outside.source) (input S.left S.faults result.1.source)
+        (course_with (reading_over S.left S.faults outside.source result.1.source)
         (devices_seen L.Link C.Clock outside.link outside.clock)
         (devices_seen L.Link C.Clock result.1.link result.1.clock)))
         (outbox K.taken K.faults outside.sink) (outbox K.taken K.faults result.1.sink) result.0 }

@@ -1,6 +1,6 @@
 //! Reading a job, of the commands that read one.
 
-ghost use Rattle.top_call.specs.Outsides.{input, reading_of};
+ghost use Rattle.top_call.specs.Outsides.{reading_over};
 ghost use Rattle.top_call.specs.TopParts.{ReadsOrNot, ReadsTextOrNot};
 
 use crate::ending::End;
@@ -23,8 +23,7 @@ pub struct JobRead {
 /// Reads all, and the job whose text it is. Else how the command ends: the bytes are no job's text or too many, the
 /// source failed, or memory ran out.
 pub fn text_from<S: Source>(alloc: Global, source: &mut S) -> Result<JobRead, End>
-    ensures { ReadsTextOrNot (reading_of (input S.left S.faults source.old)
-        (input S.left S.faults source.new)) result }
+    ensures { ReadsTextOrNot (reading_over S.left S.faults source.old source.new) result }
 {
     match read_all(alloc, source, LIMIT) {
         ReadAll::Bytes(bytes) => match read_job(alloc, &bytes) {
@@ -43,8 +42,7 @@ pub fn text_from<S: Source>(alloc: Global, source: &mut S) -> Result<JobRead, En
 
 /// The same without the bytes.
 pub fn job_from<S: Source>(alloc: Global, source: &mut S) -> Result<Job, End>
-    ensures { ReadsOrNot (reading_of (input S.left S.faults source.old)
-        (input S.left S.faults source.new)) result }
+    ensures { ReadsOrNot (reading_over S.left S.faults source.old source.new) result }
 {
     match text_from(alloc, source) {
         Ok(read) => Ok(read.job),

@@ -4,7 +4,7 @@ ghost use Rattle.std.specs.Prelude.{◌≡◌, ◌∷◌, [], codes, decimal};
 ghost use Rattle.gas_outside.specs.Buffered.{GathersAll, outbox};
 ghost use Rattle.node_script.specs.Lines.{line_text};
 ghost use Rattle.top_call.specs.Commands.{status_line, why_word};
-ghost use Rattle.top_call.specs.TopParts.{Says, SaysRun};
+ghost use Rattle.top_call.specs.TopParts.{SaysEnd, SaysRun};
 
 use crate::ending::{End, Ended, Given, why_word};
 use drill_run::RunEnd;
@@ -105,7 +105,7 @@ pub fn write_status<K: Sink>(sink: &mut BufferedSink<K>, end: End) -> Wrote
 /// Writes the status line of an end behind what was written before, and answers how the command ended: so, and it gives
 /// this; or as the sink failed, and it gives nothing.
 pub fn say<K: Sink>(sink: &mut BufferedSink<K>, end: End, given: Given) -> Ended
-    ensures { Says end given (outbox K.taken K.faults sink.old)
+    ensures { SaysEnd end given (outbox K.taken K.faults sink.old)
         (outbox K.taken K.faults sink.new) result }
 {
     match write_status(sink, end) {

@@ -2,7 +2,7 @@
 
 ghost use Rattle.std.specs.Prelude.{◌≡◌, ℕ, IfErr, IfOk, MatchOption, map, string_bytes};
 ghost use Rattle.gas_outside.specs.Buffered.{outbox};
-ghost use Rattle.top_call.specs.Outsides.{call_of, given_by, seen};
+ghost use Rattle.top_call.specs.Outsides.{call_of, given_with, seen};
 ghost use Rattle.top_call.specs.TopCall.{AsksNode, IsComplete, IsSaid, LeavesAlone, StatusMeans};
 ghost use Rattle.top_call.specs.TopParts.{Closes, GivesOn, IsNoNode, StandsOver};
 
@@ -151,7 +151,7 @@ pub fn returning_call<S: Source, K: Sink, L: Link, P: Spawner, C: Clock, G, N: N
     ensures said { IfOk result (λ done. IsSaid (call_of (map string_bytes words.now)
         (seen S.Source K.Sink L.Link P.Spawner C.Clock outside)
         (seen S.Source K.Sink L.Link P.Spawner C.Clock done.1)
-        (given_by done.0)) done.0.code) }
+        (given_with done.0)) done.0.code) }
     ensures returns { IfOk result (λ done. (rank port : ℕ)
         → AsksNode (map string_bytes words.now) rank port → ⊥) }
     ensures node { IfErr result (λ asked.
@@ -223,17 +223,17 @@ pub fn gasnet<
     ensures means { StatusMeans (call_of (map string_bytes words.now)
         (seen S.Source K.Sink L.Link P.Spawner C.Clock outside)
         (seen S.Source K.Sink L.Link P.Spawner C.Clock result.1)
-        (given_by result.0)) result.0.code }
+        (given_with result.0)) result.0.code }
     // A job that could be read is run, or written, unless memory runs out.
     ensures complete { IsComplete (call_of (map string_bytes words.now)
         (seen S.Source K.Sink L.Link P.Spawner C.Clock outside)
         (seen S.Source K.Sink L.Link P.Spawner C.Clock result.1)
-        (given_by result.0)) result.0.code }
+        (given_with result.0)) result.0.code }
     // What the words don't ask for stands as it did.
     ensures leaves { LeavesAlone (call_of (map string_bytes words.now)
         (seen S.Source K.Sink L.Link P.Spawner C.Clock outside)
         (seen S.Source K.Sink L.Link P.Spawner C.Clock result.1)
-        (given_by result.0)) }
+        (given_with result.0)) }
 {
     match returning_call(alloc, words, outside, notes) {
         Ok(done) => done,

@@ -3,7 +3,7 @@
 ghost use Rattle.gas_outside.specs.Buffered.{outbox};
 ghost use Rattle.job_text.specs.JobText.{IsJob};
 ghost use Rattle.top_call.specs.JobReads.{GivesJob};
-ghost use Rattle.top_call.specs.Outsides.{Reading, input, reading_of};
+ghost use Rattle.top_call.specs.Outsides.{Reading, reading_over};
 ghost use Rattle.top_call.specs.TopParts.{EndsBy};
 ghost use Rattle.top_call.specs.UpgradeCommand.{UpgradeEnds};
 
@@ -38,7 +38,7 @@ pub fn upgrade_command<S: Source, K: Sink>(
     sink: &mut BufferedSink<K>,
 ) -> Ended
     ensures { EndsBy
-        (UpgradeEnds (reading_of (input S.left S.faults source.old) (input S.left S.faults source.new)))
+        (UpgradeEnds (reading_over S.left S.faults source.old source.new))
         (outbox K.taken K.faults sink.old) (outbox K.taken K.faults sink.new) result }
 {
     match job_from(alloc, source) {

@@ -12,14 +12,15 @@ use Rattle.trace_replay.specs.declared.sent.Sent.{Sent}
 -- ---- what was sent
 
 -- the datagrams of the turn of this entry, which has this number
-abbrev pub numbered : (number : ℕ) → List (ℕ × List ℕ) → List Sent
-numbered number datagrams = map (λ one. record { entry = number; to = one.0; bytes = one.1 }) datagrams
+abbrev pub numbered_sends : (number : ℕ) → List (ℕ × List ℕ) → List Sent
+numbered_sends number datagrams = map (λ one. record { entry = number; to = one.0; bytes = one.1 }) datagrams
 
 -- the datagrams that the turns of these entries sent, the first of which has this number
 abbrev pub sent_from : {State : Type 0} → Steps State → State → (number : ℕ) → List Entry → List Sent
 sent_from steps state number [] = []
 sent_from steps state number (entry ∷ entries) =
-    numbered number (given_by steps state entry) ++ sent_from steps (after_entry steps state entry) (number + 1) entries
+    numbered_sends number (given_by steps state entry) ++ sent_from steps (after_entry steps state entry)
+    (number + 1) entries
 
 -- ---- a replay
 
@@ -42,14 +43,14 @@ pub record Replays {M : Type 0} (ghosts : Ghosts M) (first last : M) (entries : 
 -- ---- who sent
 
 -- one of them is this datagram for this node
-abbrev pub IsAmong : List Sent → (to : ℕ) → (bytes : List ℕ) → Type 0
-IsAmong sent to bytes =
+abbrev pub IsSentAmong : List Sent → (to : ℕ) → (bytes : List ℕ) → Type 0
+IsSentAmong sent to bytes =
     (place : ℕ) × IsSomeAnd (slice_get sent place) (λ one. (one.to ≡ to) × (one.bytes ≡ bytes))
 
 -- one of these nodes sent this datagram to this node
 abbrev pub IsSent : List Replayed → (to : ℕ) → (bytes : List ℕ) → Type 0
 IsSent replays to bytes =
-    (from : ℕ) × IsSomeAnd (slice_get replays from) (λ replay. IsAmong replay.sent.items to bytes)
+    (from : ℕ) × IsSomeAnd (slice_get replays from) (λ replay. IsSentAmong replay.sent.items to bytes)
 
 -- the entry of this node got a datagram that none of these nodes sent to it
 abbrev pub IsUnsent : List Replayed → (to : ℕ) → Entry → Type 0

@@ -1,7 +1,7 @@
 //! The datagrams that the turns of a trace sent.
 
 ghost use Rattle.std.specs.Prelude.{◌≡◌, ◌++◌, IfOk, IsTrue, ◌↔◌, MatchOption, take};
-ghost use Rattle.trace_replay.specs.Sending.{AreAllSent, IsAmong, IsFirstUnsent, IsSent, IsUnsent, numbered};
+ghost use Rattle.trace_replay.specs.Sending.{AreAllSent, IsSentAmong, IsFirstUnsent, IsSent, IsUnsent, numbered_sends};
 
 use crate::replaying::Replayed;
 use machine::{Bytes, Entry, Machine};
@@ -27,7 +27,7 @@ pub fn keep_sent<M: Machine>(
     sent: &mut Vec<Sent>,
 ) -> Result<(), AllocError>
     ensures { IfOk result (λ kept. (state : M.State) → M.stands machine.now state
-        → sent.new.items ≡ sent.old.items ++ numbered entry (take sends (M.sent state))) }
+        → sent.new.items ≡ sent.old.items ++ numbered_sends entry (take sends (M.sent state))) }
 {
     for i in 0..sends {
         if let Some((to, bytes)) = machine.outgoing(i) {
@@ -47,7 +47,7 @@ fn is_datagram(one: &Sent, to: u16, bytes: &[u8]) -> bool
 
 /// Whether one of them is this datagram for this node.
 fn is_among(sent: &[Sent], to: u16, bytes: &[u8]) -> bool
-    ensures { IsTrue result ↔ IsAmong sent.now to bytes.now }
+    ensures { IsTrue result ↔ IsSentAmong sent.now to bytes.now }
 {
     for one in sent {
         if is_datagram(one, to, bytes) {

@@ -14,7 +14,7 @@ use Rattle.node_record.specs.Behaviour.{Contact}
 use Rattle.access_region.specs.Regions.{has_begun}
 use Rattle.put_get.specs.declared.operation.Mode.{Mode}
 use Rattle.put_get.specs.declared.operation.Transfer.{Transfer}
-use Rattle.am_core.specs.Kept.{Local, start_of, with_writes}
+use Rattle.am_core.specs.Kept.{Local, start_from, with_writes}
 use Rattle.am_core.specs.HandlerRuns.{NodeHandlers, landing, outcome, run_request, run_reply}
 use Rattle.am_core.specs.ClientRules.{rules}
 use Rattle.endpoint_rules.specs.EndpointLocal.{EndpointLocal}
@@ -48,7 +48,7 @@ pub run_extends : (handlers : NodeHandlers) (contact : Contact) (content : Conte
     → Extends core.writes (run_request handlers contact content core).0.writes
 run_extends handlers contact content core =
     let landed = with_writes core (landing content) in
-    let run = outcome handlers role.Request contact content (start_of handlers.settings landed) in
+    let run = outcome handlers role.Request contact content (start_from handlers.settings landed) in
     (landing content ++ run.writes, append_assoc core.writes (landing content) run.writes)
 
 pub take_extends : (handlers : NodeHandlers) (contact : Contact) (content : Content) (core : Local)
@@ -57,7 +57,7 @@ take_extends handlers contact content core = elim (cases_Bool (is_ack (code cont
   | inl ack ↦ rw ack (extends_same core.writes core.writes refl)
   | inr reply ↦ rw reply (
       let landed = with_writes core (landing content) in
-      let run = outcome handlers role.Reply contact content (start_of handlers.settings landed) in
+      let run = outcome handlers role.Reply contact content (start_from handlers.settings landed) in
       (landing content ++ run.writes, append_assoc core.writes (landing content) run.writes))
 ]
 

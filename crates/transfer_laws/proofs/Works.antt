@@ -9,7 +9,7 @@ use Rattle.node_record.specs.Behaviour.{Contact}
 use Rattle.am_core.specs.Kept.{Local, segment_of}
 use Rattle.am_core.specs.HandlerRuns.{NodeHandlers, run_request, run_reply}
 use Rattle.am_core.specs.Library.{put_handler, get_handler, memset_handler, get_reply_handler, fetch_arguments}
-use Rattle.am_core.specs.Library.{fill_arguments, number_at, filling, fetched}
+use Rattle.am_core.specs.Library.{fill_arguments, argument_number, filling, fetched}
 
 -- ---- runs
 
@@ -36,9 +36,9 @@ pub get_replies : (handlers : NodeHandlers) (contact : Contact) (local remote le
 get_replies handlers contact local remote len core here there =
     ap (λ (kept : Local). fetched (segment_of handlers.settings kept)
     (record {
-      remote = number_at (fetch_arguments local remote len) 0;
+      remote = argument_number (fetch_arguments local remote len) 0;
       len = len;
-      local = number_at
+      local = argument_number
           (fetch_arguments local remote len) 3;
     }))
     (ap (λ (writes : List Write). record core { writes = writes }) (append-nil core.writes))

@@ -28,11 +28,12 @@ use Rattle.hsl_locks.specs.declared.answer.Held.{Held}
 use Rattle.lists.proofs.Cases.{none_some, none_is}
 use Rattle.put_get.specs.Operation.{come_back}
 use Rattle.endpoint_rules.specs.CoreCalls.{LocalCall, Poll}
-use Rattle.am_core.specs.Kept.{Local, segment_of, start_of, with_writes}
+use Rattle.am_core.specs.Kept.{Local, segment_of, start_from, with_writes}
 use Rattle.am_core.specs.Library.{note_handler, note_said, is_library, has_library, Note}
 use Rattle.am_core.specs.Library.{run_answer, work_content}
 use Rattle.am_core.specs.ClientRules.{content_by, payload_in, content_refusal, asking_fault, awaited_lock}
-use Rattle.am_core.specs.HandlerRuns.{handlers_of, NodeHandlers, frame_of_run, landing, outcome, left_by, reply_or_ack}
+use Rattle.am_core.specs.HandlerRuns.{handlers_of, NodeHandlers, frame_of_run, landing, outcome, left_by_run}
+use Rattle.am_core.specs.HandlerRuns.{reply_or_ack}
 use Rattle.am_core.specs.HandlerRuns.{run_request, run_reply}
 use Rattle.am_core.proofs.LibraryLaws.{note_again, nodes_few}
 use Rattle.am_core.proofs.Landings.{client_request}
@@ -111,8 +112,8 @@ run_alike : (settings : Parameters) (version : ℕ) (table : List (Option Entry)
     ≡ run_request (handlers_of settings table meaning) contact content local
 run_alike settings version table meaning ignores contact content local =
     let landed = with_writes local (landing content) in
-    ap (λ (o : Outcome). (left_by role.Request o landed, reply_or_ack o.reply))
-    (outcome_alike settings version table meaning ignores role.Request contact content (start_of settings landed))
+    ap (λ (o : Outcome). (left_by_run role.Request o landed, reply_or_ack o.reply))
+    (outcome_alike settings version table meaning ignores role.Request contact content (start_from settings landed))
 
 take_alike : (settings : Parameters) (version : ℕ) (table : List (Option Entry)) (meaning : Meaning)
     → IgnoresVersion version meaning → (contact : Contact) (content : Content) (local : Local)
@@ -120,8 +121,8 @@ take_alike : (settings : Parameters) (version : ℕ) (table : List (Option Entry
     ≡ run_reply (handlers_of settings table meaning) contact content local
 take_alike settings version table meaning ignores contact content local =
     let landed = with_writes local (landing content) in
-    ap (λ (o : Outcome). if is_ack (code content.kind) then local else left_by role.Reply o landed)
-    (outcome_alike settings version table meaning ignores role.Reply contact content (start_of settings landed))
+    ap (λ (o : Outcome). if is_ack (code content.kind) then local else left_by_run role.Reply o landed)
+    (outcome_alike settings version table meaning ignores role.Reply contact content (start_from settings landed))
 
 -- the run of a note, whatever its arguments
 note_outcome : (handlers : NodeHandlers) (which : Role) (contact : Contact) (content : Content) (args : List ℤ)
@@ -137,8 +138,8 @@ note_runs : (handlers : NodeHandlers) (contact : Contact) (content : Content) (a
     → run_request handlers contact (record content { args = args }) local ≡ run_request handlers contact content local
 note_runs handlers contact content args local note =
     let landed = with_writes local (landing content) in
-    ap (λ (o : Outcome). (left_by role.Request o landed, reply_or_ack o.reply))
-    (note_outcome handlers role.Request contact content args (start_of handlers.settings landed) note)
+    ap (λ (o : Outcome). (left_by_run role.Request o landed, reply_or_ack o.reply))
+    (note_outcome handlers role.Request contact content args (start_from handlers.settings landed) note)
 
 core_runs : (settings : Parameters) (version : ℕ) (table : List (Option Entry)) (meaning : Meaning)
     → IgnoresVersion version meaning → (contact : Contact) (content : Content) (local : Local)

@@ -7,7 +7,7 @@ use Rattle.lists.specs.Sums.{sum_below}
 use Rattle.datagram_grammar.specs.Parameters.{Parameters, credits_of}
 use Rattle.node_record.specs.Record.{Node}
 use Rattle.node_record.specs.Held.{held, held_with}
-use Rattle.node_record.specs.SlotMessages.{number_at, sealed_number, has_slot}
+use Rattle.node_record.specs.SlotMessages.{number_in_slot, sealed_number, has_slot}
 use Rattle.node_record.specs.declared.answer.SlotRef.{SlotRef}
 use Rattle.node_record.specs.declared.answer.Side.{Side}
 use Rattle.node_record.specs.declared.answer.Side.TheVariants as side
@@ -46,8 +46,8 @@ slot_alike settings version me side.Request peer slot = rw (same_credits setting
 slot_alike settings version me side.Reply peer slot = rw (same_credits settings version peer me) refl
 
 number_alike : (v : Versions) (me : ℕ) (node : Node EndpointLocal) (at : SlotRef)
-    → number_at (record v.settings { version = v.version }) me (respell_node v.spell node) at
-    ≡ number_at v.settings me node at
+    → number_in_slot (record v.settings { version = v.version }) me (respell_node v.spell node) at
+    ≡ number_in_slot v.settings me node at
 number_alike v me node at =
     ap (λ (is : Bool). if is then sealed_number (respell_node v.spell node) at else None)
     (slot_alike v.settings v.version me at.side at.peer at.slot)

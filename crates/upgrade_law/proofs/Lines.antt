@@ -40,7 +40,8 @@ use Rattle.world_run.proofs.ScheduleAmong.{calls_among}
 use Rattle.node_script.proofs.ScheduleNodes.{job_within}
 use Rattle.plain_world.proofs.Worlds.{opening_holds}
 use Rattle.lists.proofs.Numbered.{numbered_nil}
-use Rattle.world_run.specs.RunText.{world_words, event_words, words_at, line_words, answer_lines, node_of, node_lines}
+use Rattle.world_run.specs.RunText.{world_words, event_words, words_at, line_words, answer_lines, node_of_event}
+use Rattle.world_run.specs.RunText.{node_lines}
 use Rattle.world_run.specs.RunText.{lines_of_node, node_line, violations, last_violations, violation_line, end_lines}
 use Rattle.world_run.specs.RunText.{any_violation, run_records, run_most}
 use Rattle.upgrade_law.specs.Respelled.{Versions, one_job, other_job, respell_world, respelled}
@@ -60,7 +61,7 @@ event_words_alike : (v : Versions) (world : Records) (timed : Timed OtherCall) �
     → event_words (other_job v) (respell_world v.spell world) timed ≡ event_words (one_job v) world timed
 event_words_alike v world timed stood =
     let alike = event_alike v world timed.now timed.event stood.holds stood.notes in
-    let node = node_of timed.event in
+    let node = node_of_event timed.event in
     let after = world_after (one_job v) world timed node in
     ap (λ (w : Records). world_words (sight_of (other_job v).settings node (w node))
     (world_told (world_answer (other_job v) (respell_world v.spell world) timed))) alike.after

@@ -5,8 +5,8 @@ use Rattle.endpoint_rules.specs.EndpointRules.{Records, timed, transition}
 use Rattle.endpoint_rules.specs.Called.{Meant, Requests, Performs, event_at}
 use Rattle.endpoint_rules.specs.declared.answer.Answer.{Answer}
 use Rattle.plain_world.specs.World.{world_answer}
-use Rattle.gas_world.specs.Events.{MaySend, Steps}
-use Rattle.gas_world.specs.Stands.{Stands}
+use Rattle.gas_world.specs.Events.{MaySend, StepsInWorld}
+use Rattle.gas_world.specs.Stands.{WorldStands}
 use Rattle.gas_world.specs.WorldState.{WorldState}
 use Rattle.gas_world.specs.WorldTold.{world_told}
 use Rattle.gas_world.specs.declared.event.WorldAnswer.{WorldAnswer}
@@ -38,10 +38,10 @@ sends_request node thread (Performs call) may = absurd may
 
 -- an answer that is none of a node's is want of memory, at a request
 pub lacked : (meaning : Meaning) (node now : ℕ) (old : WorldState) (new : WorldState) (call : ThreadCall) (answer : WorldAnswer)
-    → Steps meaning old (transition now (event_at node call.thread call.call) answer) new
+    → StepsInWorld meaning old (transition now (event_at node call.thread call.call) answer) new
     → ((one : Answer) → answer ≡ answers.Node one → ⊥)
-    → (whole : WorldWhole) → Stands old whole.records whole.most
-    → MayLack true call × Stands new whole.records whole.most
+    → (whole : WorldWhole) → WorldStands old whole.records whole.most
+    → MayLack true call × WorldStands new whole.records whole.most
 lacked meaning node now old new call (answers.Node one) steps not_node whole stands = absurd (not_node one refl)
 lacked meaning node now old new call answers.Unsent steps not_node whole stands =
     let at : Site = record {

@@ -21,13 +21,13 @@ pub struct AtNode<'a, H: Handlers> {
 
 impl<'a, H: Handlers> Caller for AtNode<'a, H> {
     ghost use Rattle.std.specs.Prelude.{true};
-    ghost use Rattle.gas_world.specs.Stands.{Stands};
+    ghost use Rattle.gas_world.specs.Stands.{WorldStands};
     ghost use Rattle.world_caller.specs.Wholes.{WorldWhole, whole_then};
     ghost use Rattle.world_caller.specs.Following.{follows_then};
 
     ghost Whole = { WorldWhole };
 
-    ghost stands = { λ at whole. Stands at.world.now whole.records whole.most };
+    ghost stands = { λ at whole. WorldStands at.world.now whole.records whole.most };
 
     ghost site = { λ at. record {
       settings = at.world.now.settings;

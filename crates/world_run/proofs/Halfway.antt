@@ -4,7 +4,7 @@ use Rattle.plain_world.specs.World.{run}
 use Rattle.plain_world.specs.MostHeld.{most_after}
 use Rattle.endpoint_rules.specs.EndpointRules.{Records}
 use Rattle.gas_world.specs.Settling.{WorldJob}
-use Rattle.gas_world.specs.Stands.{Stands}
+use Rattle.gas_world.specs.Stands.{WorldStands}
 use Rattle.gas_world.proofs.Moving.{run_append, most_append}
 use Rattle.collective_group.specs.GroupState.{GroupState}
 use Rattle.collective_group.specs.Standing.{StandsFor}
@@ -64,6 +64,7 @@ pub halfway_all : (job : WorldJob) (it : GroupState) (from : Stand) (all : List 
     → Halfway job it from all []
     → StandsAfter job it.world (schedule_events job all from.nodes) from.nodes.group.records from.most
 halfway_all job it from all h =
-    subst (λ (most : ℕ → ℕ). Stands it.world (run job (schedule_events job all from.nodes) from.nodes.group.records)
+    subst (λ (most : ℕ → ℕ). WorldStands it.world
+    (run job (schedule_events job all from.nodes) from.nodes.group.records)
     most) h.most_ends
-    (subst (λ (records : Records). Stands it.world records h.now.most) h.ends h.stands.world)
+    (subst (λ (records : Records). WorldStands it.world records h.now.most) h.ends h.stands.world)

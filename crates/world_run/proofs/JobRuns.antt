@@ -13,9 +13,9 @@ use Rattle.job_text.specs.declared.job.Job.{Job as JobState}
 use Rattle.node_script.specs.Bodies.{script_meaning}
 use Rattle.node_script.specs.Lines.{spell}
 use Rattle.node_script.specs.Registration.{handlers_of, registered}
-use Rattle.world_run.specs.LinesWritten.{OnDone, Says, said_of}
+use Rattle.world_run.specs.LinesWritten.{OnDone, SaysLines, said_of}
 use Rattle.world_run.specs.RunText.{answer_lines, end_lines, run_lines, run_most, run_records}
-use Rattle.world_run.specs.ScheduleRun.{NodesStage, RunsLines, StandsAfter, StandsForRun, Writes, nodes_text}
+use Rattle.world_run.specs.ScheduleRun.{NodesStage, RunsLines, StandsAfter, StandsForRun, WritesText, nodes_text}
 use Rattle.world_run.specs.Schedules.{opening_nodes, schedule_events, world_job}
 use Rattle.world_run.specs.declared.said.Said.{Said}
 use Rattle.world_run.specs.declared.said.Said.TheVariants.{Done}
@@ -24,7 +24,7 @@ use Rattle.world_run.proofs.LinesWritten.{both_said, lines_said, no_lines_yet, o
 -- its lines were run, by what the nodes do
 abbrev pub Ran : WorldJob → JobState → (old new : NodesStage) → Said → Type 0
 Ran job text old new said =
-    Says old.out new.out (answer_lines job 1 (lines_of text.schedule) (opening_nodes text)) said
+    SaysLines old.out new.out (answer_lines job 1 (lines_of text.schedule) (opening_nodes text)) said
     × OnDone said (StandsAfter job new.nodes.world (schedule_events job (lines_of text.schedule) (opening_nodes text))
     (opening_nodes text).group.records (λ i. 0))
 
@@ -40,7 +40,7 @@ job_ran text old new said settings table stands runs =
 
 -- they were not all said
 pub job_ended : (text : JobState) (old new : NodesStage) (said : Said) → (said ≡ Done → ⊥)
-    → Ran (world_job text) text old new said → Says old.out new.out (run_lines text) said
+    → Ran (world_job text) text old new said → SaysLines old.out new.out (run_lines text) said
 job_ended text old new said n ran =
     lines_said old.out old.out new.out (run_lines text) (run_lines text)
     (answer_lines (world_job text) 1 (lines_of text.schedule) (opening_nodes text))
@@ -50,15 +50,15 @@ job_ended text old new said n ran =
 pub job_said : (text : JobState) (old new : NodesStage) (last : Outbox) (said how : Said) (wrote : Wrote)
     → said ≡ Done → how ≡ said_of wrote → new.nodes.world.settings ≡ text.settings
     → Ran (world_job text) text old new said
-    → Writes new.nodes.world (nodes_text new.nodes.world) new.out last wrote
-    → Says old.out last (run_lines text) how
+    → WritesText new.nodes.world (nodes_text new.nodes.world) new.out last wrote
+    → SaysLines old.out last (run_lines text) how
 job_said text old new last said how wrote done how_is same it writes =
     let ran = subst (Ran (world_job text) text old new) done it in
     let end =
     subst (λ (settings : Parameters). GathersAll new.out last
     (spell (end_lines settings (run_records text) (run_most text))) wrote) same
     (writes (run_records text) (run_most text) ran.1) in
-    subst (Says old.out last (run_lines text)) (sym how_is)
+    subst (SaysLines old.out last (run_lines text)) (sym how_is)
     (both_said old.out new.out last
     (answer_lines (world_job text) 1 (lines_of text.schedule) (opening_nodes text))
     (end_lines text.settings (run_records text) (run_most text)) wrote ran.0 end)

@@ -30,9 +30,9 @@ use Rattle.job_text.specs.JobReading.{lines_of}
 use Rattle.job_text.specs.declared.job.ScheduledEvent.{ScheduledEvent}
 use Rattle.job_text.specs.declared.job.ScheduledEvent.TheVariants as scheduled
 use Rattle.job_text.specs.declared.job.TimedEvent.{TimedEvent}
-use Rattle.world_run.specs.RunText.{node_of, world_words, event_words, answer_lines, end_lines, run_events}
+use Rattle.world_run.specs.RunText.{node_of_event, world_words, event_words, answer_lines, end_lines, run_events}
 use Rattle.world_run.specs.RunText.{run_records, run_most}
-use Rattle.world_run.specs.RunLaws.{records_at, IsOneEvent, LinesTell, Tells, RanToldOnce, ReturnedToldOnce}
+use Rattle.world_run.specs.RunLaws.{records_at, IsOneEvent, LinesTell, TellsWords, RanToldOnce, ReturnedToldOnce}
 use Rattle.world_run.specs.RunLaws.{PlacesRise, event_place, events_before}
 use Rattle.world_run.proofs.ScheduleLines.{one_answer, one_event}
 use Rattle.lists.proofs.Appended.{get-append_kept, get-append_right}
@@ -221,7 +221,7 @@ HappensInRun j = Happens (run_events j) (answers_of (world_job j) (run_events j)
 told_delivers : (j : JobState) → Headline (world_job j) (λ i. nothing_begun j.settings) (run_events j)
     → (line : ℕ) (e : ScheduledEvent) (words : Line) (x : RecordsEvent) → IsOneEvent e
     → ((w : Records) → scheduled_event w e ≡ Some x) → ((w : Records) → NoneOrMessage (falls j.settings w x))
-    → (codes "unsent" ∷ [] ≡ words → ⊥) → Tells j line e words
+    → (codes "unsent" ∷ [] ≡ words → ⊥) → TellsWords j line e words
     → HappensInRun j x (λ d. delivered_words d ≡ words) (event_place j line)
 unfolding lines_tell
 told_delivers j headline line e words x one event message sent h =
@@ -239,7 +239,7 @@ told_delivers j headline line e words x one event message sent h =
     let is : event_words job w (timed h.time x) ≡ words =
     ap (λ (y : RecordsEvent). event_words job w (timed h.time y)) (sym same) ∙ words_are
     in
-    let sight = sight_of job.settings (node_of x) (world_after job w (timed h.time x) (node_of x)) in
+    let sight = sight_of job.settings (node_of_event x) (world_after job w (timed h.time x) (node_of_event x)) in
     let d = message_answer job w h.time sight (falls job.settings w x) words (message w) sent is in
     let answer = (headline.steps place (timed h.time x) at).answer in
     record {
@@ -254,7 +254,7 @@ told_delivers j headline line e words x one event message sent h =
 
 -- lines that tell of one event, and whose places in the run are one, are one line
 same_line : (j : JobState) (line other : ℕ) (e : ScheduledEvent) (words : Line)
-    → IsOneEvent e → Tells j line e words → Tells j other e words → event_place j line ≡ event_place j other
+    → IsOneEvent e → TellsWords j line e words → TellsWords j other e words → event_place j line ≡ event_place j other
     → line ≡ other
 same_line j line other e words one h k same =
     lines_apart (world_job j) (lines_of j.schedule) (opening_nodes j) line other
@@ -293,7 +293,7 @@ says_more j x P Q place more h =
 
 -- the request of a line that is told `ran` is run by it
 request_ran : (j : JobState) → Headline (world_job j) (λ i. nothing_begun j.settings) (run_events j)
-    → (from to number place : ℕ) → Tells j place (scheduled.Request from to number) (codes "ran" ∷ [])
+    → (from to number place : ℕ) → TellsWords j place (scheduled.Request from to number) (codes "ran" ∷ [])
     → HappensInRun j (RequestComes from to number) IsRanAnswer (event_place j place)
 request_ran j headline from to number place h =
     let x = RequestComes from to number in
@@ -303,7 +303,7 @@ request_ran j headline from to number place h =
 
 -- the reply of a line that is told `returned` brings its request back
 reply_returned : (j : JobState) → Headline (world_job j) (λ i. nothing_begun j.settings) (run_events j)
-    → (from to number place : ℕ) → Tells j place (scheduled.Reply from to number) (codes "returned" ∷ [])
+    → (from to number place : ℕ) → TellsWords j place (scheduled.Reply from to number) (codes "returned" ∷ [])
     → HappensInRun j (ReplyComes from to number) IsReturned (event_place j place)
 reply_returned j headline from to number place h =
     let x = ReplyComes from to number in

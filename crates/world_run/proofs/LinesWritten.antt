@@ -7,7 +7,7 @@ use Rattle.gas_outside.proofs.Outboxes.{gathers_none, gathers_more, gathers_firs
 use Rattle.gas_outside.specs.declared.writing.Wrote.{Wrote}
 use Rattle.gas_outside.specs.declared.writing.Wrote.TheVariants as wrote
 use Rattle.node_script.specs.Lines.{Line, spell, line_text}
-use Rattle.world_run.specs.LinesWritten.{LinesUpTo, Says, OnDone, said_of}
+use Rattle.world_run.specs.LinesWritten.{LinesUpTo, SaysLines, OnDone, said_of}
 use Rattle.world_run.specs.declared.said.Said.{Said}
 use Rattle.world_run.specs.declared.said.Said.TheVariants.{Done, Fault, NoMemory}
 
@@ -36,7 +36,7 @@ lines_all a b all rest e h =
 
 -- the next lines were said, and not all of them
 pub lines_said : (a b c : Outbox) (all rest x y : List Line) (said : Said) → (said ≡ Done → ⊥) → rest ≡ x ++ y
-    → LinesUpTo a b all rest → Says b c x said → Says a c all said
+    → LinesUpTo a b all rest → SaysLines b c x said → SaysLines a c all said
 lines_said a b c all rest x y Done n e h k = absurd (n refl)
 lines_said a b c all rest x y Fault n e h k =
     let whole : spell all ≡ spell h.front ++ (spell x ++ spell y) =
@@ -63,14 +63,14 @@ not_done NoMemory P h = tt
 
 -- lines went in, and then the lines after them
 pub both_said : (a b c : Outbox) (x y : List Line) (r : Wrote) → Gathers a b (spell x) → GathersAll b c (spell y) r
-    → Says a c (x ++ y) (said_of r)
+    → SaysLines a c (x ++ y) (said_of r)
 both_said a b c x y wrote.Done h k = rw (flat_map-append line_text x y) (gathers_more a b c (spell x) (spell y) h k)
 both_said a b c x y wrote.Fault h k =
     rw (flat_map-append line_text x y) (gathers_then a b c (spell x) (spell y) wrote.Fault h k)
 
 -- one line, as lines that were said
 pub one_line : (a b : Outbox) (line : Line) (r : Wrote) → GathersAll a b (line_text line) r
-    → Says a b (line ∷ []) (said_of r)
+    → SaysLines a b (line ∷ []) (said_of r)
 one_line a b line wrote.Done h = subst (Gathers a b) (sym (append-nil (line_text line))) h
 one_line a b line wrote.Fault h =
     subst (λ (bytes : List ℕ). GathersAll a b bytes wrote.Fault) (sym (append-nil (line_text line))) h

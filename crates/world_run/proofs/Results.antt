@@ -21,7 +21,7 @@ use Rattle.job_text.specs.declared.job.ScheduledEvent.TheVariants as scheduled
 use Rattle.job_text.specs.declared.job.TimedEvent.{TimedEvent}
 use Rattle.node_script.specs.CollectiveWords.{ended_words}
 use Rattle.node_script.specs.Lines.{Line}
-use Rattle.world_run.specs.RunLaws.{ResultsHold, Tells, run_steps, steps_at, steps_before}
+use Rattle.world_run.specs.RunLaws.{ResultsHold, TellsWords, run_steps, steps_at, steps_before}
 use Rattle.world_run.specs.RunText.{answer_lines, end_lines, line_words, run_most, run_records}
 use Rattle.world_run.specs.Schedules.{Nodes, line_events, line_group, nodes_after, nodes_of, opening_nodes, world_job}
 

@@ -18,7 +18,7 @@ use Rattle.world_run.proofs.CollectivesAmong.{collective_among}
 use Rattle.job_text.specs.declared.job.ScheduledEvent.{ScheduledEvent}
 use Rattle.job_text.specs.declared.job.ScheduledEvent.TheVariants as scheduled
 use Rattle.job_text.specs.declared.job.TimedEvent.{TimedEvent}
-use Rattle.world_run.specs.RunText.{node_of}
+use Rattle.world_run.specs.RunText.{node_of_event}
 
 -- ---- one event
 
@@ -35,7 +35,7 @@ event_among s w (scheduled.Collective node thread call) x h is = absurd (cc)
 event_among s w (scheduled.Settle rounds) x h is = absurd (cc)
 
 -- the node on which an event of the world falls is there
-pub node_among : (s : Parameters) (e : RecordsEvent) → IsAmong s e → node_of e < s.nodes
+pub node_among : (s : Parameters) (e : RecordsEvent) → IsAmong s e → node_of_event e < s.nodes
 node_among s (Asks node ask) h = h
 node_among s (Does node thread c) h = h
 node_among s (RequestComes from to number) h = h.1

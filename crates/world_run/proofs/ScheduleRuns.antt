@@ -8,7 +8,7 @@ use Rattle.plain_world.specs.World.{Timed, run, world_answer, world_after}
 use Rattle.plain_world.specs.MostHeld.{most_after}
 use Rattle.endpoint_rules.specs.EndpointRules.{OtherCall, Records, RecordsEvent, timed, transition}
 use Rattle.gas_world.specs.WorldTold.{world_told}
-use Rattle.gas_world.specs.Events.{ForItsRecords, Steps, job_in}
+use Rattle.gas_world.specs.Events.{ForItsRecords, StepsInWorld, job_in}
 use Rattle.gas_world.specs.WorldState.{WorldState}
 use Rattle.gas_world.specs.declared.event.WorldAnswer.{WorldAnswer}
 use Rattle.gas_world.specs.declared.event.WorldAnswer.TheVariants as answers
@@ -30,11 +30,11 @@ use Rattle.world_run.specs.declared.schedule_line.Beginning.{Beginning}
 use Rattle.job_text.specs.declared.job.ScheduledEvent.{ScheduledEvent}
 use Rattle.job_text.specs.declared.job.ScheduledEvent.TheVariants as scheduled
 use Rattle.job_text.specs.declared.job.TimedEvent.{TimedEvent}
-use Rattle.world_run.specs.RunText.{node_of, world_words, event_words, words_at, line_words, answer_lines}
-use Rattle.world_run.specs.ScheduleRun.{StandsAfter, Stage, Plan, begin_plan, event_plan, settle_plan}
+use Rattle.world_run.specs.RunText.{node_of_event, world_words, event_words, words_at, line_words, answer_lines}
+use Rattle.world_run.specs.ScheduleRun.{StandsAfter, RunStage, Plan, begin_plan, event_plan, settle_plan}
 use Rattle.world_run.specs.ScheduleRun.{planned, RunsPlan, RunsLine, NodesStage, CollectiveAsked, Collects, is_lacking}
-use Rattle.world_run.specs.ScheduleRun.{Writes, answer_text}
-use Rattle.world_run.specs.LinesWritten.{LinesUpTo, Says, OnDone, said_of}
+use Rattle.world_run.specs.ScheduleRun.{WritesText, answer_text}
+use Rattle.world_run.specs.LinesWritten.{LinesUpTo, SaysLines, OnDone, said_of}
 use Rattle.world_run.specs.declared.said.Said.{Said}
 use Rattle.world_run.specs.declared.said.Said.TheVariants.{Done, NoMemory}
 use Rattle.world_run.proofs.Halfway.{Halfway, Stand, halfway_none, halfway_more, halfway_all}
@@ -53,7 +53,7 @@ pub record IsLinePlan (job : WorldJob) (plan : Plan) (number : ℕ) (line : Time
       ≡ record nodes.group { records = run job (line_events job nodes line.time line.event) nodes.group.records }
 
 -- the stage of the world
-abbrev pub world_stage : NodesStage → Stage
+abbrev pub world_stage : NodesStage → RunStage
 world_stage at = record { world = at.nodes.world; out = at.out }
 
 -- so the line is run, where the world ran the plan
@@ -71,7 +71,7 @@ plan_runs job plan number line old new said same is ran = λ area group most sta
     ∙ ap (λ (words : Line). decimal number ∷ words) it.words
     in
     let events = line_events job nodes line.time line.event in (
-      subst (λ (l : Line). Says old.out new.out (l ∷ []) said) says said_so.0,
+      subst (λ (l : Line). SaysLines old.out new.out (l ∷ []) said) says said_so.0,
       on_done_more said (λ after.
           subst (λ (left : Group). StandsFor new.nodes area left (most_after job events group.records most)) (sym it.left)
           (record {
@@ -135,18 +135,19 @@ settle_is_line job number now rounds line nodes h = record {
 -- ---- one line
 
 -- an event was run and its line was written
-told : (meaning : Meaning) (old new : Stage) (number : ℕ) (event : Timed OtherCall) (answer : WorldAnswer)
+told : (meaning : Meaning) (old new : RunStage) (number : ℕ) (event : Timed OtherCall) (answer : WorldAnswer)
     (wrote : Wrote)
     → ForItsRecords old.world (λ records most.
     (answer ≡ world_told (world_answer (job_in meaning old.world) records event))
     × StandsAfter (job_in meaning old.world) new.world (event ∷ []) records most)
-    → Writes new.world (answer_text old.world.settings number (node_of event.event) answer) old.out new.out wrote
+    → WritesText new.world
+    (answer_text old.world.settings number (node_of_event event.event) answer) old.out new.out wrote
     → RunsPlan (job_in meaning old.world) (event_plan number event) old new (said_of wrote)
 told meaning old new number event answer wrote steps writes = λ records most stands.
     let job = job_in meaning old.world in
     let after = world_after job records event in
     let stepped = steps records most stands in
-    let node = node_of event.event in
+    let node = node_of_event event.event in
     let sight = sight_of old.world.settings node (after node) in
     let text = λ (a : WorldAnswer). line_text (decimal number ∷ world_words sight a) in
     let line =
@@ -156,10 +157,10 @@ told meaning old new number event answer wrote steps writes = λ records most st
       on_done wrote (StandsAfter job new.world (event ∷ []) records most) stepped.1,
     )
 
-pub event_told : (meaning : Meaning) (old new : Stage) (number now : ℕ) (event : RecordsEvent) (answer : WorldAnswer)
+pub event_told : (meaning : Meaning) (old new : RunStage) (number now : ℕ) (event : RecordsEvent) (answer : WorldAnswer)
     (wrote : Wrote)
-    → (answer ≡ answers.NoMemory → ⊥) → Steps meaning old.world (transition now event answer) new.world
-    → Writes new.world (answer_text old.world.settings number (node_of event) answer) old.out new.out wrote
+    → (answer ≡ answers.NoMemory → ⊥) → StepsInWorld meaning old.world (transition now event answer) new.world
+    → WritesText new.world (answer_text old.world.settings number (node_of_event event) answer) old.out new.out wrote
     → RunsPlan (job_in meaning old.world) (event_plan number (timed now event)) old new (said_of wrote)
 event_told meaning old new number now event (answers.Node answer) wrote n steps writes =
     told meaning old new number (timed now event) (answers.Node answer) wrote steps writes
@@ -168,7 +169,7 @@ event_told meaning old new number now event answers.Unsent wrote n steps writes 
 event_told meaning old new number now event answers.NoMemory wrote n steps writes = absurd (n refl)
 
 -- the pieces of a plan were begun, and the line of the answer was written
-pub vis_told : (job : WorldJob) (old new : Stage) (number now node : ℕ) (asked : BeginCall) (answer : Vis)
+pub vis_told : (job : WorldJob) (old new : RunStage) (number now node : ℕ) (asked : BeginCall) (answer : Vis)
     (wrote : Wrote)
     → ForItsRecords old.world (λ records most. answer ≡ begin_answer job records now node asked)
     → Moves job (λ records. begin_events job records now node asked) old.world new.world
@@ -185,7 +186,7 @@ vis_told job old new number now node asked answer wrote answered moves line = λ
     )
 
 -- so by the handlers of a job, where those that ran are its own
-pub begun_told : (handlers own : JobHandlers) → own ≡ handlers → (old new : Stage) (number now node : ℕ)
+pub begun_told : (handlers own : JobHandlers) → own ≡ handlers → (old new : RunStage) (number now node : ℕ)
     (asked : BeginCall) (answer : Vis) (wrote : Wrote)
     → ForItsRecords old.world (λ records most.
     answer ≡ begin_answer (job_in (script_meaning own) old.world) records now node asked)
@@ -199,7 +200,7 @@ begun_told handlers own same old new number now node asked answer wrote answered
     (vis_told (job_in (script_meaning own) old.world) old new number now node asked answer wrote answered moves line)
 
 -- rounds were run, and their line was written
-pub settle_told : (job : WorldJob) (old new : Stage) (number now rounds : ℕ) (wrote : Wrote)
+pub settle_told : (job : WorldJob) (old new : RunStage) (number now rounds : ℕ) (wrote : Wrote)
     → Moves job (settle_events job now rounds) old.world new.world
     → GathersAll old.out new.out (line_text (decimal number ∷ codes "settled" ∷ [])) wrote
     → RunsPlan job (settle_plan number now rounds) old new (said_of wrote)
@@ -210,7 +211,7 @@ settle_told job old new number now rounds wrote moves line = λ records most sta
 )
 
 -- so by the handlers of a job, where those that ran are its own
-pub settled_told : (handlers own : JobHandlers) → own ≡ handlers → (old new : Stage) (number now rounds : ℕ)
+pub settled_told : (handlers own : JobHandlers) → own ≡ handlers → (old new : RunStage) (number now rounds : ℕ)
     (wrote : Wrote) (said : Said) → said ≡ said_of wrote
     → Moves (job_in (script_meaning own) old.world) (settle_events (job_in (script_meaning own) old.world) now rounds)
     old.world new.world
@@ -334,7 +335,7 @@ ended_run : (job : WorldJob) (all more : List TimedEvent) (line : TimedEvent) (n
     (from : Stand) (said : Said)
     → (said ≡ Done → ⊥) → HasRun job (before_line all more line number) old mid from
     → RunsLine job number line mid new said
-    → Says old.out new.out (answer_lines job 1 all from.nodes) said
+    → SaysLines old.out new.out (answer_lines job 1 all from.nodes) said
 ended_run job all more line number old mid new from said n h ran =
     let nodes = h.half.now.nodes in
     let now = ran nodes.area nodes.group h.half.now.most h.half.stands in
@@ -366,7 +367,7 @@ pub has_run_up_to : (job : WorldJob) (all : List TimedEvent) (place : ℕ) (line
     (old mid new : NodesStage) (from : Stand) (said : Said)
     → (said ≡ Done → ⊥) → drop place all ≡ line ∷ drop (place + 1) all → HasRun job (progress all place) old mid from
     → RunsLine job (place + 1) line mid new said
-    → Says old.out new.out (answer_lines job 1 all from.nodes) said
+    → SaysLines old.out new.out (answer_lines job 1 all from.nodes) said
 has_run_up_to job all place line old mid new from said n is h ran =
     ended_run job all (drop (place + 1) all) line (place + 1) old mid new from said n
     (at_line job all place line old mid from is h) ran

@@ -28,7 +28,7 @@ use Rattle.am_core.specs.Kept.{IsKept, Local, segment_of}
 use Rattle.am_core.specs.Library.{note_handler}
 use Rattle.plain_world.specs.World.{Asks, Does, RequestComes, ReplyComes, Ticks, IsAmong, world_after, world_answer}
 use Rattle.plain_world.specs.World.{answer_at, reply_event, request_event}
-use Rattle.endpoint_rules.specs.PlainAnswers.{is_plain}
+use Rattle.endpoint_rules.specs.PlainAnswers.{is_plain_answer}
 use Rattle.endpoint_rules.proofs.PlainAnswers.{answers_plain}
 use Rattle.endpoint_rules.specs.EndpointLocal.{EndpointLocal, IsEndpointKept, core_of}
 use Rattle.endpoint_rules.specs.EndpointRules.{OtherCall, OnCore, Records, RecordsEvent}
@@ -39,8 +39,8 @@ use Rattle.endpoint_rules.proofs.Works.{sending_well}
 use Rattle.gas_world.specs.WorldTold.{world_told}
 use Rattle.endpoint_rules.specs.Memory.{Show, unless_fault}
 use Rattle.gas_endpoint.specs.EndpointState.{EndpointState, EndpointStands}
-use Rattle.gas_world.specs.Events.{Steps, job_in}
-use Rattle.gas_world.specs.Stands.{Stands}
+use Rattle.gas_world.specs.Events.{StepsInWorld, job_in}
+use Rattle.gas_world.specs.Stands.{WorldStands}
 use Rattle.gas_world.specs.WorldState.{WorldState}
 use Rattle.endpoint_rules.specs.declared.answer.Answer.{Answer}
 use Rattle.endpoint_rules.specs.declared.answer.Answer.TheVariants as answers
@@ -49,7 +49,7 @@ use Rattle.gas_world.specs.declared.event.WorldAnswer.{WorldAnswer}
 use Rattle.gas_world.specs.declared.event.WorldAnswer.TheVariants as world_answers
 use Rattle.node_script.specs.AnswersTold.{HasNumber, HasRange, NamesItsBytes, NamesWhatIs}
 use Rattle.node_script.proofs.SentNumbers.{first_sent_there, resent_there}
-use Rattle.world_run.specs.RunText.{node_of}
+use Rattle.world_run.specs.RunText.{node_of_event}
 use Rattle.world_run.specs.ScheduleRun.{Stood, TellsWhatIs}
 use Rattle.endpoint_rules.proofs.CoreKept.{segment_long}
 
@@ -64,7 +64,8 @@ show_names endpoint size offset len true test has = tt
 show_names endpoint size offset len false test has = has (ltb-false size (offset + len) test)
 
 -- a plain answer names nothing
-pub plain_names : (endpoint : EndpointState) (answer : Answer) → is_plain answer ≡ true → NamesWhatIs endpoint answer
+pub plain_names : (endpoint : EndpointState) (answer : Answer) → is_plain_answer answer ≡ true
+    → NamesWhatIs endpoint answer
 plain_names endpoint (answers.Ticked sent) plain = absurd (true≢false (sym plain))
 plain_names endpoint (answers.Local (local.Shown offset len)) plain = absurd (true≢false (sym plain))
 plain_names endpoint _ plain = tt
@@ -174,7 +175,7 @@ choice_names meaning old node record_ now endpoint (Some due) next holds first g
 }
 
 -- each node of a world that stands
-node_holds : (old : WorldState) (records : Records) (most : ℕ → ℕ) (node : ℕ) → Stands old records most
+node_holds : (old : WorldState) (records : Records) (most : ℕ → ℕ) (node : ℕ) → WorldStands old records most
     → node < old.settings.nodes → Holds old.settings node (records node)
 node_holds old records most node stands low =
     let it = stands.endpoints node low in
@@ -202,10 +203,10 @@ range_there settings me kept endpoint after holds stands same = λ offset len in
 
 -- by the record of its node after it
 event_names : (meaning : Meaning) (old : WorldState) (records : Records) (most : ℕ → ℕ) (now : ℕ)
-    (event : RecordsEvent) (endpoint : EndpointState) (answer : Answer) → Stands old records most
+    (event : RecordsEvent) (endpoint : EndpointState) (answer : Answer) → WorldStands old records most
     → IsAmong old.settings event
-    → EndpointStands endpoint (world_after (job_in meaning old) records (timed now event) (node_of event))
-    → endpoint.core.settings ≡ old.settings → endpoint.core.me ≡ node_of event
+    → EndpointStands endpoint (world_after (job_in meaning old) records (timed now event) (node_of_event event))
+    → endpoint.core.settings ≡ old.settings → endpoint.core.me ≡ node_of_event event
     → world_answers.Node answer ≡ world_told (world_answer (job_in meaning old) records (timed now event))
     → NamesWhatIs endpoint answer
 event_names meaning old records most now (Asks node ask) endpoint answer stood among stands settings me same =
@@ -238,7 +239,7 @@ event_names meaning old records most now (Ticks node) endpoint answer stood amon
 -- an answer of a world that stood
 pub step_names : (meaning : Meaning) (old new : WorldState) (now : ℕ) (event : RecordsEvent) (answer : WorldAnswer)
     → Stood old → IsAmong old.settings event → new.settings ≡ old.settings
-    → Steps meaning old (transition now event answer) new → TellsWhatIs new (node_of event) answer
+    → StepsInWorld meaning old (transition now event answer) new → TellsWhatIs new (node_of_event event) answer
 step_names meaning old new now event (world_answers.Node answer) stood among same steps = λ endpoint is stands.
     let it = steps stood.records stood.most stood.stands in
     event_names meaning old stood.records stood.most now event endpoint answer stood.stands among

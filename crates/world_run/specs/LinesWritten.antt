@@ -14,10 +14,10 @@ pub record LinesUpTo (old new : Outbox) (lines rest : List Line) : Type 0 where
   pub gathered : Gathers old new (spell front)
 
 -- all the lines; at a fault of the sink, a front of their text; where memory ran out, some whole lines
-abbrev pub Says : Outbox → Outbox → List Line → Said → Type 0
-Says old new lines Done = Gathers old new (spell lines)
-Says old new lines Fault = GathersFront old new (spell lines)
-Says old new lines NoMemory = (rest : List Line) × LinesUpTo old new lines rest
+abbrev pub SaysLines : Outbox → Outbox → List Line → Said → Type 0
+SaysLines old new lines Done = Gathers old new (spell lines)
+SaysLines old new lines Fault = GathersFront old new (spell lines)
+SaysLines old new lines NoMemory = (rest : List Line) × LinesUpTo old new lines rest
 
 -- a fact where all was said
 abbrev pub OnDone : Said → Type 0 → Type 0

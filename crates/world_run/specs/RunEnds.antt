@@ -11,7 +11,7 @@ use Rattle.world_run.specs.declared.run.RunEnd.{RunEnd}
 use Rattle.world_run.specs.declared.run.RunEnd.TheVariants.{Done, Fault, NoMemory}
 
 -- the run of the job came to its end: these lines of it went in, and the world stands for its end
-pub record IsRun (job : JobState) (said : List Line) (old new : Outbox) (violated : Bool) (world : WorldState)
+pub record RunIsOver (job : JobState) (said : List Line) (old new : Outbox) (violated : Bool) (world : WorldState)
     : Type 0 where
   pub lines : Gathers old new (spell said)
   pub violated_is : violated ≡ is_violated job
@@ -20,7 +20,7 @@ pub record IsRun (job : JobState) (said : List Line) (old new : Outbox) (violate
 -- how far these lines of the job's run went in: all; at a fault of the sink, a front of their text; where memory ran
 -- out, some whole lines
 abbrev pub EndsSaying : JobState → (said : List Line) → (old new : Outbox) → RunEnd → Type 0
-EndsSaying job said old new (Done violated world) = IsRun job said old new violated world
+EndsSaying job said old new (Done violated world) = RunIsOver job said old new violated world
 EndsSaying job said old new Fault = GathersFront old new (spell said)
 EndsSaying job said old new NoMemory = (rest : List Line) × LinesUpTo old new said rest
 

@@ -45,7 +45,7 @@ event_place j line = events_before (world_job j) (lines_of j.schedule) (opening_
 
 -- a line of the schedule, counted from 0, that is one event: where the event stands in the run, and that the line of
 -- the output at its place says its number and the answer to it there
-pub record IsTold (job : JobState) (line : ℕ) (entry : TimedEvent) : Type 0 where
+pub record IsToldAt (job : JobState) (line : ℕ) (entry : TimedEvent) : Type 0 where
   pub place : ℕ
   pub place_is : place ≡ event_place job line
   pub event : RecordsEvent
@@ -66,11 +66,11 @@ IsOneEvent _ = Unit {0}
 abbrev pub LinesTell : JobState → Type 0
 LinesTell job =
     (line : ℕ) (entry : TimedEvent) → slice_get (lines_of job.schedule) line ≡ Some entry → IsOneEvent entry.event
-    → IsTold job line entry
+    → IsToldAt job line entry
 
 -- the line of the schedule at that place, counted from 0, is this event, and the line of the output at that place says
 -- these words to it
-pub record Tells (job : JobState) (place : ℕ) (event : ScheduledEvent) (words : Line) : Type 0 where
+pub record TellsWords (job : JobState) (place : ℕ) (event : ScheduledEvent) (words : Line) : Type 0 where
   pub time : ℕ
   pub line : slice_get (lines_of job.schedule) place ≡ Some (record { time = time; event = event })
   pub told : slice_get (run_lines job) place ≡ Some (decimal (place + 1) ∷ words)
@@ -78,14 +78,14 @@ pub record Tells (job : JobState) (place : ℕ) (event : ScheduledEvent) (words 
 -- of the lines that deliver one request at most one is told that it ran
 abbrev pub RanToldOnce : JobState → Type 0
 RanToldOnce job =
-    (from to number place other : ℕ) → Tells job place (scheduled.Request from to number) (codes "ran" ∷ [])
-    → Tells job other (scheduled.Request from to number) (codes "ran" ∷ []) → place ≡ other
+    (from to number place other : ℕ) → TellsWords job place (scheduled.Request from to number) (codes "ran" ∷ [])
+    → TellsWords job other (scheduled.Request from to number) (codes "ran" ∷ []) → place ≡ other
 
 -- of the lines that deliver one reply at most one is told that it brought its request back
 abbrev pub ReturnedToldOnce : JobState → Type 0
 ReturnedToldOnce job =
-    (from to number place other : ℕ) → Tells job place (scheduled.Reply from to number) (codes "returned" ∷ [])
-    → Tells job other (scheduled.Reply from to number) (codes "returned" ∷ []) → place ≡ other
+    (from to number place other : ℕ) → TellsWords job place (scheduled.Reply from to number) (codes "returned" ∷ [])
+    → TellsWords job other (scheduled.Reply from to number) (codes "returned" ∷ []) → place ≡ other
 
 -- ---- in which order
 
@@ -134,7 +134,7 @@ try_at j place time node thread dest good there = record {
 abbrev pub ResultsHold : JobState → Type 0
 ResultsHold j =
     (place node thread dest : ℕ)
-    (tells : Tells j place (scheduled.Collective node thread (text.Try dest)) (codes "ok" ∷ []))
+    (tells : TellsWords j place (scheduled.Collective node thread (text.Try dest)) (codes "ok" ∷ []))
     (good : AreGroupEvents (world_job j) (opening_nodes j).area (opening_group j.settings) (run_steps j place))
     (there : node < j.settings.nodes) → EndsOk (try_at j place tells.time node thread dest good there)
 

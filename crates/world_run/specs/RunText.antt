@@ -32,12 +32,12 @@ use Rattle.job_text.specs.declared.job.TimedEvent.{TimedEvent}
 -- ---- answers
 
 -- the node on which an event falls
-abbrev pub node_of : RecordsEvent → ℕ
-node_of (Asks node ask) = node
-node_of (Does node thread call) = node
-node_of (RequestComes from to number) = to
-node_of (ReplyComes from to number) = from
-node_of (Ticks node) = node
+abbrev pub node_of_event : RecordsEvent → ℕ
+node_of_event (Asks node ask) = node
+node_of_event (Does node thread call) = node
+node_of_event (RequestComes from to number) = to
+node_of_event (ReplyComes from to number) = from
+node_of_event (Ticks node) = node
 
 -- the words of the answer of a world, by what it names of the node on which the event fell. The records never answer
 -- that memory ran out
@@ -49,7 +49,7 @@ world_words sight answers.NoMemory = codes "no-memory" ∷ []
 -- the words of the answer to an event
 abbrev pub event_words : WorldJob → Records → Timed OtherCall → Line
 event_words job records event =
-    let node = node_of event.event in
+    let node = node_of_event event.event in
     world_words (sight_of job.settings node (world_after job records event node))
     (world_told (world_answer job records event))
 

@@ -7,7 +7,7 @@ use Rattle.plain_world.specs.World.{Timed, run}
 use Rattle.plain_world.specs.MostHeld.{most_after}
 use Rattle.endpoint_rules.specs.EndpointRules.{OtherCall, Records}
 use Rattle.gas_world.specs.Events.{ForItsRecords, job_in}
-use Rattle.gas_world.specs.Stands.{Stands}
+use Rattle.gas_world.specs.Stands.{WorldStands}
 use Rattle.gas_endpoint.specs.EndpointState.{EndpointState, EndpointStands}
 use Rattle.gas_endpoint.specs.EndpointState.{IsNodeOf}
 use Rattle.gas_world.specs.WorldState.{WorldState}
@@ -35,7 +35,7 @@ use Rattle.world_run.specs.declared.nodes.Nodes.{Nodes as KeptNodes}
 use Rattle.job_text.specs.declared.job.TimedEvent.{TimedEvent}
 use Rattle.world_run.specs.RunText.{world_words, event_words, line_words, answer_lines, any_violation, lines_of_node}
 use Rattle.world_run.specs.RunText.{end_lines, run_records, run_most}
-use Rattle.world_run.specs.LinesWritten.{Says, OnDone}
+use Rattle.world_run.specs.LinesWritten.{SaysLines, OnDone}
 use Rattle.world_run.specs.declared.said.Said.{Said}
 
 -- ---- a world that stands
@@ -44,12 +44,12 @@ use Rattle.world_run.specs.declared.said.Said.{Said}
 pub record Stood (world : WorldState) : Type 0 where
   pub records : Records
   pub most : ℕ → ℕ
-  pub stands : Stands world records most
+  pub stands : WorldStands world records most
 
 -- the world stands for what these events leave of the records
 abbrev pub StandsAfter : WorldJob → WorldState → List (Timed OtherCall) → Records → (ℕ → ℕ) → Type 0
 StandsAfter job world events records most =
-    Stands world (run job events records) (most_after job events records most)
+    WorldStands world (run job events records) (most_after job events records most)
 
 -- it is a world of the same job
 pub record IsOfSameJob (old new : WorldState) : Type 0 where
@@ -59,12 +59,13 @@ pub record IsOfSameJob (old new : WorldState) : Type 0 where
 -- ---- lines of a schedule
 
 -- the world of a run, and what went into its sink
-pub record Stage : Type 0 where
+pub record RunStage : Type 0 where
   pub world : WorldState
   pub out : Outbox
 
-abbrev pub stage : {K : Type 0} → (taken : K → Option (List ℕ)) → (faults : K → ℕ) → WorldState → Gathering K → Stage
-stage taken faults world sink = record { world = world; out = outbox taken faults sink }
+abbrev pub run_stage : {K : Type 0} → (taken : K → Option (List ℕ)) → (faults : K → ℕ) → WorldState → Gathering K
+    → RunStage
+run_stage taken faults world sink = record { world = world; out = outbox taken faults sink }
 
 -- a line of the output: its number, and by what the nodes do and their records its words and the events before it
 pub record Plan : Type 0 where
@@ -105,14 +106,14 @@ planned job plan records = decimal plan.number ∷ plan.words job records
 
 -- of all records for which the world stood: the line that is planned was said, and where it was, the world stands for
 -- the records after the events
-abbrev pub RunsPlan : WorldJob → Plan → (old new : Stage) → Said → Type 0
+abbrev pub RunsPlan : WorldJob → Plan → (old new : RunStage) → Said → Type 0
 RunsPlan job plan old new said =
     ForItsRecords old.world (λ records most.
-    Says old.out new.out (planned job plan records ∷ []) said
+    SaysLines old.out new.out (planned job plan records ∷ []) said
     × OnDone said (StandsAfter job new.world (plan.events job records) records most))
 
 -- by what the nodes of the world do with the handlers of this job
-abbrev pub RunsByScript : JobState → Plan → (old new : Stage) → Said → Type 0
+abbrev pub RunsByScript : JobState → Plan → (old new : RunStage) → Said → Type 0
 RunsByScript text plan old new said = RunsPlan (job_in (script_meaning (handlers_of text)) old.world) plan old new said
 
 -- ---- the nodes of a run
@@ -174,7 +175,7 @@ nodes_stage taken faults nodes sink = record { nodes = kept nodes; out = outbox 
 abbrev pub RunsLine : WorldJob → (number : ℕ) → TimedEvent → (old new : NodesStage) → Said → Type 0
 RunsLine job number line old new said =
     ForItsGroups old.nodes (λ area group most.
-    Says old.out new.out ((decimal number ∷ line_words job (nodes_of area group) line) ∷ []) said
+    SaysLines old.out new.out ((decimal number ∷ line_words job (nodes_of area group) line) ∷ []) said
     × OnDone said (StandsFor new.nodes area (nodes_after job (nodes_of area group) line).group
     (most_after job (line_events job (nodes_of area group) line.time line.event) group.records most)))
 
@@ -183,7 +184,7 @@ RunsLine job number line old new said =
 abbrev pub RunsLines : WorldJob → List TimedEvent → (old new : NodesStage) → Said → Type 0
 RunsLines job lines old new said =
     ForItsGroups old.nodes (λ area group most.
-    Says old.out new.out (answer_lines job 1 lines (nodes_of area group)) said
+    SaysLines old.out new.out (answer_lines job 1 lines (nodes_of area group)) said
     × OnDone said (StandsAfter job new.nodes.world (schedule_events job lines (nodes_of area group)) group.records most))
 
 -- ---- what is written
@@ -193,8 +194,8 @@ abbrev pub TextOf : Type 0
 TextOf = Records → (ℕ → ℕ) → List ℕ
 
 -- of all records for which the world stands: this text went in
-abbrev pub Writes : WorldState → TextOf → (before after : Outbox) → Wrote → Type 0
-Writes world text before after wrote =
+abbrev pub WritesText : WorldState → TextOf → (before after : Outbox) → Wrote → Type 0
+WritesText world text before after wrote =
     ForItsRecords world (λ records most. GathersAll before after (text records most) wrote)
 
 -- the line of the answer to an event on this node
@@ -226,4 +227,4 @@ TellsViolation world violated =
 pub record StandsForRun (job : JobState) (world : WorldState) : Type 0 where
   pub settings : world.settings ≡ job.settings
   pub table : world.table ≡ (registered (handlers_of job)).table
-  pub stands : Stands world (run_records job) (run_most job)
+  pub stands : WorldStands world (run_records job) (run_most job)

@@ -48,7 +48,8 @@ impl Nodes {
     /// The nodes of a job before its first line. Want of memory is the one error.
     pub fn new(alloc: Global, script: &Script) -> Result<Nodes, AllocError>
         ensures settings { IfOk result (λ it. it.world.settings ≡ script.now.settings) }
-        ensures table { IfOk result (λ it. it.world.table ≡ (registered (handlers_of script.now)).table) }
+        ensures table { IfOk result
+            (λ it. it.world.table ≡ (registered (handlers_of script.now)).table) }
         ensures have { IfOk result (λ it. HaveCollectives script.now (kept it)) }
         ensures stands { IfOk result (λ it. StandsFor (kept it) (opening_nodes script.now).area
             (opening_nodes script.now).group (λ i. 0)) }
@@ -94,7 +95,8 @@ impl Nodes {
         ensures settings { self.new.world.settings ≡ self.old.world.settings }
         ensures table { self.new.world.table ≡ self.old.world.table }
         ensures group { IsGroup self.new.world self.new.collectives.items }
-        ensures does { DoesStep (H.meaning handlers.now) (kept self.old) (Step now node thread) result
+        ensures does { DoesStep (H.meaning handlers.now) (kept self.old) (Step now node thread)
+            result
             (kept self.new) }
     {
         let mut caller = AtNode {
@@ -121,7 +123,8 @@ impl Nodes {
         ensures settings { self.new.world.settings ≡ self.old.world.settings }
         ensures table { self.new.world.table ≡ self.old.world.table }
         ensures group { IsGroup self.new.world self.new.collectives.items }
-        ensures does { Does (H.meaning handlers.now) (kept self.old) (End now node thread dest) (OfEnd result)
+        ensures does { Does (H.meaning handlers.now) (kept self.old) (End now node thread dest)
+            (OfEnd result)
             (kept self.new) }
     {
         let mut caller = AtNode {
@@ -147,7 +150,12 @@ impl Nodes {
         ensures table { self.new.world.table ≡ self.old.world.table }
         ensures group { IsGroup self.new.world self.new.collectives.items }
         ensures collects { Collects (job_in (H.meaning handlers.now) self.old.world) (kept self.old)
-            (record { time = now; node = asked.now.node; thread = asked.now.thread; call = asked.now.call })
+            (record {
+              time = now;
+              node = asked.now.node;
+              thread = asked.now.thread;
+              call = asked.now.call;
+            })
             result (kept self.new) }
     {
         let node = asked.node;

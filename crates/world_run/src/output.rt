@@ -4,7 +4,7 @@ ghost use Rattle.std.specs.Prelude.{◌≡◌, ◌<◌, ◌∷◌, [], codes, de
 ghost use Rattle.gas_outside.specs.Buffered.{GathersAll, outbox};
 ghost use Rattle.node_script.specs.Lines.{line_text};
 ghost use Rattle.world_run.specs.RunText.{node_line};
-ghost use Rattle.world_run.specs.ScheduleRun.{Writes, answer_text, node_text, nodes_text};
+ghost use Rattle.world_run.specs.ScheduleRun.{WritesText, answer_text, node_text, nodes_text};
 ghost use Rattle.world_run.specs.ScheduleRun.{TellsWhatIs, TellsViolation};
 
 use crate::violations::write_violations;
@@ -33,7 +33,7 @@ pub fn write_event_answer<K: Sink>(
 ) -> Wrote
     requires node { node < world.now.settings.nodes }
     requires told { TellsWhatIs world.now node answer.now }
-    ensures { Writes world.now (answer_text world.now.settings number node answer.now)
+    ensures { WritesText world.now (answer_text world.now.settings number node answer.now)
         (outbox K.taken K.faults sink.old) (outbox K.taken K.faults sink.new) result }
 {
     match answer {
@@ -77,7 +77,7 @@ pub fn write_node_line<K: Sink>(
 /// Writes the lines of a node of the world: its own, and one for each of its last violations.
 fn write_node<K: Sink>(world: &World, node: u16, sink: &mut BufferedSink<K>) -> Wrote
     requires { node < world.now.settings.nodes }
-    ensures { Writes world.now (node_text world.now node)
+    ensures { WritesText world.now (node_text world.now node)
         (outbox K.taken K.faults sink.old) (outbox K.taken K.faults sink.new) result }
 {
     let endpoint = world.endpoint(node);
@@ -92,7 +92,7 @@ fn write_node<K: Sink>(world: &World, node: u16, sink: &mut BufferedSink<K>) -> 
 
 /// Writes the lines of all nodes of the world.
 pub fn write_nodes<K: Sink>(world: &World, sink: &mut BufferedSink<K>) -> Wrote
-    ensures { Writes world.now (nodes_text world.now)
+    ensures { WritesText world.now (nodes_text world.now)
         (outbox K.taken K.faults sink.old) (outbox K.taken K.faults sink.new) result }
 {
     for node in 0..world.nodes() {

@@ -12,18 +12,18 @@ ghost use Rattle.job_text.specs.JobText.{IsJob};
 ghost use Rattle.node_script.specs.Registration.{handlers_of, registered};
 ghost use Rattle.job_text.specs.JobReading.{lines_of};
 ghost use Rattle.job_text.specs.declared.job.TimedEvent.{TimedEvent};
-ghost use Rattle.world_run.specs.RunText.{node_of, run_lines};
+ghost use Rattle.world_run.specs.RunText.{node_of_event, run_lines};
 ghost use Rattle.node_script.specs.ScriptInvariant.{MayBegin};
 ghost use Rattle.world_run.specs.Schedules.{begin_answer, begin_asked, begin_events, opening_nodes};
 ghost use Rattle.world_run.specs.RunLaws.{RunLaws};
-ghost use Rattle.world_run.specs.ScheduleRun.{Stood, stage, begin_plan, event_plan, settle_plan};
+ghost use Rattle.world_run.specs.ScheduleRun.{Stood, run_stage, begin_plan, event_plan, settle_plan};
 ghost use Rattle.world_run.specs.ScheduleRun.{GroupStood, HaveCollectives, IsOfSameJob, IsOfSameNodes};
 ghost use Rattle.world_run.specs.ScheduleRun.{RunsByScript, RunsLine, RunsLines, StandsForRun};
 ghost use Rattle.world_run.specs.ScheduleRun.{is_lacking, kept, nodes_stage};
 ghost use Rattle.collective_group.specs.GroupState.{IsGroup};
 ghost use Rattle.collective_group.specs.Standing.{StandsFor};
 ghost use Rattle.job_text.specs.declared.job.ScheduledEvent.TheVariants.{Collective};
-ghost use Rattle.world_run.specs.LinesWritten.{Says, OnDone};
+ghost use Rattle.world_run.specs.LinesWritten.{SaysLines, OnDone};
 ghost use Rattle.world_run.specs.RunEnds.{RunEnds};
 
 use crate::nodes::Nodes;
@@ -41,7 +41,7 @@ use world_caller::AtNode;
 
 /// The node on which an event falls.
 fn node_of(event: &WorldEvent<'_>) -> u16
-    ensures { result ≡ node_of (event_of event.now) }
+    ensures { result ≡ node_of_event (event_of event.now) }
 {
     match event {
         WorldEvent::Call { node, .. } => *node,
@@ -75,7 +75,8 @@ fn run_event<K: Sink>(
     ensures table { world.new.table ≡ world.old.table }
     ensures runs { RunsByScript script.now
         (event_plan at.number (timed at.now (event_of event.now)))
-        (stage K.taken K.faults world.old sink.old) (stage K.taken K.faults world.new sink.new) result }
+        (run_stage K.taken K.faults world.old sink.old) (run_stage K.taken K.faults world.new sink.new)
+        result }
 {
     match world.step(script.handlers(), at.now, event) {
         WorldAnswer::NoMemory => Said::NoMemory,
@@ -103,7 +104,8 @@ fn begin_pieces<H: Handlers>(
         result ≡ begin_answer (job_in (H.meaning handlers.now) world.old) records now begin.now.node
         (begin_asked begin.now.thread begin.now.vis.now)) }
     ensures moves { Moves (job_in (H.meaning handlers.now) world.old)
-        (λ records. begin_events (job_in (H.meaning handlers.now) world.old) records now begin.now.node
+        (λ records. begin_events (job_in (H.meaning handlers.now) world.old) records now
+        begin.now.node
         (begin_asked begin.now.thread begin.now.vis.now)) world.old world.new }
 {
     let mut caller = AtNode {
@@ -133,8 +135,10 @@ fn run_vis<K: Sink>(
     ensures settings { world.new.settings ≡ world.old.settings }
     ensures table { world.new.table ≡ world.old.table }
     ensures runs { RunsByScript script.now
-        (begin_plan at.number at.now begin.now.node (begin_asked begin.now.thread begin.now.vis.now))
-        (stage K.taken K.faults world.old sink.old) (stage K.taken K.faults world.new sink.new) result }
+        (begin_plan at.number at.now begin.now.node
+        (begin_asked begin.now.thread begin.now.vis.now))
+        (run_stage K.taken K.faults world.old sink.old) (run_stage K.taken K.faults world.new sink.new)
+        result }
 {
     match begin_pieces(world, script.handlers(), at.now, begin) {
         Vis::NoMemory => Said::NoMemory,
@@ -153,7 +157,8 @@ fn run_settle<K: Sink>(
     ensures settings { world.new.settings ≡ world.old.settings }
     ensures table { world.new.table ≡ world.old.table }
     ensures runs { RunsByScript script.now (settle_plan at.number at.now rounds)
-        (stage K.taken K.faults world.old sink.old) (stage K.taken K.faults world.new sink.new) result }
+        (run_stage K.taken K.faults world.old sink.old) (run_stage K.taken K.faults world.new sink.new)
+        result }
 {
     match world.settle(script.handlers(), at.now, rounds) {
         Err(AllocError) => Said::NoMemory,
@@ -188,7 +193,8 @@ fn run_collective<K: Sink>(
     ensures runs { (line : TimedEvent) → line.time ≡ at.now
         → line.event ≡ Collective asked.now.node asked.now.thread asked.now.call
         → RunsLine (job_in (script_meaning (handlers_of script.now)) nodes.old.world) at.number line
-        (nodes_stage K.taken K.faults nodes.old sink.old) (nodes_stage K.taken K.faults nodes.new sink.new)
+        (nodes_stage K.taken K.faults nodes.old sink.old)
+        (nodes_stage K.taken K.faults nodes.new sink.new)
         result }
 {
     let answer = nodes.collect(script.handlers(), at.now, asked);
@@ -212,8 +218,10 @@ fn run_line<K: Sink>(
     requires line { place < length (lines_of script.now.schedule) }
     ensures job { IsOfSameNodes script.now (kept nodes.old) (kept nodes.new) }
     ensures runs { (line : TimedEvent) → slice_get (lines_of script.now.schedule) place ≡ Some line
-        → RunsLine (job_in (script_meaning (handlers_of script.now)) nodes.old.world) (place + 1) line
-        (nodes_stage K.taken K.faults nodes.old sink.old) (nodes_stage K.taken K.faults nodes.new sink.new)
+        → RunsLine (job_in (script_meaning (handlers_of script.now)) nodes.old.world) (place + 1)
+        line
+        (nodes_stage K.taken K.faults nodes.old sink.old)
+        (nodes_stage K.taken K.faults nodes.new sink.new)
         result }
 {
     let number = place as u64 + 1;
@@ -262,7 +270,8 @@ fn run_schedule<K: Sink>(nodes: &mut Nodes, script: &Script, sink: &mut Buffered
     ensures job { IsOfSameJob nodes.old.world nodes.new.world }
     ensures runs { RunsLines (job_in (script_meaning (handlers_of script.now)) nodes.old.world)
         (lines_of script.now.schedule)
-        (nodes_stage K.taken K.faults nodes.old sink.old) (nodes_stage K.taken K.faults nodes.new sink.new)
+        (nodes_stage K.taken K.faults nodes.old sink.old)
+        (nodes_stage K.taken K.faults nodes.new sink.new)
         result }
 {
     for place in 0..script.lines() {
@@ -282,7 +291,7 @@ fn run_in<K: Sink>(nodes: &mut Nodes, script: &Script, sink: &mut BufferedSink<K
     requires have { HaveCollectives script.now (kept nodes.old) }
     requires stands { StandsFor (kept nodes.old) (opening_nodes script.now).area
         (opening_nodes script.now).group (λ i. 0) }
-    ensures lines { Says (outbox K.taken K.faults sink.old) (outbox K.taken K.faults sink.new)
+    ensures lines { SaysLines (outbox K.taken K.faults sink.old) (outbox K.taken K.faults sink.new)
         (run_lines script.now) result }
     ensures world { OnDone result (StandsForRun script.now nodes.new.world) }
 {

@@ -3,7 +3,7 @@ use Rattle.std.proofs.Common.{List, sym, subst, ◌∙◌}
 use Rattle.std.proofs.lemmas.Iterator.Adapters.{YieldsList-from_vec}
 use Rattle.std.proofs.lemmas.Iterator.Consumers.{YieldsList-end}
 use Rattle.std.proofs.lemmas.List.{map-id}
-use Rattle.check_run.specs.Merging.{ClosesAll, IsWhole}
+use Rattle.check_run.specs.Merging.{ClosesAll, IsWholeRecorder}
 use Rattle.check_run.specs.Recording.{RecorderKept}
 use Rattle.check_run.specs.declared.recorder.NodeReport.{NodeReport}
 use Rattle.check_run.proofs.Pushed.{made_more, mapped_more, pushed_at}
@@ -22,7 +22,7 @@ loop-recorder-preserved c =
           c.loop-recorder.reports.items _ _ yielded kept c.in_ok-push-2.ensures.items closed.text_is so_far.texts;
       most = mapped_more (λ (report : NodeReport). report.most) (λ (one : RecorderKept). one.most)
           c.loop-recorder.reports.items _ _ yielded kept c.in_ok-push-2.ensures.items closed.most_is so_far.most;
-      each = pushed_at (λ _ one. IsWhole one) yielded kept so_far.each
+      each = pushed_at (λ _ one. IsWholeRecorder one) yielded kept so_far.each
           (record { whole = closed.whole; own = closed.own });
     }
 

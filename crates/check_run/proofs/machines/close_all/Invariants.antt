@@ -1,6 +1,6 @@
 -- What was taken of the recorders before this one.
 use Rattle.std.proofs.Common.{◌≡◌, ℕ, map, Some, slice_get}
-use Rattle.check_run.specs.Merging.{IsWhole}
+use Rattle.check_run.specs.Merging.{IsWholeRecorder}
 use Rattle.check_run.specs.Recording.{RecorderKept}
 use Rattle.check_run.specs.declared.recorder.NodeReport.{NodeReport}
 use Rattle.check_run.proofs.machines.close_all.Given as goal
@@ -12,5 +12,5 @@ invariant-loop-recorder l = record {
       ≡ map (λ (kept : RecorderKept). kept.text) l.yielded;
   most : map (λ (report : NodeReport). report.most) l.reports.items
       ≡ map (λ (kept : RecorderKept). kept.most) l.yielded;
-  each : (place : ℕ) (kept : RecorderKept) → slice_get l.yielded place ≡ Some kept → IsWhole kept;
+  each : (place : ℕ) (kept : RecorderKept) → slice_get l.yielded place ≡ Some kept → IsWholeRecorder kept;
 }

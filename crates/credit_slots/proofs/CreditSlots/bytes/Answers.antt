@@ -1,7 +1,7 @@
 use Rattle.std.proofs.Common.{ap, sym, ◌∙◌}
 use Rattle.std.specs.Prelude.{option_and_then}
 use Rattle.credit_slots.specs.SlotsState.{SlotsState}
-use Rattle.credit_slots.specs.SlotsState.{message_of, message_at}
+use Rattle.credit_slots.specs.SlotsState.{message_of, sealed_message_at}
 use Rattle.credit_slots.proofs.Viewed.{slot-is}
 use Rattle.credit_slots.proofs.Viewed.{in-range}
 use Rattle.credit_slots.proofs.CreditSlots.bytes.Goals as goal
@@ -20,4 +20,4 @@ returns c =
     let inside = in-range to slot c.self.invariant c.self.view_is c.requires in
     c.message.ensures
     ∙ (ap (option_and_then message_of) (sym (slot-is fields.last given table to slot c.self.invariant.nodes inside))
-    ∙ ap (λ (u : SlotsState). message_at u to slot) c.self.view_is)
+    ∙ ap (λ (u : SlotsState). sealed_message_at u to slot) c.self.view_is)

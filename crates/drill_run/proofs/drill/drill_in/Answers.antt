@@ -5,7 +5,7 @@ use Rattle.node_script.specs.Lines.{Line, spell}
 use Rattle.world_run.specs.RunText.{end_lines, run_most, run_records}
 use Rattle.world_run.proofs.LinesWritten.{no_lines_yet, on_done}
 use Rattle.drill_run.specs.Counting.{count_in}
-use Rattle.drill_run.specs.Drilling.{stage}
+use Rattle.drill_run.specs.Drilling.{drill_stage}
 use Rattle.drill_run.specs.Rounds.{drill_job, drill_settings}
 use Rattle.drill_run.specs.Summary.{count_lines, count_of, drill_answers, drill_lines, first_line}
 use Rattle.drill_run.proofs.Drilled.{all_rounds}
@@ -21,7 +21,7 @@ returns-in-Ok g c =
     let world = c.run_rounds.new.world in
     let counts = c.run_rounds.new.counts in
     let ran =
-    all_rounds seed (stage c.args.world.now c.new-counts.result) (stage world counts) c.requires.stands
+    all_rounds seed (drill_stage c.args.world.now c.new-counts.result) (drill_stage world counts) c.requires.stands
     c.new-counts.ensures c.in-Ok.ensures.runs
     in
     let same = c.run_rounds.ensures.settings ∙ c.requires.drilled.settings in

@@ -1,9 +1,9 @@
 use Rattle.std.proofs.Common.{subst}
 use Rattle.endpoint_rules.specs.EndpointRules.{transition}
-use Rattle.gas_world.specs.Events.{Steps, event_of}
+use Rattle.gas_world.specs.Events.{StepsInWorld, event_of}
 use Rattle.node_script.specs.Bodies.{script_meaning}
 use Rattle.node_script.specs.Registration.{JobHandlers, handlers_of}
-use Rattle.drill_run.specs.Drilling.{stage}
+use Rattle.drill_run.specs.Drilling.{drill_stage}
 use Rattle.drill_run.proofs.Drilled.{event_counts}
 use Rattle.drill_run.proofs.drill.run_event.Goals as goal
 
@@ -12,9 +12,9 @@ returns-in_default-clause-runs c =
     let event = event_of c.args.event.now in
     let steps =
     subst
-    (λ (handlers : JobHandlers). Steps (script_meaning handlers) c.args.world.now
+    (λ (handlers : JobHandlers). StepsInWorld (script_meaning handlers) c.args.world.now
     (transition c.args.now event c.step.result) c.step.new.self) c.handlers.ensures c.step.ensures.steps
     in
-    event_counts (script_meaning (handlers_of c.args.script.now)) (stage c.args.world.now c.args.counts.now)
-    (stage c.step.new.self c.count.new.self) c.args.now event c.step.result c.in_default.not-NoMemory steps
+    event_counts (script_meaning (handlers_of c.args.script.now)) (drill_stage c.args.world.now c.args.counts.now)
+    (drill_stage c.step.new.self c.count.new.self) c.args.now event c.step.result c.in_default.not-NoMemory steps
     c.count.ensures.tallies

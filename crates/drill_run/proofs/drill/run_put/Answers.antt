@@ -5,7 +5,7 @@ use Rattle.job_text.specs.declared.job.ScheduledEvent.TheVariants as scheduled
 use Rattle.put_get.specs.declared.operation.Transfer.TheVariants as transfer
 use Rattle.drill_run.specs.Rounds.{at_time}
 use Rattle.datagram_grammar.specs.Parameters.{Parameters}
-use Rattle.drill_run.specs.Drilling.{stage}
+use Rattle.drill_run.specs.Drilling.{drill_stage}
 use Rattle.drill_run.proofs.Drilled.{two_lines}
 use Rattle.drill_run.proofs.OnOk.{on_ok}
 use Rattle.drill_run.proofs.drill.run_put.Goals as goal
@@ -42,7 +42,8 @@ returns-clause-runs c =
     let put = transfer.Put round.to (round.rest % 8 * 4096) 0 4096 in
     let second = at_time c.args.now (scheduled.Call round.from 0 (call.BeginImplicit put)) in
     on_ok c.run_event-2.result _ _
-    (two_lines c.args.script.now (stage c.args.world.now c.args.counts.now)
-    (stage c.run_event.new.world c.run_event.new.counts) (stage c.run_event-2.new.world c.run_event-2.new.counts)
+    (two_lines c.args.script.now (drill_stage c.args.world.now c.args.counts.now)
+    (drill_stage c.run_event.new.world c.run_event.new.counts)
+    (drill_stage c.run_event-2.new.world c.run_event-2.new.counts)
     first second c.run_event.ensures.settings c.run_event.ensures.table c.in_ok-run_event.ensures.runs)
     (rw c.from.ensures at c.run_event-2.ensures.runs)

@@ -1,7 +1,7 @@
 use Rattle.std.proofs.Common.{◌<◌, sym, subst}
 use Rattle.datagram_grammar.specs.Parameters.{Parameters}
-use Rattle.drill_run.specs.Drilling.{job_by, stage}
-use Rattle.drill_run.specs.Rounds.{number_of}
+use Rattle.drill_run.specs.Drilling.{job_by, drill_stage}
+use Rattle.drill_run.specs.Rounds.{delivered_number}
 use Rattle.job_text.specs.declared.job.ScheduledEvent.TheVariants as scheduled
 use Rattle.drill_run.proofs.Drilled.{delivery_counts}
 use Rattle.drill_run.proofs.OnOk.{on_ok}
@@ -23,6 +23,7 @@ run_event-requires-clause-among c =
 pub returns-clause-runs : goal.returns-clause-runs
 returns-clause-runs c =
     on_ok c.run_event.result _ _
-    (delivery_counts (job_by c.args.script.now c.args.world.now) (stage c.args.world.now c.args.counts.now)
-    (stage c.run_event.new.world c.run_event.new.counts) c.args.now c.number_of.result (number_of c.args.round)
+    (delivery_counts (job_by c.args.script.now c.args.world.now) (drill_stage c.args.world.now c.args.counts.now)
+    (drill_stage c.run_event.new.world c.run_event.new.counts) c.args.now c.number_of.result
+    (delivered_number c.args.round)
     (λ number. scheduled.Reply c.args.round.from c.args.round.to number) c.number_of.ensures) c.run_event.ensures.runs

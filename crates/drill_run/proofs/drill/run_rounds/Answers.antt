@@ -2,7 +2,7 @@ use Rattle.std.proofs.Common.{◌≡◌, ◌*◌, ◌<◌, refl, sym, ap, subst,
 use Rattle.gas_world.specs.Settling.{WorldJob}
 use Rattle.world_run.specs.Schedules.{world_job}
 use Rattle.drill_run.specs.Draws.{behind_round, round_from}
-use Rattle.drill_run.specs.Drilling.{CountsLines, IsDrilled, stage}
+use Rattle.drill_run.specs.Drilling.{CountsLines, IsDrilled, drill_stage}
 use Rattle.drill_run.specs.Rounds.{bare_job, round_lines, rounds_lines}
 use Rattle.drill_run.specs.declared.rounds.Round.{Round}
 use Rattle.drill_run.proofs.Drawn.{before_first, before_next, from_there, to_there}
@@ -15,7 +15,7 @@ loop-now-init c = record {
   table = refl;
   draws = c.new-draws.ensures ∙ sym (before_first c.args.seed);
   few = c.requires.none;
-  runs = no_rounds _ c.args.seed (stage c.args.world.now c.args.counts.now);
+  runs = no_rounds _ c.args.seed (drill_stage c.args.world.now c.args.counts.now);
 }
 
 pub run_round-requires : goal.run_round-requires
@@ -35,9 +35,9 @@ run_round-requires c = record {
 pub loop-now-preserved : goal.loop-now-preserved
 loop-now-preserved c =
     let now = c.loop-now.now in
-    let start = stage c.args.world.now c.args.counts.now in
-    let mid = stage c.loop-now.world c.loop-now.counts in
-    let new = stage c.run_round.new.world c.run_round.new.counts in
+    let start = drill_stage c.args.world.now c.args.counts.now in
+    let mid = drill_stage c.loop-now.world c.loop-now.counts in
+    let new = drill_stage c.run_round.new.world c.run_round.new.counts in
     let drilled : IsDrilled c.loop-now.world = record {
       settings = c.loop-now.invariant.settings ∙ c.requires.drilled.settings;
       table = c.loop-now.invariant.table ∙ c.requires.drilled.table;
@@ -63,5 +63,5 @@ returns-clause-runs c =
     let all : c.loop-now.now ≡ 20000 = omega (arith, c.loop-now-test.false, c.loop-now.auto.now-end) in
     subst
     (λ n. CountsLines (world_job bare_job) (rounds_lines (world_job bare_job) c.args.seed n)
-    (stage c.args.world.now c.args.counts.now) (stage c.loop-now.world c.loop-now.counts)) all
+    (drill_stage c.args.world.now c.args.counts.now) (drill_stage c.loop-now.world c.loop-now.counts)) all
     c.loop-now.invariant.runs

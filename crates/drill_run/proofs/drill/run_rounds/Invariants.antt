@@ -2,7 +2,7 @@ use Rattle.std.proofs.Common.{◌≡◌, ◌*◌}
 use Rattle.world_run.specs.Schedules.{world_job}
 use Rattle.drill_run.specs.Counting.{AreAtMost}
 use Rattle.drill_run.specs.Draws.{before_round}
-use Rattle.drill_run.specs.Drilling.{CountsLines, stage}
+use Rattle.drill_run.specs.Drilling.{CountsLines, drill_stage}
 use Rattle.drill_run.specs.Rounds.{bare_job, rounds_lines}
 use Rattle.drill_run.proofs.drill.run_rounds.Given as goal
 
@@ -13,5 +13,5 @@ invariant-loop-now l = record {
   draws : l.draws ≡ before_round l.seed l.now;
   few : AreAtMost (2 * l.now) l.counts;
   runs : CountsLines (world_job bare_job) (rounds_lines (world_job bare_job) l.seed l.now)
-      (stage l.initial.world l.initial.counts) (stage l.world l.counts);
+      (drill_stage l.initial.world l.initial.counts) (drill_stage l.world l.counts);
 }

@@ -3,7 +3,7 @@ use Rattle.std.specs.Prelude.{is_some}
 use Rattle.handler_rules.specs.Desks.{At, arrival_at, stage}
 use Rattle.handler_rules.specs.Runs.{Outcome}
 use Rattle.gas_atomic.specs.declared.word.WordOp.{WordOp}
-use Rattle.gas_atomic.specs.BatchRequests.{BatchRequest, number_at, ops_said, place_fault}
+use Rattle.gas_atomic.specs.BatchRequests.{BatchRequest, number_of_halves, ops_said, place_fault}
 use Rattle.gas_atomic.proofs.Served.{Says, after_request_is, request_said_so}
 use Rattle.gas_atomic.proofs.serving.serve_request.Goals as goal
 
@@ -20,8 +20,8 @@ returns-clause-at c cells opening outcome at =
     let same : c.deref.result.now ≡ ops = c.deref.ensures.0 ∙ sym c.deref-2.ensures.0 in
     let says : Says (length segment) (arrival_at desk).args (arrival_at desk).payload request = record {
       four = ap length (sym c.args-2.ensures) ∙ c.if-args-ne4.false;
-      local = c.number_at-local.ensures ∙ ap (λ (args : List ℤ). number_at args 0) c.args-3.ensures;
-      tag = c.number_at-tag.ensures ∙ ap (λ (args : List ℤ). number_at args 2) c.args-4.ensures;
+      local = c.number_at-local.ensures ∙ ap (λ (args : List ℤ). number_of_halves args 0) c.args-3.ensures;
+      tag = c.number_at-tag.ensures ∙ ap (λ (args : List ℤ). number_of_halves args 2) c.args-4.ensures;
       ops = ap ops_said (sym c.payload.ensures)
           ∙ (c.in-Some.ensures.some ∙ ap (λ (list : List WordOp). Some list) (sym c.deref-2.ensures.0));
       placed = ap (λ (list : List WordOp). place_fault (length segment) request.local list) (sym same)

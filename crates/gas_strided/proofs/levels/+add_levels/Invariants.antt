@@ -1,6 +1,6 @@
 use Rattle.std.proofs.Common.{length}
 use Rattle.gas_strided.specs.Runs.{Adds}
-use Rattle.gas_strided.specs.Pairs.{joined}
+use Rattle.gas_strided.specs.Pairs.{joined_lists}
 use Rattle.gas_strided.proofs.Counting.{at_index}
 use Rattle.gas_strided.proofs.levels.+add_levels.Given as goal
 
@@ -9,4 +9,4 @@ decreases-add_levels l = length l.levels.now
 
 abbrev pub invariant-loop-index : goal.invariant-loop-index
 invariant-loop-index l =
-    Adds l.fn.runs (joined (at_index l.level l.deeper l.first.remote l.first.local l.first.len) l.index) l.runs
+    Adds l.fn.runs (joined_lists (at_index l.level l.deeper l.first.remote l.first.local l.first.len) l.index) l.runs

@@ -1,7 +1,7 @@
 use Rattle.std.proofs.Common.{◌≡◌, ◌+◌, List, ◌∷◌, [], arith, sym, ap, subst, ◌∙◌, length, length-append}
 use Rattle.std.proofs.lemmas.List.{length-map, map-append}
 use Rattle.gas_outside.specs.Spawner.{ChildEnd}
-use Rattle.launch_run.specs.Children.{Spawns, end_of, ends_of, spawner_seen}
+use Rattle.launch_run.specs.Children.{Spawns, end_of_child, ends_of, spawner_seen}
 use Rattle.launch_run.specs.declared.children.Child.{Child}
 use Rattle.launch_run.proofs.Told.{appended_within, spawns_more, spawns_none, told_so}
 use Rattle.launch_run.proofs.children.run_children.Goals as goal
@@ -32,14 +32,14 @@ loop-rank-preserved g c =
     let child : Child =
     record { rank = c.loop-rank.rank; output = c.finish-answer.new.into; answer = c.finish-answer.result } in
     let ends : ends_of c.push_reserved.new.self.items ≡ _ =
-    ap ends_of c.push_reserved.ensures.items ∙ map-append end_of before (child ∷ []) in
+    ap ends_of c.push_reserved.ensures.items ∙ map-append end_of_child before (child ∷ []) in
     let Seen = Spawns c.args.nodes c.args.port c.args.input.now (spawner_seen g.P.Spawner c.args.spawner.now)
     (spawner_seen g.P.Spawner c.finish-answer.new.self) c.start_children-started.result in
     record {
       spawns = subst (λ (all : List ChildEnd). Seen all) (sym ends)
-          (spawns_more _ _ _ _ _ _ _ (ends_of before) (end_of child) invariant.spawns
-          (sym (length-map before end_of ∙ invariant.count))
-          (omega (arith, length-map before end_of, invariant.count, c.loop-rank-test.true))
+          (spawns_more _ _ _ _ _ _ _ (ends_of before) (end_of_child child) invariant.spawns
+          (sym (length-map before end_of_child ∙ invariant.count))
+          (omega (arith, length-map before end_of_child, invariant.count, c.loop-rank-test.true))
           (appended_within c.finish-answer.result _ _ c.new-output.ensures.items finish.output)
           (told_so c.loop-rank.rank c.finish-answer.result _ _ _ _ c.new-output.ensures.items finish.told)
           finish.later finish.cause);

@@ -1,7 +1,7 @@
 use Rattle.std.proofs.Common.{List, arith, ap, inl, sym, subst}
 use Rattle.std.specs.Prelude.{All}
 use Rattle.std.proofs.lemmas.List.{length-map}
-use Rattle.launch_run.specs.Children.{AreRanked, IsWithin, end_of, ends_of, spawner_seen}
+use Rattle.launch_run.specs.Children.{AreRanked, IsOutputWithin, end_of_child, ends_of, spawner_seen}
 use Rattle.launch_run.specs.Outputs.{GiveOrNot, SomeFailed}
 use Rattle.launch_run.specs.declared.children.Child.{Child}
 use Rattle.launch_run.proofs.Ends.{has_ends, launched}
@@ -15,7 +15,7 @@ outputs_of-requires g c =
     let same = c.deref-2.ensures.value in
     record {
       ranks = subst (λ (all : List Child). AreRanked (ends_of all)) (sym same) c.in-Ok.ensures.ranks;
-      within = subst (λ (all : List Child). All IsWithin (ends_of all)) (sym same) c.in-Ok.ensures.within;
+      within = subst (λ (all : List Child). All IsOutputWithin (ends_of all)) (sym same) c.in-Ok.ensures.within;
     }
 
 pub returns : goal.returns
@@ -27,7 +27,7 @@ returns g c =
     let none = subst (λ (all : List Child). SomeFailed (ends_of all) → ⊥) c.deref.ensures.value none_so in
     let given = subst (λ (all : List Child). GiveOrNot job (ends_of all) c.outputs_of.result) c.deref-2.ensures.value
     c.outputs_of.ensures.given in
-    let count = length-map children end_of in
+    let count = length-map children end_of_child in
     let nodes = c.nodes-nodes.ensures.nodes in
     let spawned = has_ends job c.args.port c.args.input.now _ _ children c.nodes-nodes.result nodes c.in-Ok.ensures in
     record {

@@ -1,6 +1,6 @@
 use Rattle.std.proofs.Common.{length, refl}
 use Rattle.std.proofs.lemmas.Option.{slice_get_read}
-use Rattle.launch_run.specs.Children.{end_of}
+use Rattle.launch_run.specs.Children.{end_of_child}
 use Rattle.launch_run.proofs.Ends.{end_at, none_failed, one_more}
 use Rattle.launch_run.proofs.outputs.has_failed.Goals as goal
 
@@ -12,7 +12,7 @@ returns-in-Failed c =
     c.child-item.is in (
       λ yes. record {
         rank = place;
-        end = end_of c.child-item.result;
+        end = end_of_child c.child-item.result;
         at = end_at children place c.child-item.result there;
         failed = c.in-Failed.is;
       },

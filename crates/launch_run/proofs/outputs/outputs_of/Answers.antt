@@ -3,7 +3,7 @@ use Rattle.std.proofs.lemmas.List.Elements.{All-push}
 use Rattle.std.proofs.lemmas.Option.{slice_get_read}
 use Rattle.gasnet_trace.specs.declared.output.Output.{Output}
 use Rattle.check_run.specs.CheckInputs.{HaveTraces, IsTraceOf}
-use Rattle.launch_run.specs.Children.{IsWithin, ends_of}
+use Rattle.launch_run.specs.Children.{IsOutputWithin, ends_of}
 use Rattle.launch_run.proofs.Ends.{all_at, all_given, end_at, first_fault, gave_one_more}
 use Rattle.launch_run.proofs.outputs.outputs_of.Goals as goal
 
@@ -23,7 +23,7 @@ output_of-requires c =
     let place = c.loop-child.child-index in
     let there = slice_get_read children (length children) place c.child-item.result refl c.loop-child-test.true
     c.child-item.is in
-    all_at IsWithin (ends_of children) place _ c.requires.within (end_at children place c.child-item.result there)
+    all_at IsOutputWithin (ends_of children) place _ c.requires.within (end_at children place c.child-item.result there)
 
 pub returns-in-Err : goal.returns-in-Err
 returns-in-Err c =

@@ -1,5 +1,5 @@
 use Rattle.std.proofs.Common.{arith, refl, sym, ◌∙◌}
-use Rattle.launch_run.specs.Children.{end_of}
+use Rattle.launch_run.specs.Children.{end_of_child}
 use Rattle.launch_run.proofs.Gave.{ended_apart, ended_high, gave_more, gave_none, gave_output, same_wanted}
 use Rattle.launch_run.proofs.outputs.read_child.Goals as goal
 use Rattle.launch_run.proofs.outputs.read_child.Goals.{then-len-via-then-len, then-len-via-else-len+then-code-gt1}
@@ -8,7 +8,7 @@ use Rattle.launch_run.proofs.outputs.read_child.Goals.{then-len-via-else-len+els
 pub returns-then-len-clause-given : goal.returns-then-len-clause-given
 returns-then-len-clause-given c =
     let job = c.args.job.now in
-    let end = end_of c.args.child.now in
+    let end = end_of_child c.args.child.now in
     let is = same_wanted job end.rank _ _ _ c.version.ensures.version c.threads.ensures c.job.ensures in
     let only = rw c.deref.ensures.value at c.in-Ok.ensures.only in
     elim c.then-len.branch [
@@ -31,7 +31,7 @@ returns-then-len-clause-given c =
 pub returns-in-Err-Bad-clause-given : goal.returns-in-Err-Bad-clause-given
 returns-in-Err-Bad-clause-given c =
     let job = c.args.job.now in
-    let end = end_of c.args.child.now in
+    let end = end_of_child c.args.child.now in
     let is = same_wanted job end.rank _ _ _ c.version.ensures.version c.threads.ensures c.job.ensures in
     let only = rw (c.deref.ensures.value, c.in-Err-Bad.field-0-is) at c.in-Err-Bad.ensures.only in
     (refl, gave_none job end _ c.args.code c.in-Err-Bad.field-0-0 c.in-Err-Bad.field-0-1 is c.requires.ended only)
@@ -39,7 +39,7 @@ returns-in-Err-Bad-clause-given c =
 pub returns-else-code-clause-given : goal.returns-else-code-clause-given
 returns-else-code-clause-given c =
     let job = c.args.job.now in
-    let end = end_of c.args.child.now in
+    let end = end_of_child c.args.child.now in
     let is = same_wanted job end.rank _ _ _ c.version.ensures.version c.threads.ensures c.job.ensures in
     let begins = rw c.deref.ensures.value at c.in-Ok.ensures.found in
     gave_output job end _ c.args.code c.in-Ok.output c.in-Ok.len is c.requires.ended begins

@@ -8,7 +8,7 @@ use Rattle.machine.specs.Replay.{StandsFor, given_by, replayed, steps_of}
 use Rattle.machine.specs.declared.entry.Entry.{Entry}
 use Rattle.trace_replay.proofs.Searching.{untrue}
 use Rattle.trace_replay.proofs.Turns.{sent_from-push, taken_next}
-use Rattle.trace_replay.specs.Sending.{CanBeTaken, numbered, sent_from}
+use Rattle.trace_replay.specs.Sending.{CanBeTaken, numbered_sends, sent_from}
 use Rattle.trace_replay.specs.declared.sent.Sent.{Sent}
 use Rattle.trace_replay.proofs.replaying.replay.Goals as goal
 
@@ -29,10 +29,10 @@ loop-turns-preserved g c =
           let before = c.loop-turns.invariant.stands state stands in
           let after = c.take_turn-sends.ensures.after _ before in
           c.in_ok-keep_sent.ensures _ after
-          ∙ ap (λ (n : ℕ). c.loop-turns.sent.items ++ numbered (at + 1) (take n (g.M.Machine.sent
+          ∙ ap (λ (n : ℕ). c.loop-turns.sent.items ++ numbered_sends (at + 1) (take n (g.M.Machine.sent
           (g.M.Machine.after (replayed (steps_of g.M.Machine) state (take at entries)) entry.thread entry.now entry.got))))
           (c.take_turn-sends.ensures.sends _ before)
-          ∙ ap (λ (all : List Sent). all ++ numbered (at + 1)
+          ∙ ap (λ (all : List Sent). all ++ numbered_sends (at + 1)
           (given_by (steps_of g.M.Machine) (replayed (steps_of g.M.Machine) state (take at entries)) entry))
           (c.loop-turns.invariant.sent state stands)
           ∙ sym (ap (sent_from (steps_of g.M.Machine) state 1) more

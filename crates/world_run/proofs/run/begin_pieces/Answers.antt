@@ -4,7 +4,7 @@ use Rattle.plain_world.specs.World.{run}
 use Rattle.plain_world.specs.MostHeld.{most_after}
 use Rattle.endpoint_rules.specs.EndpointRules.{Records}
 use Rattle.gas_world.specs.Events.{job_in}
-use Rattle.gas_world.specs.Stands.{Stands}
+use Rattle.gas_world.specs.Stands.{WorldStands}
 use Rattle.gas_world.specs.WorldState.{WorldState}
 use Rattle.node_caller.specs.Making.{whole_after}
 use Rattle.node_caller.specs.Sites.{Site, ThreadCall, job_at}
@@ -21,9 +21,10 @@ use Rattle.world_run.proofs.run.begin_pieces.Goals as goal
 left_job : {left last old : WorldState} → left ≡ last → IsOfSameJob old last → IsOfSameJob old left
 left_job {old} same is = subst (IsOfSameJob old) (sym same) is
 
-left_stands : {left last : WorldState} {records : Records} {most : ℕ → ℕ} → left ≡ last → Stands last records most
-    → Stands left records most
-left_stands {records} {most} same stands = subst (λ (world : WorldState). Stands world records most) (sym same) stands
+left_stands : {left last : WorldState} {records : Records} {most : ℕ → ℕ} → left ≡ last → WorldStands last records most
+    → WorldStands left records most
+left_stands {records} {most} same stands =
+    subst (λ (world : WorldState). WorldStands world records most) (sym same) stands
 
 pub returns-clause-job : goal.returns-clause-job
 returns-clause-job g c =
@@ -43,9 +44,10 @@ returns-clause-moves g c = λ records most stands.
     let answered = rw c.from-from.ensures at (c.begin.ensures.begins.answered whole stands) in
     let made = rw c.from-from.ensures at (c.begin.ensures.begins.made.whole whole stands) in
     let calls = calls_made asked c.begin.result in
-    let moved = subst (λ (after : WorldWhole). Stands c.begin.new.caller.world.now after.records after.most)
+    let moved = subst (λ (after : WorldWhole). WorldStands c.begin.new.caller.world.now after.records after.most)
     (in_a_run whole calls) made in
-    left_stands {last = c.begin.new.caller.world.now} (search rules) (subst (λ (answer : Vis). Stands c.begin.new.caller.world.now
+    left_stands {last = c.begin.new.caller.world.now} (search rules)
+    (subst (λ (answer : Vis). WorldStands c.begin.new.caller.world.now
     (run (job_at site) (call_events site.now site.node (calls_made asked answer)) records)
     (most_after (job_at site) (call_events site.now site.node (calls_made asked answer)) records most)) answered moved)
   where

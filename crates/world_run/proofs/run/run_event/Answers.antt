@@ -1,12 +1,12 @@
 use Rattle.gas_outside.specs.Buffered.{outbox}
 use Rattle.std.proofs.Common.{subst}
 use Rattle.endpoint_rules.specs.EndpointRules.{timed, transition}
-use Rattle.gas_world.specs.Events.{Steps, event_of, job_in}
+use Rattle.gas_world.specs.Events.{StepsInWorld, event_of, job_in}
 use Rattle.node_script.specs.Bodies.{script_meaning}
 use Rattle.node_script.specs.Registration.{JobHandlers, handlers_of}
 use Rattle.datagram_grammar.specs.Parameters.{Parameters}
-use Rattle.world_run.specs.RunText.{node_of}
-use Rattle.world_run.specs.ScheduleRun.{stage, event_plan, Writes, answer_text}
+use Rattle.world_run.specs.RunText.{node_of_event}
+use Rattle.world_run.specs.ScheduleRun.{run_stage, event_plan, WritesText, answer_text}
 use Rattle.world_run.proofs.ScheduleRuns.{event_told, nothing_told}
 use Rattle.world_run.proofs.ToldAnswers.{step_names}
 use Rattle.world_run.proofs.run.run_event.Goals as goal
@@ -30,16 +30,17 @@ returns-in_default g c =
     let event = event_of c.args.event.now in
     let steps =
     subst
-    (λ (handlers : JobHandlers). Steps (script_meaning handlers) c.args.world.now
+    (λ (handlers : JobHandlers). StepsInWorld (script_meaning handlers) c.args.world.now
     (transition c.args.at.now event c.step.result) c.step.new.self) c.handlers.ensures c.step.ensures.steps
     in
     let written_there = rw c.node_of.ensures at c.write_event_answer.ensures in
-    let old = stage g.K.Sink.taken g.K.Sink.faults c.args.world.now c.args.sink.now in
-    let new = stage g.K.Sink.taken g.K.Sink.faults c.step.new.self c.write_event_answer.new.sink in
+    let old = run_stage g.K.Sink.taken g.K.Sink.faults c.args.world.now c.args.sink.now in
+    let new = run_stage g.K.Sink.taken g.K.Sink.faults c.step.new.self c.write_event_answer.new.sink in
     let wrote = c.write_event_answer.result in
     let written =
     subst
-    (λ (settings : Parameters). Writes new.world (answer_text settings c.args.at.number (node_of event) c.step.result)
+    (λ (settings : Parameters). WritesText new.world
+    (answer_text settings c.args.at.number (node_of_event event) c.step.result)
     old.out new.out wrote) c.step.ensures.settings written_there
     in
     record {

@@ -2,7 +2,7 @@ use Rattle.gas_outside.specs.Buffered.{outbox}
 use Rattle.gas_world.specs.Events.{job_in}
 use Rattle.node_script.specs.Bodies.{script_meaning}
 use Rattle.node_script.specs.Registration.{handlers_of}
-use Rattle.world_run.specs.ScheduleRun.{stage, settle_plan}
+use Rattle.world_run.specs.ScheduleRun.{run_stage, settle_plan}
 use Rattle.world_run.proofs.ScheduleRuns.{settled_told, nothing_told}
 use Rattle.world_run.proofs.run.run_settle.Goals as goal
 
@@ -15,8 +15,8 @@ returns-in-Err-clause-runs g c =
 
 pub returns-in-Ok-clause-runs : goal.returns-in-Ok-clause-runs
 returns-in-Ok-clause-runs g c =
-    let old = stage g.K.Sink.taken g.K.Sink.faults c.args.world.now c.args.sink.now in
-    let new = stage g.K.Sink.taken g.K.Sink.faults c.settle.new.self c.write_numbered.new.sink in
+    let old = run_stage g.K.Sink.taken g.K.Sink.faults c.args.world.now c.args.sink.now in
+    let new = run_stage g.K.Sink.taken g.K.Sink.faults c.settle.new.self c.write_numbered.new.sink in
     settled_told (handlers_of c.args.script.now) c.handlers.result.now c.handlers.ensures old new c.args.at.number
     c.args.at.now c.args.rounds c.write_numbered.result _ c.from_wrote.ensures c.in-Ok.ensures.moves
     c.write_numbered.ensures

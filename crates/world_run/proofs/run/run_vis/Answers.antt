@@ -4,7 +4,7 @@ use Rattle.gas_world.specs.Events.{job_in}
 use Rattle.node_script.specs.Bodies.{script_meaning}
 use Rattle.node_script.specs.Registration.{handlers_of}
 use Rattle.world_run.specs.Schedules.{begin_asked}
-use Rattle.world_run.specs.ScheduleRun.{stage, begin_plan, RunsByScript}
+use Rattle.world_run.specs.ScheduleRun.{run_stage, begin_plan, RunsByScript}
 use Rattle.world_run.specs.declared.said.Said.{Said}
 use Rattle.world_run.proofs.ScheduleRuns.{begun_told, nothing_told}
 use Rattle.world_run.proofs.run.run_vis.Goals as goal
@@ -19,8 +19,8 @@ returns-in-NoMemory-clause-runs g c =
 
 pub returns-in_default-clause-runs : goal.returns-in_default-clause-runs
 returns-in_default-clause-runs g c =
-    let old = stage g.K.Sink.taken g.K.Sink.faults c.args.world.now c.args.sink.now in
-    let new = stage g.K.Sink.taken g.K.Sink.faults c.begin_pieces.new.world c.write_vis.new.sink in
+    let old = run_stage g.K.Sink.taken g.K.Sink.faults c.args.world.now c.args.sink.now in
+    let new = run_stage g.K.Sink.taken g.K.Sink.faults c.begin_pieces.new.world c.write_vis.new.sink in
     subst (λ (said : Said). RunsByScript c.args.script.now
     (begin_plan c.args.at.number c.args.at.now c.args.begin.now.node
     (begin_asked c.args.begin.now.thread c.args.begin.now.vis.now)) old new said) (sym c.from_wrote.ensures)

@@ -3,14 +3,14 @@ use Rattle.std.specs.Prelude.{option_copied}
 use Rattle.node_record.specs.Record.{Node}
 use Rattle.am_core.specs.Kept.{Local}
 use Rattle.am_core.specs.CoreState.{CoreState}
-use Rattle.am_core.specs.Stands.{Stands}
+use Rattle.am_core.specs.Stands.{CoreStands}
 use Rattle.node_record.specs.SlotMessages.{message_at}
 use Rattle.am_core.proofs.Readings.{request_read, reply_read}
 use Rattle.am_core.proofs.node.Core.message.Goals as goal
 
 pub returns-in-Request : goal.returns-in-Request
 returns-in-Request c =
-    subst (λ (e : CoreState). (r : Node Local) → Stands e r
+    subst (λ (e : CoreState). (r : Node Local) → CoreStands e r
     → option_copied c.bytes.result ≡ message_at e.settings e.me r c.args.at) c.self.view_is
     (λ r S. request_read _ r c.args.at (option_copied c.bytes.result) S c.in-Request.is
     (subst (λ n. c.args.at.peer < n) c.nodes.ensures.nodes c.if-at-nodes.false)
@@ -20,7 +20,7 @@ returns-in-Request c =
 
 pub returns-in-Reply : goal.returns-in-Reply
 returns-in-Reply c =
-    subst (λ (e : CoreState). (r : Node Local) → Stands e r
+    subst (λ (e : CoreState). (r : Node Local) → CoreStands e r
     → option_copied c.bytes-in-Reply.result ≡ message_at e.settings e.me r c.args.at) c.self.view_is
     (λ r S. reply_read _ r c.args.at (option_copied c.bytes-in-Reply.result) S c.in-Reply.is
     (subst (λ n. c.args.at.peer < n) c.nodes.ensures.nodes c.if-at-nodes.false)

@@ -1,17 +1,17 @@
 use Rattle.std.proofs.Common.{◌≡◌, ◌<◌, subst}
 use Rattle.node_record.specs.Record.{Node}
-use Rattle.node_record.specs.SlotMessages.{number_at}
+use Rattle.node_record.specs.SlotMessages.{number_in_slot}
 use Rattle.node_record.specs.declared.answer.Side.TheVariants as side
 use Rattle.am_core.specs.Kept.{Local}
 use Rattle.am_core.specs.CoreState.{CoreState}
-use Rattle.am_core.specs.Stands.{Stands}
+use Rattle.am_core.specs.Stands.{CoreStands}
 use Rattle.am_core.proofs.Readings.{number_read}
 use Rattle.am_core.proofs.node.Core.number.Goals as goal
 
 pub returns-in-Request : goal.returns-in-Request
 returns-in-Request c =
-    subst (λ (e : CoreState). (r : Node Local) → Stands e r
-    → c.number.result ≡ number_at e.settings e.me r c.args.at) c.self.view_is
+    subst (λ (e : CoreState). (r : Node Local) → CoreStands e r
+    → c.number.result ≡ number_in_slot e.settings e.me r c.args.at) c.self.view_is
     (λ r S. number_read _ r c.args.at side.Request c.number.result S c.in-Request.is
     (subst (λ n. c.args.at.peer < n) c.nodes.ensures.nodes c.if-at-nodes.false)
     c.if-at-self.false
@@ -20,8 +20,8 @@ returns-in-Request c =
 
 pub returns-in-Reply : goal.returns-in-Reply
 returns-in-Reply c =
-    subst (λ (e : CoreState). (r : Node Local) → Stands e r
-    → c.number-in-Reply.result ≡ number_at e.settings e.me r c.args.at) c.self.view_is
+    subst (λ (e : CoreState). (r : Node Local) → CoreStands e r
+    → c.number-in-Reply.result ≡ number_in_slot e.settings e.me r c.args.at) c.self.view_is
     (λ r S. number_read _ r c.args.at side.Reply c.number-in-Reply.result S c.in-Reply.is
     (subst (λ n. c.args.at.peer < n) c.nodes.ensures.nodes c.if-at-nodes.false)
     c.if-at-self.false

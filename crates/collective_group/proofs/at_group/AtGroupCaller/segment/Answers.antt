@@ -1,13 +1,13 @@
 use Rattle.std.proofs.Common.{ap, sym, subst, ◌∙◌}
 use Rattle.datagram_grammar.specs.Parameters.{Parameters}
 use Rattle.am_core.specs.Kept.{segment_of}
-use Rattle.gas_world.specs.Stands.{Stands}
+use Rattle.gas_world.specs.Stands.{WorldStands}
 use Rattle.gas_world.specs.WorldState.{WorldState}
 use Rattle.collective_group.proofs.at_group.AtGroupCaller.segment.Goals as goal
 
 pub returns : goal.returns
 returns g c = λ whole stands.
-    let here = subst (λ (world : WorldState). Stands world whole.group.records whole.most) (sym c.world.ensures)
+    let here = subst (λ (world : WorldState). WorldStands world whole.group.records whole.most) (sym c.world.ensures)
     stands.world in
     c.segment.ensures (whole.group.records c.args.self.now.node)
     (c.endpoint.ensures.stands whole.group.records whole.most here)

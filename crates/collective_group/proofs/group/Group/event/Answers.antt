@@ -1,7 +1,7 @@
 use Rattle.std.proofs.Common.{refl, subst}
 use Rattle.handler_rules.specs.Runs.{Meaning}
 use Rattle.endpoint_rules.specs.EndpointRules.{timed, transition}
-use Rattle.gas_world.specs.Events.{Steps, event_of}
+use Rattle.gas_world.specs.Events.{StepsInWorld, event_of}
 use Rattle.collective_group.specs.GroupState.{GroupState}
 use Rattle.collective_group.specs.Histories.{GrowsBeside}
 use Rattle.collective_group.proofs.Growing.{beside_grows}
@@ -9,7 +9,7 @@ use Rattle.collective_group.proofs.group.Group.event.Goals as goal
 
 pub returns-clause-steps : goal.returns-clause-steps
 returns-clause-steps g c =
-    subst (λ (one : GroupState). Steps (g.H.Handlers.meaning c.args.handlers.now) one.world
+    subst (λ (one : GroupState). StepsInWorld (g.H.Handlers.meaning c.args.handlers.now) one.world
     (transition c.args.now (event_of c.args.event.now) c.step.result) c.step.new.self) c.self.view_is
     c.step.ensures.steps
 

@@ -1,5 +1,5 @@
 use Rattle.std.proofs.Common.{sym, subst, ◌∙◌, ◌<◌, length, arith}
-use Rattle.drill_run.specs.Counting.{place_of}
+use Rattle.drill_run.specs.Counting.{count_place}
 use Rattle.world_run.specs.RunText.{world_words}
 use Rattle.drill_run.proofs.CountedWords.{AreCountedAs, counted_words}
 use Rattle.drill_run.proofs.Tallied.{tallies_one, tallies_other}
@@ -10,7 +10,7 @@ returns-in-Some-clause-tallies c = λ sight.
     let words = world_words sight c.args.answer.now in
     let told = subst (AreCountedAs words) (sym c.of_answer.ensures ∙ c.in-Some.is)
     (counted_words sight c.args.answer.now) in
-    let there : place_of c.in-Some.counted < length c.self.inside.counts = omega (
+    let there : count_place c.in-Some.counted < length c.self.inside.counts = omega (
       arith,
       c.place_of.ensures.place,
       c.place_of.ensures.within,

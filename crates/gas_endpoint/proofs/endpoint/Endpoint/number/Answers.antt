@@ -1,5 +1,5 @@
 use Rattle.std.proofs.Common.{◌≡◌, subst}
-use Rattle.node_record.specs.SlotMessages.{number_at}
+use Rattle.node_record.specs.SlotMessages.{number_in_slot}
 use Rattle.node_record.specs.Under.{under}
 use Rattle.endpoint_rules.specs.EndpointLocal.{core_of}
 use Rattle.gas_endpoint.specs.EndpointState.{EndpointState, ForItsRecord}
@@ -8,5 +8,5 @@ use Rattle.gas_endpoint.proofs.endpoint.Endpoint.number.Goals as goal
 pub returns : goal.returns
 returns c =
     subst (λ (e : EndpointState). ForItsRecord e (λ node.
-    c.number.result ≡ number_at e.core.settings e.core.me node c.args.at)) c.self.view_is
+    c.number.result ≡ number_in_slot e.core.settings e.core.me node c.args.at)) c.self.view_is
     (λ node S. c.number.ensures (under core_of node) S.core)

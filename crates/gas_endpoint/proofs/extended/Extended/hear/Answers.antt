@@ -3,7 +3,7 @@ use Rattle.datagram_grammar.specs.declared.note.BarrierNote.{BarrierNote}
 use Rattle.endpoint_rules.specs.BarrierCalls.{has_ranges}
 use Rattle.node_record.specs.declared.answer.Delivered.{Delivered}
 use Rattle.named_barrier.specs.Record.{hear}
-use Rattle.named_barrier.specs.Stands.{Stands}
+use Rattle.named_barrier.specs.Stands.{BarrierStands}
 use Rattle.gas_endpoint.specs.declared.extended.Extended.{Extended}
 use Rattle.gas_endpoint.specs.Parts.{Hears}
 use Rattle.gas_endpoint.proofs.extended.Extended.hear.Goals as goal
@@ -23,6 +23,6 @@ returns-in-Noted c =
           (subst (λ (n : BarrierNote). has_ranges n ≡ true) is c.note_of-note.ensures.ranged);
       transfers = λ operations S. S;
       barrier = λ nodes me kept S.
-          subst (λ (n : BarrierNote). Stands nodes me c.heard.new.self (hear kept n)) is
+          subst (λ (n : BarrierNote). BarrierStands nodes me c.heard.new.self (hear kept n)) is
           (c.heard.ensures.stands nodes me kept S);
     })

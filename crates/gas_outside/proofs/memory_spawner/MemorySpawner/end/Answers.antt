@@ -1,14 +1,14 @@
 use Rattle.std.proofs.Common.{◌≡◌, ◌<◌, ◌≤◌, true, false, refl, length, rules, arith, sym, ◌∙◌, ap, ◌++◌}
 use Rattle.gas_outside.specs.Memory.{is_listed}
-use Rattle.gas_outside.specs.MemorySpawner.{calls_of, output_of, status_of}
+use Rattle.gas_outside.specs.MemorySpawner.{told_calls, output_of, status_of}
 use Rattle.gas_outside.specs.Spawner.{is_pending}
 use Rattle.gas_outside.proofs.Children.{child_at, can_end_by, cannot_end_by}
 use Rattle.gas_outside.proofs.memory_spawner.MemorySpawner.end.Goals as goal
 
 pub index-requires : goal.index-requires
 index-requires c =
-    let pending : is_pending c.args.rank (calls_of c.self.inside.told.items) ≡ true =
-    ap (λ calls. is_pending c.args.rank (calls_of calls)) (sym c.deref-else-contains.ensures.value)
+    let pending : is_pending c.args.rank (told_calls c.self.inside.told.items) ≡ true =
+    ap (λ calls. is_pending c.args.rank (told_calls calls)) (sym c.deref-else-contains.ensures.value)
     ∙ sym c.is_pending.ensures ∙ c.if-not-is_pending.false in
     rw c.from.ensures (c.self.invariant.there c.args.rank pending)
 
@@ -16,8 +16,8 @@ pub returns-then-len-gt-MAX_OUTPUT : goal.returns-then-len-gt-MAX_OUTPUT
 returns-then-len-gt-MAX_OUTPUT c =
     let i = c.self.inside in
     let child = c.index.result.now in
-    let pending : is_pending c.args.rank (calls_of i.told.items) ≡ true =
-    ap (λ calls. is_pending c.args.rank (calls_of calls)) (sym c.deref-else-contains.ensures.value)
+    let pending : is_pending c.args.rank (told_calls i.told.items) ≡ true =
+    ap (λ calls. is_pending c.args.rank (told_calls calls)) (sym c.deref-else-contains.ensures.value)
     ∙ sym c.is_pending.ensures ∙ c.if-not-is_pending.false in
     let there = c.self.invariant.there c.args.rank pending in
     let count = i.children.ok.0 in
@@ -33,8 +33,8 @@ pub returns : goal.returns
 returns c =
     let i = c.self.inside in
     let child = c.index.result.now in
-    let pending : is_pending c.args.rank (calls_of i.told.items) ≡ true =
-    ap (λ calls. is_pending c.args.rank (calls_of calls)) (sym c.deref-else-contains.ensures.value)
+    let pending : is_pending c.args.rank (told_calls i.told.items) ≡ true =
+    ap (λ calls. is_pending c.args.rank (told_calls calls)) (sym c.deref-else-contains.ensures.value)
     ∙ sym c.is_pending.ensures ∙ c.if-not-is_pending.false in
     let there = c.self.invariant.there c.args.rank pending in
     let count = i.children.ok.0 in

@@ -1,6 +1,6 @@
 use Rattle.std.proofs.Common.{◌<◌, ◌-◌, sym, subst, arith, vec_len, vec_capacity}
 use Rattle.std.proofs.lemmas.List.{length-map}
-use Rattle.gas_outside.specs.MemorySpawner.{calls_of, HasRoom}
+use Rattle.gas_outside.specs.MemorySpawner.{told_calls, HasRoom}
 use Rattle.gas_outside.proofs.Children.{room_start, room_more, calls_push}
 use Rattle.gas_outside.proofs.memory_spawner.MemorySpawner.tell_start.Goals as goal
 
@@ -37,7 +37,7 @@ invariant_of-self-2 c =
     (vec_capacity ends - vec_len ends))
     (sym (calls_push c.reserve.new.self.items told.items _ c.push_reserved.ensures.items))
     (rw c.reserve.ensures.items
-    (room_start (vec_len i.children) c.args.rank c.args.port _ (calls_of i.told.items)
+    (room_start (vec_len i.children) c.args.rank c.args.port _ (told_calls i.told.items)
     (vec_capacity told - vec_len told) (vec_capacity ends - vec_len ends) within
     (omega (arith, c.in_ok-reserve.ensures.ok, c.len-ranks.ensures))
     (omega (arith, c.in_ok-reserve-2.ensures.ok, c.len-ranks.ensures)) c.self.invariant.there))

@@ -3,7 +3,7 @@ use Rattle.std.specs.List.{list_any}
 use Rattle.std.proofs.lemmas.List.{length-map}
 use Rattle.gas_outside.specs.Memory.{is_listed}
 use Rattle.gas_outside.specs.Faults.{one_more}
-use Rattle.gas_outside.specs.MemorySpawner.{told_of, calls_of, children_of}
+use Rattle.gas_outside.specs.MemorySpawner.{told_of, told_calls, children_of}
 use Rattle.gas_outside.specs.Spawner.{is_start_of, was_started}
 use Rattle.gas_outside.proofs.Children.{any_of_calls}
 use Rattle.gas_outside.proofs.memory_spawner.MemorySpawnerSpawner.start.Goals as goal
@@ -17,7 +17,7 @@ tell_start-requires-clause-fresh c =
 pub returns-clause-exact : goal.returns-clause-exact
 returns-clause-exact c =
     let i = c.self.inside in
-    let fresh : was_started c.args.rank (calls_of i.told.items) ≡ false =
+    let fresh : was_started c.args.rank (told_calls i.told.items) ≡ false =
     sym (any_of_calls (is_start_of c.args.rank) i.told.items)
     ∙ ap (list_any (λ call. is_start_of c.args.rank (told_of call))) (sym c.deref-else-from-len.ensures.value)
     ∙ sym c.was_started.ensures ∙ c.if-was_started.false in

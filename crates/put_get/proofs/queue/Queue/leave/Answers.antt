@@ -1,12 +1,12 @@
 use Rattle.std.proofs.Common.{◌≡◌, not, sym, ap, ◌∙◌, subst, arith}
 use Rattle.std.specs.List.{remove}
 use Rattle.std.proofs.lemmas.Option.{slice_get_within}
-use Rattle.put_get.specs.Queue.{IsQueue, IsAt, Leaves}
+use Rattle.put_get.specs.Queue.{IsQueue, WaitsAt, Leaves}
 use Rattle.put_get.proofs.Queueing.{queue_removed, queue_left, removed_some}
 use Rattle.put_get.proofs.queue.Queue.leave.Goals as goal
 
-at : (c : goal.After-remove) → IsAt c.self.inside.entries.items c.in-Some.index c.args.place
-at c = subst (λ xs. IsAt xs c.in-Some.index c.args.place) (sym c.self.view_is) c.in-Some.ensures.found
+at : (c : goal.After-remove) → WaitsAt c.self.inside.entries.items c.in-Some.index c.args.place
+at c = subst (λ xs. WaitsAt xs c.in-Some.index c.args.place) (sym c.self.view_is) c.in-Some.ensures.found
 
 is : (c : goal.After-remove) → c.remove.new.self.items ≡ remove c.self.inside.entries.items c.in-Some.index
 is c =

@@ -5,13 +5,13 @@ use Rattle.put_get.proofs.Members.{any_there, others_is}
 use Rattle.put_get.proofs.transfers.Transfers.fault.Goals as goal
 
 pub returns-then-not-has : goal.returns-then-not-has
-returns-then-not-has c operations choice test S M A =
+returns-then-not-has c operations S choice test M A =
     let there = any_there c.args.self.now.table operations choice test S.keeps A in
     rw (not-false (is_empty (chosen choice 1 operations))
     (sym there ∙ (sym (c.has.ensures test M) ∙ c.if-not-has.true))) refl
 
 pub returns-then-has : goal.returns-then-has
-returns-then-has c operations choice test S M A =
+returns-then-has c operations S choice test M A =
     let there = any_there c.args.self.now.table operations choice test S.keeps A in
     let others = others_is c.args.self.now.table operations choice test c.args.thread S.keeps A in
     rw (
@@ -20,7 +20,7 @@ returns-then-has c operations choice test S M A =
     ) refl
 
 pub returns : goal.returns
-returns c operations choice test S M A =
+returns c operations S choice test M A =
     let there = any_there c.args.self.now.table operations choice test S.keeps A in
     let others = others_is c.args.self.now.table operations choice test c.args.thread S.keeps A in
     rw (

@@ -10,5 +10,5 @@ returns c operations S =
     let table = c.args.self.now.table in
     let test = member_in table c.args.handle in
     let M = only test table c.mark_members.new.marks (c.mark_members.ensures (λ there. false) (no_marks table)) in
-    c.fault.ensures operations (members c.args.handle operations) test S M
+    c.fault.ensures operations S (members c.args.handle operations) test M
     (members_agree table operations c.args.handle S.keeps)

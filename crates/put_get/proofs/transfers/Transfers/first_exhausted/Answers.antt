@@ -2,7 +2,7 @@ use Rattle.std.proofs.Common.{true≢false, sym, ap, ◌∙◌, arith, inl, inr}
 use Rattle.std.proofs.lemmas.Bool.{cases_eq}
 use Rattle.put_get.specs.Syncs.{flag_at}
 use Rattle.put_get.specs.declared.table.Check.TheVariants.{UnissuedTo}
-use Rattle.put_get.specs.Table.{has}
+use Rattle.put_get.specs.Table.{has_passing}
 use Rattle.put_get.proofs.Marks.{flag_within}
 use Rattle.put_get.proofs.transfers.Transfers.first_exhausted.Goals as goal
 use Rattle.put_get.proofs.transfers.Transfers.first_exhausted.Goals.{else-flag_at-via-then-flag_at+else-has}
@@ -18,7 +18,8 @@ returns-then-has c test M = (
 pub loop-node-preserved : goal.loop-node-preserved
 loop-node-preserved c other test less M is = elim (cases_eq other c.loop-node.node) [
   | inl same ↦ elim c.else-flag_at.branch [
-    | else-flag_at-via-then-flag_at+else-has w ↦ ap (λ node. has test (UnissuedTo node) c.args.self.now.table) same
+    | else-flag_at-via-then-flag_at+else-has w ↦ ap
+        (λ node. has_passing test (UnissuedTo node) c.args.self.now.table) same
         ∙ (sym (w.has.ensures test M) ∙ w.if-has.false)
     | else-flag_at-via-else-flag_at w ↦
         absurd (true≢false

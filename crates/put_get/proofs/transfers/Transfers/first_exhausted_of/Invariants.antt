@@ -1,10 +1,10 @@
 use Rattle.std.proofs.Common.{◌≡◌, ◌<◌, ℕ, true, false}
 use Rattle.put_get.specs.Syncs.{flag_at}
 use Rattle.put_get.specs.declared.table.Check.TheVariants.{UnissuedTo}
-use Rattle.put_get.specs.Table.{has, picked}
+use Rattle.put_get.specs.Table.{has_passing, picked}
 use Rattle.put_get.proofs.transfers.Transfers.first_exhausted_of.Given as goal
 
 abbrev pub invariant-loop-node : goal.invariant-loop-node
 invariant-loop-node l =
     (other : ℕ) → other < l.node → flag_at l.exhausted other ≡ true
-    → has (picked l.pick) (UnissuedTo other) l.self.table ≡ false
+    → has_passing (picked l.pick) (UnissuedTo other) l.self.table ≡ false

@@ -14,7 +14,7 @@ pub unreachable-requires : goal.unreachable-requires
 unreachable-requires c = c.in_default.ensures.none c.requires.stands.0 c.requires.stands.1
 
 pub returns-clause-stands : goal.returns-clause-stands
-returns-clause-stands c can operations bytes S next free =
+returns-clause-stands c can bytes operations S next free =
     let first = next_is_first can operations c.args.next.now next in
     let found = c.in-Some.ensures.found in
     let at = c.in-Some-at.ensures in

@@ -7,18 +7,18 @@ use Rattle.put_get.proofs.Gone.{stands_gone}
 use Rattle.put_get.proofs.transfers.Transfers.sync_marked.Goals as goal
 
 pub returns-then-not-has-clause-answer : goal.returns-then-not-has-clause-answer
-returns-then-not-has-clause-answer c operations choice test S M A =
+returns-then-not-has-clause-answer c operations S choice test M A =
     rw (complete_is c.args.self.now.table operations choice test S.keeps A
     ∙ ap not (sym (c.has.ensures test M) ∙ c.if-not-has.true)) refl
 
 pub returns-then-not-has-clause-stands : goal.returns-then-not-has-clause-stands
-returns-then-not-has-clause-stands c operations choice test S M A =
+returns-then-not-has-clause-stands c operations S choice test M A =
     stands_gone c.args.self.now c.drop_marked.new.self operations choice test S A (c.drop_marked.ensures test M)
     (complete_is c.args.self.now.table operations choice test S.keeps A
     ∙ ap not (sym (c.has.ensures test M) ∙ c.if-not-has.true))
 
 pub returns-in-Some-clause-answer : goal.returns-in-Some-clause-answer
-returns-in-Some-clause-answer c operations choice test S M A =
+returns-in-Some-clause-answer c operations S choice test M A =
     rw (complete_is c.args.self.now.table operations choice test S.keeps A
     ∙ ap not (sym (c.has.ensures test M) ∙ c.if-not-has.false))
     (ap exhausted_or (exhausted_is (flag_at c.args.exhausted.now) c.args.self.now.table operations choice test
@@ -27,7 +27,7 @@ returns-in-Some-clause-answer c operations choice test S M A =
     (c.first_exhausted.ensures test M))))
 
 pub returns-in-None-clause-answer : goal.returns-in-None-clause-answer
-returns-in-None-clause-answer c operations choice test S M A =
+returns-in-None-clause-answer c operations S choice test M A =
     rw (complete_is c.args.self.now.table operations choice test S.keeps A
     ∙ ap not (sym (c.has.ensures test M) ∙ c.if-not-has.false))
     (ap exhausted_or (exhausted_is (flag_at c.args.exhausted.now) c.args.self.now.table operations choice test None S.keeps A

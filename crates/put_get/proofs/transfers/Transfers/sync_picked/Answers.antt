@@ -16,18 +16,18 @@ marked c =
     (c.mark.ensures (λ there. false) (no_marks c.args.self.now.table))
 
 pub returns-then-not-any_passes-clause-answer : goal.returns-then-not-any_passes-clause-answer
-returns-then-not-any_passes-clause-answer c operations choice S A =
+returns-then-not-any_passes-clause-answer c operations S choice A =
     rw (complete_is c.args.self.now.table operations choice (picked c.args.pick) S.keeps A
     ∙ ap not (sym (c.any_passes.ensures) ∙ c.if-not-any_passes.true)) refl
 
 pub returns-then-not-any_passes-clause-stands : goal.returns-then-not-any_passes-clause-stands
-returns-then-not-any_passes-clause-stands c operations choice S A =
+returns-then-not-any_passes-clause-stands c operations S choice A =
     stands_gone c.args.self.now c.drop_marked.new.self operations choice (picked c.args.pick) S A (c.drop_marked.ensures (picked c.args.pick) (marked c))
     (complete_is c.args.self.now.table operations choice (picked c.args.pick) S.keeps A
     ∙ ap not (sym (c.any_passes.ensures) ∙ c.if-not-any_passes.true))
 
 pub returns-in-Some-clause-answer : goal.returns-in-Some-clause-answer
-returns-in-Some-clause-answer c operations choice S A =
+returns-in-Some-clause-answer c operations S choice A =
     rw (complete_is c.args.self.now.table operations choice (picked c.args.pick) S.keeps A
     ∙ ap not (sym (c.any_passes.ensures) ∙ c.if-not-any_passes.false))
     (ap exhausted_or (exhausted_is (flag_at c.args.exhausted.now) c.args.self.now.table operations choice (picked c.args.pick)
@@ -36,7 +36,7 @@ returns-in-Some-clause-answer c operations choice S A =
     (c.first_exhausted_of.ensures))))
 
 pub returns-in-None-clause-answer : goal.returns-in-None-clause-answer
-returns-in-None-clause-answer c operations choice S A =
+returns-in-None-clause-answer c operations S choice A =
     rw (complete_is c.args.self.now.table operations choice (picked c.args.pick) S.keeps A
     ∙ ap not (sym (c.any_passes.ensures) ∙ c.if-not-any_passes.false))
     (ap exhausted_or (exhausted_is (flag_at c.args.exhausted.now) c.args.self.now.table operations choice (picked c.args.pick) None S.keeps A

@@ -16,7 +16,7 @@ returns-in-Some-clause-answer c operations S =
     rw (ne_eqb handle 0 c.if-handle-eq0.false)
     (ap (λ found. unless_fault found
     (sync_answer (flag_at c.args.exhausted.now) (chosen (members handle operations) 1 operations)))
-    (sym c.in-Some.is ∙ c.fault.ensures operations (members handle operations) (member_in table handle) S M A))
+    (sym c.in-Some.is ∙ c.fault.ensures operations S (members handle operations) (member_in table handle) M A))
 
 pub returns-in-Some-clause-stands : goal.returns-in-Some-clause-stands
 returns-in-Some-clause-stands c operations S =
@@ -28,7 +28,7 @@ returns-in-Some-clause-stands c operations S =
     rw (ne_eqb handle 0 c.if-handle-eq0.false)
     (here_stays c.args.self.now operations c.args.thread (chosen (members handle operations) 1 operations)
     (members handle operations) c.in-Some.fault
-    (sym (c.fault.ensures operations (members handle operations) (member_in table handle) S M A) ∙ c.in-Some.is) S)
+    (sym (c.fault.ensures operations S (members handle operations) (member_in table handle) M A) ∙ c.in-Some.is) S)
 
 pub returns-in-None-clause-answer : goal.returns-in-None-clause-answer
 returns-in-None-clause-answer c operations S =
@@ -38,10 +38,10 @@ returns-in-None-clause-answer c operations S =
     (c.mark_members.ensures (λ there. false) (no_marks table)) in
     let A = members_agree table operations handle S.keeps in
     rw (ne_eqb handle 0 c.if-handle-eq0.false)
-    (c.sync_marked.ensures.answer operations (members handle operations) (member_in table handle) S M A
+    (c.sync_marked.ensures.answer operations S (members handle operations) (member_in table handle) M A
     ∙ ap (λ found. unless_fault found
     (sync_answer (flag_at c.args.exhausted.now) (chosen (members handle operations) 1 operations)))
-    (sym c.in-None.is ∙ c.fault.ensures operations (members handle operations) (member_in table handle) S M A))
+    (sym c.in-None.is ∙ c.fault.ensures operations S (members handle operations) (member_in table handle) M A))
 
 pub returns-in-None-clause-stands : goal.returns-in-None-clause-stands
 returns-in-None-clause-stands c operations S =
@@ -51,4 +51,4 @@ returns-in-None-clause-stands c operations S =
     (c.mark_members.ensures (λ there. false) (no_marks table)) in
     let A = members_agree table operations handle S.keeps in
     rw (ne_eqb handle 0 c.if-handle-eq0.false)
-    (c.sync_marked.ensures.stands operations (members handle operations) (member_in table handle) S M A)
+    (c.sync_marked.ensures.stands operations S (members handle operations) (member_in table handle) M A)

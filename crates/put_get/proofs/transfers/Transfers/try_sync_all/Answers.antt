@@ -16,7 +16,7 @@ returns-in-None-clause-answer c operations S =
     let table = c.args.self.now.table in
     let test = member_of_any table c.args.handles.now in
     rw (sym (c.first_fault.ensures operations S) ∙ c.in-None.is)
-    (c.sync_marked.ensures.answer operations (members_of c.args.handles.now operations) test S
+    (c.sync_marked.ensures.answer operations S (members_of c.args.handles.now operations) test
     (only test table c.mark_all.new.marks (c.mark_all.ensures (λ there. false) (no_marks table)))
     (any_agrees table operations c.args.handles.now S.keeps))
 
@@ -24,6 +24,6 @@ pub returns-in-None-clause-stands : goal.returns-in-None-clause-stands
 returns-in-None-clause-stands c operations S =
     let table = c.args.self.now.table in
     let test = member_of_any table c.args.handles.now in
-    c.sync_marked.ensures.stands operations (members_of c.args.handles.now operations) test S
+    c.sync_marked.ensures.stands operations S (members_of c.args.handles.now operations) test
     (only test table c.mark_all.new.marks (c.mark_all.ensures (λ there. false) (no_marks table)))
     (any_agrees table operations c.args.handles.now S.keeps)

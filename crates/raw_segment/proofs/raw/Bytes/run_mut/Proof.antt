@@ -39,7 +39,7 @@ use denote.Struct.Owning.{shape}
 use denote.Struct.Struct.{Struct}
 use denote.Triple.Walked.{Stays, walk_of, says, stay_dropped, Goes-dropped, Goes-spent_ref, ends_at}
 use Rattle.raw_segment.specs.Bytes.{part, with_lent}
-use Rattle.raw_segment.specs.RawLending.{with_run}
+use Rattle.raw_segment.specs.RawLending.{with_written_run}
 use Rattle.raw_segment.proofs.Cells.{bytes_at, Round, mid_out, mid_in}
 use Rattle.raw_segment.proofs.Lists.{three, part_long, with_lent_is, same_long}
 use Rattle.raw_segment.specs.declared.raw.Bytes.{Bytes}
@@ -83,7 +83,7 @@ module _ {M : Type 1} {𝓤 : Ura M} (𝓛 : Logic 𝓤) (h : Bytes) (b o m p : 
 
   back : (ws : List ℕ) → length ws ≡ length (part xs i n)
       → ent 𝓤 (sep 𝓤 (sem 𝓛 (cells (mem u8) ws m (i + p))) (sem 𝓛 Rest))
-      (sem 𝓛 ((mem R).own_at (with_run h i n ws) b o))
+      (sem 𝓛 ((mem R).own_at (with_written_run h i n ws) b o))
   unfolding part_of
   back ws l =
       let zs : List ℕ = with_lent xs i n ws in let ys : List ℕ = before ++ (ws ++ behind) in
@@ -99,7 +99,8 @@ module _ {M : Type 1} {𝓤 : Ura M} (𝓛 : Logic 𝓤) (h : Bytes) (b o m p : 
       rewrite ! 0 (λ (z : Ptr). ‵ (lies_at (Array u8 (length zs)) full_share z zs)) (sym at) refl $
       flt_i ! (length zs) (2 ^ 63) (subst (λ (k : ℕ). k < 2 ^ 63) (sym long) small) $ fjoin ! $
       move ! (1 ∷ []) $ fsplit ! $ move ! (0 ∷ 2 ∷ 1 ∷ []) $ fjoin ! $ move ! (1 ∷ 0 ∷ []) $ fjoin ! $
-      fpack ! (List Val) (λ us. fsep (cell_at full_share R.mir us b o) (R.own_val (with_run h i n ws) us)) word $ done !
+      fpack ! (List Val)
+      (λ us. fsep (cell_at full_share R.mir us b o) (R.own_val (with_written_run h i n ws) us)) word $ done !
 
 pub run_mut_spec : {M : Type 1} → statement M
 run_mut_spec 𝓤 𝓛 𝓜 𝓡 wired =
@@ -126,7 +127,7 @@ run_mut_spec 𝓤 𝓛 𝓜 𝓡 wired =
     move ! (1 ∷ []) $ peeks ! R _ (shows 𝓛 R) h us (λ is. fsplit ! $ move ! (1 ∷ []) $ fsplit ! $ flt_l ! (λ small.
     in_a_block ! h.at (λ p. lies_at (Array u8 (length xs)) full_share p xs) (id⊢ 𝓤 _) (λ m p e.
     let run : List ℕ = part xs i n in let ln : length run ≡ n = part_long xs i n inside in
-    let F : List ℕ → Bytes = with_run h i n in
+    let F : List ℕ → Bytes = with_written_run h i n in
     let room : Room u8 (length run) = (omega (arith, ln, fn), omega (arith, ln, small, inside)) in
     let word = lowers.val_is h us is ∙ ap (λ (z : Ptr). lowers.lowered (record h { at = z }) ∷ []) e in
     -- [the bytes; what the fields own; the struct's cell; the open borrow, in three entries]
