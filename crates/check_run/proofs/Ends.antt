@@ -16,7 +16,7 @@ use Rattle.gas_outside.proofs.Outboxes.{past_done, past_fault}
 use Rattle.gasnet_trace.specs.declared.output.Output.{Output}
 use Rattle.gasnet_trace.specs.declared.trace.Trace.{Trace}
 use Rattle.job_text.specs.declared.job.Job.{Job as JobState}
-use Rattle.node_script.specs.Lines.{line_text, spell}
+use Rattle.text_lines.specs.LineTexts.{line_text, spell}
 use Rattle.world_run.specs.RunText.{lines_of_node, violations}
 use Rattle.check_run.specs.Merging.{AreReports, IsReportOf, texts_of}
 use Rattle.check_run.specs.Statuses.{AreOver, is_over}

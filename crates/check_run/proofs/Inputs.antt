@@ -25,8 +25,8 @@ use Rattle.job_text.specs.Refusals.{FrontMeans, IsFrontMeant, IsNoMemory}
 use Rattle.job_text.specs.Refusals as refusals
 use Rattle.job_text.specs.declared.fault.JobFault.{JobFault}
 use Rattle.job_text.specs.declared.fault.JobFault.TheVariants as jobfaults
-use Rattle.job_text.specs.declared.fault.JobWhy.{JobWhy}
-use Rattle.job_text.specs.declared.fault.JobWhy.TheVariants as why
+use Rattle.text_lines.specs.declared.why.LineWhy.{LineWhy}
+use Rattle.text_lines.specs.declared.why.LineWhy.TheVariants as why
 use Rattle.job_text.specs.declared.job.Job.{Job as JobState}
 use Rattle.check_run.specs.CheckInputs.{AreOutputs, AreRead, AreUnread, HaveTraces, InputText, IsBadInput, IsInput}
 use Rattle.check_run.specs.CheckInputs.{IsTraceOf, OutputsOf, OutputsRead, StandThere, after_output, all_of, bad_behind}
@@ -396,7 +396,7 @@ other_there job size bytes other others one text =
 pub is_input : (job : JobState) (size : ℕ) (bytes : List ℕ) (outputs : List Output) (end : ℕ)
     → BeginsWith job size bytes → IsOneFront job size bytes → length bytes ≤ input_limit
     → AreRead (place_of job bytes size) outputs end → length bytes ≤ end
-    → ((line : ℕ) (reason : JobWhy) → FrontMeans bytes line reason → ⊥) → IsInput bytes job outputs
+    → ((line : ℕ) (reason : LineWhy) → FrontMeans bytes line reason → ⊥) → IsInput bytes job outputs
 is_input job size bytes outputs end front one within read all good = record {
   unrefused = λ line reason means.
       elim means [
@@ -431,9 +431,9 @@ is_input job size bytes outputs end front one within read all good = record {
 }
 
 -- an output is bad
-pub bad_output : (job : JobState) (size : ℕ) (bytes : List ℕ) (line : ℕ) (reason : JobWhy) → BeginsWith job size bytes
+pub bad_output : (job : JobState) (size : ℕ) (bytes : List ℕ) (line : ℕ) (reason : LineWhy) → BeginsWith job size bytes
     → IsOneFront job size bytes → length bytes ≤ input_limit → AreUnread (place_of job bytes size) line reason
-    → ((at : ℕ) (why : JobWhy) → FrontMeans bytes at why → ⊥) → IsBadInput bytes line reason
+    → ((at : ℕ) (why : LineWhy) → FrontMeans bytes at why → ⊥) → IsBadInput bytes line reason
 bad_output job size bytes line reason front one short unread good = record {
   within = short;
   line_is = inr (record {
@@ -462,7 +462,7 @@ bad_output job size bytes line reason front one short unread good = record {
 pub bad_behind_all : (job : JobState) (size : ℕ) (bytes : List ℕ) (outputs : List Output) (end : ℕ)
     → BeginsWith job size bytes → IsOneFront job size bytes → length bytes ≤ input_limit
     → AreRead (place_of job bytes size) outputs end → end < length bytes
-    → ((at : ℕ) (reason : JobWhy) → FrontMeans bytes at reason → ⊥)
+    → ((at : ℕ) (reason : LineWhy) → FrontMeans bytes at reason → ⊥)
     → IsBadInput bytes (lines_in (take end bytes) + 1) why.After
 bad_behind_all job size bytes outputs end front one short read more good = record {
   within = short;
@@ -512,10 +512,10 @@ bad_behind_all job size bytes outputs end front one short read more good = recor
     }
 
 -- the job's text is bad
-pub bad_front : (bytes : List ℕ) (line : ℕ) (reason : JobWhy) → length bytes ≤ input_limit
+pub bad_front : (bytes : List ℕ) (line : ℕ) (reason : LineWhy) → length bytes ≤ input_limit
     → front_of bytes ≡ Err (record { line = line; why = reason }) → FrontMeans bytes line reason
     → ((job : JobState) (size : ℕ) → BeginsWith job size bytes → ⊥)
-    → ((at : ℕ) (why : JobWhy) → FrontMeans bytes at why → (line ≡ at) × (reason ≡ why)) → IsBadInput bytes line reason
+    → ((at : ℕ) (why : LineWhy) → FrontMeans bytes at why → (line ≡ at) × (reason ≡ why)) → IsBadInput bytes line reason
 bad_front bytes line reason short read means none only = record {
   within = short;
   line_is = inl (record { read = read; means = means });
@@ -539,11 +539,11 @@ begins_within job size bytes front =
     subst (λ (n : ℕ). n ≤ length bytes) (sym front.long) (front_within (job_text job) front.rest bytes front.text)
 
 -- the reader of the front refused it
-pub front_refused : (bytes : List ℕ) (fault : JobFault) (line : ℕ) (reason : JobWhy) → length bytes ≤ input_limit
+pub front_refused : (bytes : List ℕ) (fault : JobFault) (line : ℕ) (reason : LineWhy) → length bytes ≤ input_limit
     → fault ≡ jobfaults.Bad line reason
     → IsNoMemory fault ⊎ refusals.IsBadFront bytes fault → IsFrontMeant bytes fault
     → IsNoMemory fault ⊎ ((job : JobState) (size : ℕ) → BeginsWith job size bytes → ⊥)
-    → ((at : ℕ) (why : JobWhy) → FrontMeans bytes at why → IsNoMemory fault ⊎ (fault ≡ jobfaults.Bad at why))
+    → ((at : ℕ) (why : LineWhy) → FrontMeans bytes at why → IsNoMemory fault ⊎ (fault ≡ jobfaults.Bad at why))
     → IsBadInput bytes line reason
 front_refused bytes jobfaults.NoMemory line reason short is bad meant none told = absurd (cc)
 front_refused bytes (jobfaults.Bad n why) line reason short is (inl memory) meant none told = absurd memory
@@ -557,14 +557,14 @@ front_refused bytes (jobfaults.Bad n why) line reason short is (inr bad) meant (
       | inr same ↦ same_bad line at reason other (sym is ∙ same)
     ])
   where
-    same_bad : (line at : ℕ) (reason other : JobWhy) → jobfaults.Bad line reason ≡ jobfaults.Bad at other
+    same_bad : (line at : ℕ) (reason other : LineWhy) → jobfaults.Bad line reason ≡ jobfaults.Bad at other
         → (line ≡ at) × (reason ≡ other)
     same_bad line at reason other same = (cc, cc)
 
 -- the reader of the outputs behind it refused one
 pub behind_refused : (job : JobState) (size : ℕ) (bytes : List ℕ) (fault : InputFault) → BeginsWith job size bytes
     → IsOneFront job size bytes → length bytes ≤ input_limit → ReadsOutputs (place_of job bytes size) (Err fault)
-    → ((at : ℕ) (why : JobWhy) → FrontMeans bytes at why → ⊥) → IsRefused bytes fault
+    → ((at : ℕ) (why : LineWhy) → FrontMeans bytes at why → ⊥) → IsRefused bytes fault
 behind_refused job size bytes (faults.Bad line reason) front one short unread good =
     bad_output job size bytes line reason front one short unread good
 behind_refused job size bytes faults.ReadFault front one short unread good = unread

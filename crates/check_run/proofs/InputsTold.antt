@@ -13,7 +13,7 @@ use Rattle.gasnet_trace.proofs.LineLaws.{ok_is}
 use Rattle.gasnet_trace.proofs.LineRefused.{means_no_text, means_once}
 use Rattle.gasnet_trace.proofs.OutputLaws.{output_again}
 use Rattle.gasnet_trace.proofs.OutputRefused.{output_has}
-use Rattle.job_text.specs.declared.fault.JobWhy.{JobWhy}
+use Rattle.text_lines.specs.declared.why.LineWhy.{LineWhy}
 use Rattle.job_text.specs.declared.job.Job.{Job as JobState}
 use Rattle.job_text.specs.JobText.{BeginsWith}
 use Rattle.check_run.specs.CheckInputs.{AreOutputs, HasMoreBehind, IsBadOutput, IsMeantBehind, OutputsOf, lines_until}
@@ -116,7 +116,7 @@ module _ (place : OutputsOf) (fits : place.job.settings.version < 2 ^ 64) where
   version = place.job.settings.version
 
   -- where an output is bad, none stands
-  none_there : (line : ℕ) (reason : JobWhy) (bad : IsBadOutput place line reason) (output : Output) (x : List ℕ)
+  none_there : (line : ℕ) (reason : LineWhy) (bad : IsBadOutput place line reason) (output : Output) (x : List ℕ)
       → IsOutput (wanted_of place.job (0 + length bad.outputs)) output
       → bad.rest ≡ output_text version output ++ x → ⊥
   none_there line reason bad output x is text =
@@ -125,11 +125,11 @@ module _ (place : OutputsOf) (fits : place.job.settings.version < 2 ^ 64) where
       means_no_text (output_kind wanted) (output_has wanted fits) bad.rest bad.own_line bad.own_reason output x bad.means
       (subst (λ (n : ℕ). IsOutput (wanted_of place.job n) output) here is) text
 
-  abbrev SameBad : (line other : ℕ) → (reason why : JobWhy) → Type 0
+  abbrev SameBad : (line other : ℕ) → (reason why : LineWhy) → Type 0
   SameBad line other reason why = (line ≡ other) × (reason ≡ why)
 
   -- where two of the same outputs are bad
-  bad_same : (line other : ℕ) (reason why : JobWhy) (one : IsBadOutput place line reason)
+  bad_same : (line other : ℕ) (reason why : LineWhy) (one : IsBadOutput place line reason)
       (two : IsBadOutput place other why) → one.outputs ≡ two.outputs → one.rest ≡ two.rest
       → SameBad line other reason why
   bad_same line other reason why one two outputs rests =
@@ -143,7 +143,7 @@ module _ (place : OutputsOf) (fits : place.job.settings.version < 2 ^ 64) where
         one.reason_is ∙ ap why_of same.1 ∙ sym two.reason_is,
       )
 
-  pub bad_once : (line other : ℕ) (reason why : JobWhy) → IsBadOutput place line reason → IsBadOutput place other why
+  pub bad_once : (line other : ℕ) (reason why : LineWhy) → IsBadOutput place line reason → IsBadOutput place other why
       → SameBad line other reason why
   bad_once line other reason why one two =
       by (compared place.job 0 one.outputs two.outputs one.rest two.rest fits one.are two.are (sym one.text ∙ two.text))
@@ -154,7 +154,7 @@ module _ (place : OutputsOf) (fits : place.job.settings.version < 2 ^ 64) where
       by (Second it) = absurd (none_there line reason one it.output _ it.is it.rest_is)
 
   -- where outputs of all nodes stand there, none is bad
-  pub none_bad : (outputs : List Output) (rest : List ℕ) (line : ℕ) (reason : JobWhy)
+  pub none_bad : (outputs : List Output) (rest : List ℕ) (line : ℕ) (reason : LineWhy)
       → length outputs ≡ place.job.settings.nodes → AreOutputs place.job 0 outputs
       → drop place.from place.bytes ≡ outputs_text version outputs ++ rest → IsBadOutput place line reason → ⊥
   none_bad outputs rest line reason count are text bad =
@@ -188,7 +188,7 @@ module _ (place : OutputsOf) (fits : place.job.settings.version < 2 ^ 64) where
           absurd (omega (arith, count, other, long))
 
 -- what is meant behind the one job's text
-pub meant_there : (job : JobState) (size : ℕ) (bytes : List ℕ) (line : ℕ) (reason : JobWhy)
+pub meant_there : (job : JobState) (size : ℕ) (bytes : List ℕ) (line : ℕ) (reason : LineWhy)
     → ((other : JobState) (long : ℕ) → BeginsWith other long bytes → (other ≡ job) × (long ≡ size))
     → IsMeantBehind bytes line reason
     → IsBadOutput (record { job = job; bytes = bytes; from = size }) line reason

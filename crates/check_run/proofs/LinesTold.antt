@@ -13,7 +13,7 @@ use Rattle.endpoint_rules.specs.EndpointLocal.{EndpointLocal}
 use Rattle.endpoint_rules.specs.EndpointRules.{OtherCall}
 use Rattle.endpoint_rules.specs.declared.answer.Answer.{Answer}
 use Rattle.job_text.specs.declared.job.Job.{Job as JobState}
-use Rattle.job_text.specs.declared.job.ScriptStep.{ScriptStep}
+use Rattle.step_text.specs.declared.steps.ScriptStep.{ScriptStep}
 use Rattle.node_machine.specs.Laws.{IsRunOf, order_by}
 use Rattle.node_machine.specs.NodeState.{script_job, scripts_at, steps_of_thread}
 use Rattle.node_record.specs.Record.{Node}
@@ -22,7 +22,7 @@ use Rattle.node_runs.specs.Order.{NodeEntry, own_entries, after_all, replay}
 use Rattle.node_runs.specs.WorldRun.{opening_machines}
 use Rattle.node_runs.specs.declared.script_answer.ScriptAnswer.{ScriptAnswer}
 use Rattle.node_runs.proofs.Fronting.{after_own}
-use Rattle.node_script.specs.Lines.{Line}
+use Rattle.text_lines.specs.LineTexts.{Line}
 use Rattle.plain_world.specs.World.{Timed}
 use Rattle.check_run.specs.StepLines.{StepAt, machine_after, answer_of_step, lines_of_answer, step_line, step_lines}
 use Rattle.check_run.specs.StepLines.{steps_from}

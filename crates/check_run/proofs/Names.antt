@@ -31,10 +31,10 @@ use Rattle.endpoint_rules.specs.declared.answer.Local.TheVariants as local
 use Rattle.put_get.specs.declared.operation.Handle.{Handle}
 use Rattle.gas_endpoint.specs.EndpointState.{EndpointState, EndpointStands}
 use Rattle.job_text.specs.declared.job.Job.{Job as JobState}
-use Rattle.job_text.specs.declared.job.ScriptStep.{ScriptStep}
-use Rattle.job_text.specs.declared.job.ScriptStep.TheVariants as step
-use Rattle.job_text.specs.declared.job.WaitingStep.{WaitingStep}
-use Rattle.job_text.specs.declared.job.WaitingStep.TheVariants as waiting
+use Rattle.step_text.specs.declared.steps.ScriptStep.{ScriptStep}
+use Rattle.step_text.specs.declared.steps.ScriptStep.TheVariants as step
+use Rattle.step_text.specs.declared.steps.WaitingStep.{WaitingStep}
+use Rattle.step_text.specs.declared.steps.WaitingStep.TheVariants as waiting
 use Rattle.machine.specs.declared.entry.Entry.{Entry}
 use Rattle.node_machine.specs.NodeState.{script_job}
 use Rattle.node_runs.specs.Actions.{Form, Once, Again, Until, Twice, Looks, Several, Progress, begins, calls_of}
@@ -57,8 +57,8 @@ use Rattle.gas_collectives.specs.CollectivesState.{CollectivesState}
 use Rattle.gas_collectives.specs.declared.answers.EndAnswer.{EndAnswer}
 use Rattle.gas_collectives.specs.declared.answers.StartAnswer.{StartAnswer}
 use Rattle.gas_collectives.specs.declared.answers.StepAnswer.{StepAnswer}
-use Rattle.job_text.specs.declared.job.CollectiveText.{CollectiveText}
-use Rattle.job_text.specs.declared.job.CollectiveText.TheVariants as text
+use Rattle.step_text.specs.declared.steps.CollectiveText.{CollectiveText}
+use Rattle.step_text.specs.declared.steps.CollectiveText.TheVariants as text
 use Rattle.node_record.specs.declared.answer.Asked.{Asked}
 use Rattle.node_record.specs.declared.answer.Asked.TheVariants as asked
 use Rattle.script_steps.specs.Forms.{call_part, calls_of_all, collective_form, in_one_try, nothing_there, site_of}

@@ -7,7 +7,7 @@ use Rattle.node_machine.specs.NodeState.{NodeState, script_job, state_of}
 use Rattle.node_record.specs.Held.{held}
 use Rattle.node_runs.specs.Most.{most_in}
 use Rattle.node_runs.specs.Order.{replay}
-use Rattle.node_script.specs.Lines.{Line}
+use Rattle.text_lines.specs.LineTexts.{Line}
 use Rattle.check_run.specs.Recording.{RecordedState, ScriptedNode, entry_lines, opening_record, record_steps}
 use Rattle.check_run.specs.StepLines.{machine_after, most_held, step_lines}
 use Rattle.check_run.specs.Machines.{first_machine}

@@ -3,7 +3,7 @@ use Rattle.std.proofs.Common.{List, refl}
 use Rattle.gas_outside.specs.Buffered.{Outbox, GathersFront}
 use Rattle.gasnet_trace.specs.declared.trace.Trace.{Trace}
 use Rattle.job_text.specs.declared.job.Job.{Job as JobState}
-use Rattle.node_script.specs.Lines.{spell}
+use Rattle.text_lines.specs.LineTexts.{spell}
 use Rattle.world_run.specs.declared.said.Said.TheVariants as said
 use Rattle.world_run.proofs.LinesWritten.{lines_said, no_lines_yet}
 use Rattle.check_run.specs.StepLines.{ends_from, run_lines, steps_from}

@@ -5,11 +5,12 @@ use Rattle.gas_outside.specs.Buffered.{Outbox, Gathers, GathersAll, GathersFront
 use Rattle.gas_outside.specs.declared.writing.Wrote.{Wrote}
 use Rattle.gas_outside.specs.declared.writing.Wrote.TheVariants as wrote
 use Rattle.gas_outside.proofs.Outboxes.{gathers_first, gathers_then}
-use Rattle.node_script.specs.Lines.{Line, Word, line_text, spaced}
+use Rattle.text_lines.specs.Lines.{Word}
+use Rattle.text_lines.specs.LineTexts.{Line, line_text, spaced_word}
 
 first_word : (first second : Word) (words : Line)
     → line_text (first ∷ second ∷ words) ≡ first ++ ((32 ∷ []) ++ line_text (second ∷ words))
-first_word first second words = append_assoc first (32 ∷ (second ++ flat_map spaced words)) (10 ∷ [])
+first_word first second words = append_assoc first (32 ∷ (second ++ flat_map spaced_word words)) (10 ∷ [])
 
 -- a front of the rank went in
 pub rank_cut : (first second : Word) (words : Line) (a b : Outbox) → GathersFront a b first

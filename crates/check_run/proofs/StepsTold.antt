@@ -14,9 +14,9 @@ use Rattle.endpoint_rules.specs.EndpointLocal.{EndpointLocal}
 use Rattle.endpoint_rules.specs.EndpointRules.{OtherCall, RecordEvent, Records, at_the_opening}
 use Rattle.endpoint_rules.specs.declared.answer.Answer.{Answer}
 use Rattle.job_text.specs.declared.job.Job.{Job as JobState}
-use Rattle.job_text.specs.declared.job.ScriptStep.{ScriptStep}
-use Rattle.job_text.specs.declared.job.ScriptStep.TheVariants as step
-use Rattle.job_text.specs.declared.job.WaitingStep.TheVariants as waiting
+use Rattle.step_text.specs.declared.steps.ScriptStep.{ScriptStep}
+use Rattle.step_text.specs.declared.steps.ScriptStep.TheVariants as step
+use Rattle.step_text.specs.declared.steps.WaitingStep.TheVariants as waiting
 use Rattle.node_machine.specs.NodeState.{script_job}
 use Rattle.node_record.specs.Record.{Node}
 use Rattle.node_runs.specs.Actions.{Form, Once, Again, Until, Twice, Looks, Several, OwnScripts, Progress, calls_of, ended_by}
@@ -32,7 +32,7 @@ use Rattle.plain_world.specs.World.{Timed, run}
 use Rattle.collective_area.specs.declared.shape.Shape.{Shape}
 use Rattle.collective_steps.specs.Parts.{first_part, later_part}
 use Rattle.gas_collectives.specs.CollectivesState.{CollectivesState}
-use Rattle.job_text.specs.declared.job.CollectiveText.{CollectiveText}
+use Rattle.step_text.specs.declared.steps.CollectiveText.{CollectiveText}
 use Rattle.script_steps.specs.Forms.{collective_form, nothing_there, step_form, waits_of, tried_while, whole_form}
 use Rattle.check_run.specs.StepLines.{StepAt, machine_after, answer_of_step}
 use Rattle.check_run.specs.StepsTold.{EndsAsTried, EndsAtCall, EndsLater, IsCallMade, IsMadeSince, before_of}

@@ -24,7 +24,7 @@ use Rattle.node_record.specs.Record.{Node as Record}
 use Rattle.node_runs.specs.Turn.{is_some_there, try_of, turn}
 use Rattle.node_script.specs.AnswersTold.{sight_at}
 use Rattle.node_script.specs.AnswerWords.{sight_of}
-use Rattle.node_script.specs.Lines.{Line, line_text, spell}
+use Rattle.text_lines.specs.LineTexts.{Line, line_text, spell}
 use Rattle.node_script.specs.Registration.{handlers_of, registered}
 use Rattle.node_runs.specs.declared.script_answer.ScriptAnswer.{ScriptAnswer}
 use Rattle.check_run.specs.Merging.{IsOfItsJob}

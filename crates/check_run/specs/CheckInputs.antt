@@ -22,8 +22,8 @@ use Rattle.gasnet_trace.specs.declared.trace.Trace.{Trace}
 use Rattle.job_text.specs.JobReading.{BadLine, front_of, limit}
 use Rattle.job_text.specs.JobText.{BeginsWith, IsJob, job_text}
 use Rattle.job_text.specs.Refusals.{FrontMeans}
-use Rattle.job_text.specs.declared.fault.JobWhy.{JobWhy}
-use Rattle.job_text.specs.declared.fault.JobWhy.TheVariants as why
+use Rattle.text_lines.specs.declared.why.LineWhy.{LineWhy}
+use Rattle.text_lines.specs.declared.why.LineWhy.TheVariants as why
 use Rattle.job_text.specs.declared.job.Job.{Job as JobState}
 use Rattle.check_run.specs.declared.input.InputFault.{InputFault}
 use Rattle.check_run.specs.declared.input.InputFault.TheVariants as faults
@@ -72,7 +72,7 @@ traces_in outputs = map (λ output. output.trace) outputs
 -- ---- reading it: the first bad line, and the first reason that applies to it
 
 -- a reason why a line of an output is bad, as a reason why one of an input is
-abbrev pub why_of : TraceWhy → JobWhy
+abbrev pub why_of : TraceWhy → LineWhy
 why_of whys.Early = why.Early
 why_of whys.Text = why.Text
 why_of whys.Form = why.Form
@@ -116,7 +116,7 @@ all_of job bytes (Ok read) =
 all_of job bytes (Err bad) = Err bad
 
 -- the job's text at the front is bad at this line
-pub record IsBadFront (bytes : List ℕ) (line : ℕ) (reason : JobWhy) : Type 0 where
+pub record IsBadFront (bytes : List ℕ) (line : ℕ) (reason : LineWhy) : Type 0 where
   pub read : front_of bytes ≡ Err (record { line = line; why = reason })
   pub means : FrontMeans bytes line reason
 
@@ -132,7 +132,7 @@ lines_until bytes rest = lines_in (take (length bytes - length rest) bytes)
 
 -- outputs of the first nodes stand there, and behind them the bytes are refused as an output of the next node, by this
 -- line of it for this reason (`Means` of `gasnet_trace`)
-pub record IsBadOutput (place : OutputsOf) (line : ℕ) (reason : JobWhy) : Type 0 where
+pub record IsBadOutput (place : OutputsOf) (line : ℕ) (reason : LineWhy) : Type 0 where
   pub outputs : List Output
   pub fewer : length outputs < place.job.settings.nodes
   pub are : AreOutputs place.job 0 outputs
@@ -145,7 +145,7 @@ pub record IsBadOutput (place : OutputsOf) (line : ℕ) (reason : JobWhy) : Type
   pub reason_is : reason ≡ why_of own_reason
 
 -- outputs of all nodes stand there, and this is the line behind them
-pub record HasMoreBehind (place : OutputsOf) (line : ℕ) (reason : JobWhy) : Type 0 where
+pub record HasMoreBehind (place : OutputsOf) (line : ℕ) (reason : LineWhy) : Type 0 where
   pub outputs : List Output
   pub nodes : length outputs ≡ place.job.settings.nodes
   pub are : AreOutputs place.job 0 outputs
@@ -156,7 +156,7 @@ pub record HasMoreBehind (place : OutputsOf) (line : ℕ) (reason : JobWhy) : Ty
   pub reason_is : reason ≡ why.After
 
 -- what is meant of a line behind the text of a job
-pub record IsMeantBehind (bytes : List ℕ) (line : ℕ) (reason : JobWhy) : Type 0 where
+pub record IsMeantBehind (bytes : List ℕ) (line : ℕ) (reason : LineWhy) : Type 0 where
   pub job : JobState
   pub size : ℕ
   pub front : BeginsWith job size bytes
@@ -164,11 +164,11 @@ pub record IsMeantBehind (bytes : List ℕ) (line : ℕ) (reason : JobWhy) : Typ
       ⊎ HasMoreBehind (record { job = job; bytes = bytes; from = size }) line reason
 
 -- what a refusal of an input at a line means, apart from the reader
-abbrev pub InputMeans : List ℕ → (line : ℕ) → JobWhy → Type 0
+abbrev pub InputMeans : List ℕ → (line : ℕ) → LineWhy → Type 0
 InputMeans bytes line reason = FrontMeans bytes line reason ⊎ IsMeantBehind bytes line reason
 
 -- the bytes begin with a job's text, and an output behind it is bad at this line, or it is a line behind all outputs
-pub record IsBadBehind (bytes : List ℕ) (line : ℕ) (reason : JobWhy) : Type 0 where
+pub record IsBadBehind (bytes : List ℕ) (line : ℕ) (reason : LineWhy) : Type 0 where
   pub job : JobState
   pub size : ℕ
   pub front : BeginsWith job size bytes
@@ -206,7 +206,7 @@ pub record AreRead (place : OutputsOf) (outputs : List Output) (end : ℕ) : Typ
   pub within : end ≤ length place.bytes
 
 -- none were read, by this line, for this reason, and none stand there
-pub record AreUnread (place : OutputsOf) (line : ℕ) (reason : JobWhy) : Type 0 where
+pub record AreUnread (place : OutputsOf) (line : ℕ) (reason : LineWhy) : Type 0 where
   pub read : outputs_at place.job place.bytes place.from 0 place.job.settings.nodes
       ≡ Err (record { line = line; why = reason })
   pub means : IsBadOutput place line reason
@@ -221,18 +221,18 @@ ReadsOutputs place (Err faults.NoMemory) = Unit {0}
 
 -- the bytes are an input, this one and no other, and none of their lines is refused
 pub record IsInput (bytes : List ℕ) (job : JobState) (outputs : List Output) : Type 0 where
-  pub unrefused : (line : ℕ) (reason : JobWhy) → InputMeans bytes line reason → ⊥
+  pub unrefused : (line : ℕ) (reason : LineWhy) → InputMeans bytes line reason → ⊥
   pub text : InputText job outputs bytes
   pub one : (other : JobState) (others : List Output) → InputText other others bytes
       → (other ≡ job) × (others ≡ outputs)
   pub traces : HaveTraces job outputs
 
 -- the bytes are none, by this line, for this reason, and by no other, and aren't too many
-pub record IsBadInput (bytes : List ℕ) (line : ℕ) (reason : JobWhy) : Type 0 where
+pub record IsBadInput (bytes : List ℕ) (line : ℕ) (reason : LineWhy) : Type 0 where
   pub within : length bytes ≤ input_limit
   pub line_is : IsBadFront bytes line reason ⊎ IsBadBehind bytes line reason
   pub means : InputMeans bytes line reason
-  pub only : (other : ℕ) (why : JobWhy) → InputMeans bytes other why → (line ≡ other) × (reason ≡ why)
+  pub only : (other : ℕ) (why : LineWhy) → InputMeans bytes other why → (line ≡ other) × (reason ≡ why)
   pub none : IsNoInput bytes
 
 -- why bytes weren't read as an input; reading them, the source doesn't fail
@@ -249,7 +249,7 @@ pub record TakesInput (old new : Option (List ℕ)) (job : JobState) (outputs : 
   pub is_input : IsInput bytes job outputs
 
 -- it was read past the limit; or to its end, and its bytes are no input, by this line, for this reason
-pub record TakesNone (old new : Option (List ℕ)) (line : ℕ) (reason : JobWhy) : Type 0 where
+pub record TakesNone (old new : Option (List ℕ)) (line : ℕ) (reason : LineWhy) : Type 0 where
   pub bytes : List ℕ
   pub read : Consumes old new bytes
   pub none : ((input_limit < length bytes) × (line ≡ 0) × (reason ≡ why.Size))

@@ -9,7 +9,7 @@ use Rattle.gasnet_trace.specs.declared.merging.MergeFault.TheVariants as faults
 use Rattle.gasnet_trace.specs.declared.trace.Trace.{Trace}
 use Rattle.job_text.specs.declared.job.Job.{Job as JobState}
 use Rattle.node_machine.specs.Kept.{MachineKept}
-use Rattle.node_script.specs.Lines.{spell}
+use Rattle.text_lines.specs.LineTexts.{spell}
 use Rattle.node_script.specs.Registration.{handlers_of, registered}
 use Rattle.check_run.specs.Recording.{RecorderKept, RecorderStands, opening_record}
 use Rattle.check_run.specs.StepLines.{most_held, step_lines}

@@ -4,7 +4,7 @@ use Rattle.std.specs.Prelude.{◌≡◌, ◌≤◌, ℕ, Bool, true, max, List, 
 use Rattle.gas_outside.specs.Buffered.{Gathering}
 use Rattle.gas_outside.specs.Memory.{SinkState}
 use Rattle.job_text.specs.declared.job.Job.{Job as JobState}
-use Rattle.job_text.specs.declared.job.ScriptStep.{ScriptStep}
+use Rattle.step_text.specs.declared.steps.ScriptStep.{ScriptStep}
 use Rattle.machine.specs.declared.entry.Entry.{Entry}
 use Rattle.machine.specs.Replay.{Steps}
 use Rattle.node_machine.specs.Kept.{MachineKept}
@@ -12,7 +12,7 @@ use Rattle.node_machine.specs.NodeState.{NodeState, NodeStands, after_turn, open
 use Rattle.node_record.specs.Held.{held}
 use Rattle.node_runs.specs.Actions.{OwnScripts}
 use Rattle.node_runs.specs.Turn.{MachineState}
-use Rattle.node_script.specs.Lines.{Line, spell}
+use Rattle.text_lines.specs.LineTexts.{Line, spell}
 use Rattle.endpoint_rules.specs.EndpointLocal.{EndpointLocal}
 use Rattle.endpoint_rules.specs.declared.answer.Answer.{Answer}
 use Rattle.endpoint_rules.specs.declared.answer.Answer.TheVariants as answers

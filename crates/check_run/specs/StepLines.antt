@@ -4,7 +4,7 @@ use Rattle.std.specs.Prelude.{ℕ, ◌+◌, ◌==◌, ◌||◌, Bool, false, not
 use Rattle.endpoint_rules.specs.EndpointLocal.{EndpointLocal}
 use Rattle.gasnet_trace.specs.declared.trace.Trace.{Trace}
 use Rattle.job_text.specs.declared.job.Job.{Job as JobState}
-use Rattle.job_text.specs.declared.job.ScriptStep.{ScriptStep}
+use Rattle.step_text.specs.declared.steps.ScriptStep.{ScriptStep}
 use Rattle.machine.specs.declared.entry.Entry.{Entry}
 use Rattle.node_machine.specs.NodeState.{script_job}
 use Rattle.node_record.specs.Record.{Node as Record}
@@ -15,7 +15,7 @@ use Rattle.node_runs.specs.declared.script_answer.ScriptAnswer.{ScriptAnswer}
 use Rattle.node_runs.specs.declared.script_answer.ScriptAnswer.TheVariants as said
 use Rattle.node_script.specs.AnswerWords.{Sight, answer_words, sight_of, vis_words}
 use Rattle.node_script.specs.CollectiveWords.{collective_words}
-use Rattle.node_script.specs.Lines.{Line}
+use Rattle.text_lines.specs.LineTexts.{Line}
 use Rattle.node_script.specs.declared.collective_texts.CollectiveAnswer.TheVariants as collective
 use Rattle.world_run.specs.RunText.{lines_of_node, violations}
 use Rattle.check_run.specs.Machines.{first_machine, last_record}

@@ -8,7 +8,7 @@ use Rattle.node_runs.specs.declared.script_answer.ScriptAnswer.{ScriptAnswer}
 use Rattle.node_runs.specs.declared.script_answer.ScriptAnswer.TheVariants as said
 use Rattle.node_script.specs.AnswersTold.{NamesWhatIs, sight_at}
 use Rattle.node_script.specs.AnswerWords.{Sight}
-use Rattle.node_script.specs.Lines.{Line, spell}
+use Rattle.text_lines.specs.LineTexts.{Line, spell}
 use Rattle.check_run.specs.StepLines.{script_words}
 use Rattle.check_run.specs.declared.steps.StepAt.{StepAt}
 

@@ -5,7 +5,7 @@ use Rattle.gas_outside.specs.Buffered.{Outbox, Gathers, GathersFront}
 use Rattle.gas_endpoint.specs.EndpointState.{EndpointState}
 use Rattle.gasnet_trace.specs.declared.trace.Trace.{Trace}
 use Rattle.job_text.specs.declared.job.Job.{Job as JobState}
-use Rattle.node_script.specs.Lines.{Line, spell}
+use Rattle.text_lines.specs.LineTexts.{Line, spell}
 use Rattle.world_run.specs.LinesWritten.{LinesUpTo}
 use Rattle.check_run.specs.StepLines.{is_violated, run_lines}
 use Rattle.check_run.specs.Struck.{struck_traces}

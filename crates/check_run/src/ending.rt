@@ -6,7 +6,7 @@ ghost use Rattle.gas_endpoint.specs.EndpointState.{ForItsRecord};
 ghost use Rattle.gas_outside.specs.Buffered.{GathersAll, outbox};
 ghost use Rattle.gasnet_trace.specs.declared.trace.Trace.{Trace as TraceState};
 ghost use Rattle.job_text.specs.declared.job.Job.{Job as JobState};
-ghost use Rattle.node_script.specs.Lines.{spell};
+ghost use Rattle.text_lines.specs.LineTexts.{spell};
 ghost use Rattle.world_run.specs.RunText.{lines_of_node};
 ghost use Rattle.check_run.specs.Merging.{AreReports, texts_of};
 ghost use Rattle.check_run.specs.StepLines.{ends_from, is_violated};

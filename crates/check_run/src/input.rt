@@ -8,9 +8,10 @@ ghost use Rattle.check_run.specs.CheckInputs.{lines_in, wanted_of, why_of};
 
 use gas_outside::{MAX_OUTPUT, ReadAll, Source, read_all};
 use gasnet_trace::{Output, TraceFault, TraceWhy, Wanted, read_output};
-use job_text::{Job, JobFault, JobWhy, read_job_front};
+use job_text::{Job, JobFault, read_job_front};
 use std::alloc::Global;
 use std::fmt;
+use text_lines::LineWhy;
 
 /// The most bytes of an input: as many as the output of a child may have.
 pub const LIMIT: usize = MAX_OUTPUT;
@@ -32,7 +33,7 @@ pub enum InputFault {
         /// The first bad line, counted from 1 over the whole input; 0 for its size or that of the job's text.
         line: u32,
         /// The first reason that applies to it.
-        why: JobWhy,
+        why: LineWhy,
     },
     /// The source failed.
     ReadFault,
@@ -51,14 +52,14 @@ impl fmt::Display for InputFault {
 }
 
 /// A reason why a line of an output is bad, as one why a line of an input is.
-fn why_of(why: TraceWhy) -> JobWhy
+fn why_of(why: TraceWhy) -> LineWhy
     ensures { result ≡ why_of why }
 {
     match why {
-        TraceWhy::Early => JobWhy::Early,
-        TraceWhy::Text => JobWhy::Text,
-        TraceWhy::Form => JobWhy::Form,
-        TraceWhy::Value => JobWhy::Value,
+        TraceWhy::Early => LineWhy::Early,
+        TraceWhy::Text => LineWhy::Text,
+        TraceWhy::Form => LineWhy::Form,
+        TraceWhy::Value => LineWhy::Value,
     }
 }
 
@@ -139,7 +140,7 @@ pub fn input_of(alloc: Global, bytes: &[u8]) -> Result<CheckInput, InputFault>
     if end < bytes.len() {
         let (read, _) = bytes.split_at(end);
         let line = lines_in(read) as u32 + 1;
-        let why = JobWhy::After;
+        let why = LineWhy::After;
         return Err(InputFault::Bad { line, why });
     }
     Ok(CheckInput { job, outputs })
@@ -162,7 +163,7 @@ pub fn read_input<S: Source>(alloc: Global, source: &mut S) -> Result<CheckInput
         ReadAll::Bytes(bytes) => input_of(alloc, &bytes),
         ReadAll::TooLong => Err(InputFault::Bad {
             line: 0,
-            why: JobWhy::Size,
+            why: LineWhy::Size,
         }),
         ReadAll::Fault => Err(InputFault::ReadFault),
         ReadAll::NoMemory => Err(InputFault::NoMemory),

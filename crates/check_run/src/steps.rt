@@ -4,7 +4,7 @@ ghost use Rattle.std.specs.Prelude.{◌≡◌, ◌∷◌, decimal};
 ghost use Rattle.gas_endpoint.specs.EndpointState.{ForItsRecord};
 ghost use Rattle.gas_outside.specs.Buffered.{GathersAll, outbox};
 ghost use Rattle.node_script.specs.AnswersTold.{sight_at};
-ghost use Rattle.node_script.specs.Lines.{line_text};
+ghost use Rattle.text_lines.specs.LineTexts.{line_text};
 ghost use Rattle.check_run.specs.Recording.{text_of};
 ghost use Rattle.check_run.specs.StepLines.{script_words};
 ghost use Rattle.check_run.specs.StepsWritten.{CanTellStep, NamesWhatIsThere, TellsStep};

@@ -8,7 +8,7 @@ use Rattle.datagram_grammar.specs.Parameters.{AreInRange, credits_of, credits_in
 use Rattle.job_text.specs.Refusals.{IsNoMemory}
 use Rattle.job_text.specs.declared.fault.JobFault.{JobFault}
 use Rattle.job_text.specs.declared.fault.JobFault.TheVariants as faults
-use Rattle.job_text.specs.declared.fault.JobWhy.{JobWhy}
+use Rattle.text_lines.specs.declared.why.LineWhy.{LineWhy}
 use Rattle.job_text.specs.declared.job.HandlerText.{HandlerText}
 use Rattle.job_text.specs.declared.job.Job.{Job as JobState}
 use Rattle.job_text.specs.JobText.{AreApart, IsHandler, IsJob, JobText, job_text, with_first_pairs}
@@ -109,7 +109,7 @@ unfolding digits
 bare_text = record { is_job = bare_is; text = refl; within = lit≤ tt }
 
 -- so it is never bad
-pub never_bad : (fault : JobFault) (line : ℕ) (why : JobWhy) (bytes : List ℕ) → fault ≡ faults.Bad line why
+pub never_bad : (fault : JobFault) (line : ℕ) (why : LineWhy) (bytes : List ℕ) → fault ≡ faults.Bad line why
     → JobText bare_job bytes → IsNoMemory fault ⊎ ((job : JobState) → JobText job bytes → ⊥) → ⊥
 never_bad fault line why bytes is text (inl memory) = subst IsNoMemory is memory
 never_bad fault line why bytes is text (inr none) = none bare_job text

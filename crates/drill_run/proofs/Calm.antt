@@ -63,13 +63,13 @@ use Rattle.endpoint_rules.specs.declared.answer.Answer.{Answer}
 use Rattle.endpoint_rules.specs.declared.answer.Begun.{Begun}
 use Rattle.endpoint_rules.specs.declared.answer.Begun.TheVariants as begun
 use Rattle.gas_world.specs.Settling.{WorldJob}
-use Rattle.job_text.specs.declared.job.Action.{Action}
-use Rattle.job_text.specs.declared.job.Action.TheVariants as action
-use Rattle.job_text.specs.declared.job.Operand.TheVariants as operand
-use Rattle.job_text.specs.declared.job.ReplyAction.TheVariants as reply
+use Rattle.step_text.specs.declared.steps.Action.{Action}
+use Rattle.step_text.specs.declared.steps.Action.TheVariants as action
+use Rattle.line_forms.specs.declared.values.Operand.TheVariants as operand
+use Rattle.step_text.specs.declared.steps.ReplyAction.TheVariants as reply
 use Rattle.node_script.specs.Bodies.{act, acts, operand_at, operand_value, script_meaning}
 use Rattle.node_script.specs.Registration.{handlers_of, registered}
-use Rattle.job_text.specs.declared.job.TimedEvent.{TimedEvent}
+use Rattle.step_text.specs.declared.steps.TimedEvent.{TimedEvent}
 use Rattle.world_run.specs.Schedules.{Nodes, nodes_after, nodes_behind, opening_nodes, world_job}
 use Rattle.world_run.proofs.LinesRun.{schedule_runs}
 use Rattle.world_run.specs.RunText.{any_violation, is_violated, run_records, violations}

@@ -31,7 +31,7 @@ use Rattle.gas_world.specs.declared.event.WorldAnswer.TheVariants as world_answe
 use Rattle.node_script.specs.AnswerWords.{Sight, asked_words, delivered_words, lock_words, unlock_words, begun_words}
 use Rattle.node_script.specs.AnswerWords.{issued_words, synced_words, region_words, notified_words, barrier_words}
 use Rattle.node_script.specs.AnswerWords.{local_words, ticked_words}
-use Rattle.node_script.specs.Lines.{Line}
+use Rattle.text_lines.specs.LineTexts.{Line}
 use Rattle.world_run.specs.RunText.{world_words}
 use Rattle.drill_run.specs.Counting.{asked_as, delivered_as, ticked_as, counted_by, is_counted}
 use Rattle.drill_run.specs.Summary.{begins_with, counted_word}

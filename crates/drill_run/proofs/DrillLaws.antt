@@ -4,7 +4,7 @@ use Rattle.std.specs.List.{AllByRecursion, slice_get}
 use Rattle.std.proofs.lemmas.Option.{same_Some}
 use Rattle.datagram_grammar.specs.Parameters.{Parameters}
 use Rattle.gas_world.specs.Settling.{WorldJob}
-use Rattle.job_text.specs.declared.job.TimedEvent.{TimedEvent}
+use Rattle.step_text.specs.declared.steps.TimedEvent.{TimedEvent}
 use Rattle.world_run.specs.Schedules.{Nodes, nodes_behind, opening_nodes, world_job}
 use Rattle.node_script.specs.ScriptInvariant.{AreWithin, IsWithin}
 use Rattle.world_run.specs.RunLaws.{RunLaws}

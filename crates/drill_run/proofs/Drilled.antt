@@ -16,8 +16,8 @@ use Rattle.gas_world.specs.declared.event.WorldAnswer.{WorldAnswer}
 use Rattle.gas_world.specs.declared.event.WorldAnswer.TheVariants as answers
 use Rattle.gas_world.proofs.Moving.{same_job, stands_both}
 use Rattle.job_text.specs.declared.job.Job.{Job as JobState}
-use Rattle.job_text.specs.declared.job.ScheduledEvent.{ScheduledEvent}
-use Rattle.job_text.specs.declared.job.TimedEvent.{TimedEvent}
+use Rattle.step_text.specs.declared.steps.ScheduledEvent.{ScheduledEvent}
+use Rattle.step_text.specs.declared.steps.TimedEvent.{TimedEvent}
 use Rattle.node_script.specs.AnswerWords.{Sight, sight_of}
 use Rattle.node_script.specs.Bodies.{script_meaning}
 use Rattle.node_script.specs.Registration.{handlers_of}

@@ -8,7 +8,7 @@ use Rattle.gas_outside.specs.Buffered.{Outbox, Gathers, GathersAll}
 use Rattle.gas_outside.specs.declared.writing.Wrote.{Wrote}
 use Rattle.gas_outside.specs.declared.writing.Wrote.TheVariants as wrote
 use Rattle.gas_outside.proofs.Outboxes.{gathers_first, gathers_then}
-use Rattle.node_script.specs.Lines.{Line, spell, line_text}
+use Rattle.text_lines.specs.LineTexts.{Line, spell, line_text}
 use Rattle.world_run.specs.LinesWritten.{SaysLines, said_of}
 use Rattle.drill_run.specs.Summary.{all_counted, count_lines, counted_word}
 use Rattle.drill_run.specs.declared.counts.Counted.{Counted}

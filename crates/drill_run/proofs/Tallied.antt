@@ -7,7 +7,7 @@ use Rattle.std.proofs.lemmas.Bool.Decides.{eqb_tells}
 use Rattle.std.proofs.lemmas.Grind.{get_or-set_at}
 use Rattle.std.proofs.lemmas.List.{get_or-set_other}
 use Rattle.std.proofs.lemmas.List.Sums.{sum_by-append}
-use Rattle.node_script.specs.Lines.{Line}
+use Rattle.text_lines.specs.LineTexts.{Line}
 use Rattle.drill_run.specs.Counting.{Tallies, count_in, is_counted, count_place}
 use Rattle.drill_run.specs.Summary.{begins_with, count_of, counted_word}
 use Rattle.drill_run.specs.declared.counts.Counted.{Counted}

@@ -10,7 +10,7 @@ use Rattle.endpoint_rules.specs.declared.answer.Answer.{Answer}
 use Rattle.endpoint_rules.specs.declared.answer.Answer.TheVariants as answers
 use Rattle.gas_world.specs.declared.event.WorldAnswer.{WorldAnswer}
 use Rattle.gas_world.specs.declared.event.WorldAnswer.TheVariants as world_answers
-use Rattle.node_script.specs.Lines.{Line}
+use Rattle.text_lines.specs.LineTexts.{Line}
 use Rattle.drill_run.specs.Summary.{count_of}
 use Rattle.drill_run.specs.declared.counts.Counted.{Counted}
 use Rattle.drill_run.specs.declared.counts.Counted.TheVariants as counted

@@ -6,16 +6,16 @@ use Rattle.endpoint_rules.specs.EndpointRules.{Records}
 use Rattle.datagram_grammar.specs.Parameters.{Parameters}
 use Rattle.handler_rules.specs.declared.rules.Role.TheVariants as role
 use Rattle.gas_world.specs.Settling.{WorldJob}
-use Rattle.job_text.specs.declared.job.Action.TheVariants as action
+use Rattle.step_text.specs.declared.steps.Action.TheVariants as action
 use Rattle.job_text.specs.declared.job.HandlerText.{HandlerText}
 use Rattle.put_get.specs.declared.operation.ImplicitKinds.TheVariants as implicit
 use Rattle.job_text.specs.declared.job.Job.{Job as JobState}
-use Rattle.job_text.specs.declared.job.Operand.TheVariants as operand
-use Rattle.job_text.specs.declared.job.ReplyAction.TheVariants as reply
-use Rattle.job_text.specs.declared.job.ScheduledCall.TheVariants as call
-use Rattle.job_text.specs.declared.job.ScheduledEvent.{ScheduledEvent}
-use Rattle.job_text.specs.declared.job.ScheduledEvent.TheVariants as scheduled
-use Rattle.job_text.specs.declared.job.TimedEvent.{TimedEvent}
+use Rattle.line_forms.specs.declared.values.Operand.TheVariants as operand
+use Rattle.step_text.specs.declared.steps.ReplyAction.TheVariants as reply
+use Rattle.call_text.specs.declared.scheduled.ScheduledCall.TheVariants as call
+use Rattle.step_text.specs.declared.steps.ScheduledEvent.{ScheduledEvent}
+use Rattle.step_text.specs.declared.steps.ScheduledEvent.TheVariants as scheduled
+use Rattle.step_text.specs.declared.steps.TimedEvent.{TimedEvent}
 use Rattle.put_get.specs.declared.operation.Transfer.TheVariants as transfer
 use Rattle.world_run.specs.Schedules.{Nodes, nodes_behind, opening_nodes, world_job}
 use Rattle.drill_run.specs.Draws.{round_at}

@@ -2,8 +2,9 @@
 use Rattle.std.specs.Prelude.{ℕ, Bool, false, List, [], ◌∷◌, ◌++◌, map, codes, decimal, count_by}
 use Rattle.std.specs.Str.{bytes_eq}
 use Rattle.gas_world.specs.Settling.{WorldJob}
-use Rattle.job_text.specs.declared.job.TimedEvent.{TimedEvent}
-use Rattle.node_script.specs.Lines.{Word, Line}
+use Rattle.step_text.specs.declared.steps.TimedEvent.{TimedEvent}
+use Rattle.text_lines.specs.Lines.{Word}
+use Rattle.text_lines.specs.LineTexts.{Line}
 use Rattle.world_run.specs.Schedules.{Nodes, nodes_after, opening_nodes, world_job}
 use Rattle.world_run.specs.RunText.{line_words, end_lines, run_records, run_most}
 use Rattle.drill_run.specs.Rounds.{drill_job, drill_schedule, drill_settings}

@@ -2,7 +2,7 @@
 
 ghost use Rattle.std.specs.Prelude.{◌≡◌, ◌∷◌, ◌++◌, ℕ, [], List, codes, decimal};
 ghost use Rattle.gas_outside.specs.Buffered.{GathersAll, outbox};
-ghost use Rattle.node_script.specs.Lines.{line_text, spell};
+ghost use Rattle.text_lines.specs.LineTexts.{line_text, spell};
 ghost use Rattle.world_run.specs.RunText.{end_lines};
 ghost use Rattle.world_run.specs.ScheduleRun.{WritesText};
 ghost use Rattle.drill_run.specs.Counting.{count_in};
@@ -12,7 +12,7 @@ use crate::counts::{Counted, Counts};
 use gas_outside::{BufferedSink, Sink, Wrote};
 use gas_world::World;
 use itoa::Buffer;
-use node_script::write_line;
+use text_lines::write_line;
 use world_run::write_nodes;
 
 /// Writes the line of the seed.

@@ -9,7 +9,8 @@ use Rattle.gasnet_trace.specs.declared.fault.TraceFault.{TraceFault}
 use Rattle.gasnet_trace.specs.declared.fault.TraceFault.TheVariants as faults
 use Rattle.gasnet_trace.specs.declared.fault.TraceWhy.{TraceWhy}
 use Rattle.gasnet_trace.specs.declared.fault.TraceWhy.TheVariants.{Early, Text, Form, Value}
-use Rattle.gasnet_trace.specs.Lines.{Word, Line, IsPlain, IsWord, IsLine, joined, line_text, spell}
+use Rattle.text_lines.specs.Lines.{Word}
+use Rattle.text_lines.specs.LineTexts.{Line, IsPlain, IsWord, IsLine, joined, line_text, spell}
 use Rattle.gasnet_trace.specs.TraceReading.{BadLine, ◌>>=◌, at_line, is_plain, is_word, line_at, read_line, words_of}
 use Rattle.gasnet_trace.specs.TraceRead.{FailsAt}
 use Rattle.gasnet_trace.specs.LineRefusals.{Before, EndsEarly, HasNoText, IsAtFault, IsFront, IsMeant, IsNoFront, IsNoMemory}

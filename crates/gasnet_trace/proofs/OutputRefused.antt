@@ -16,7 +16,7 @@ use Rattle.gasnet_trace.specs.declared.output.NodeStatus.{NodeStatus}
 use Rattle.gasnet_trace.specs.declared.output.NodeStatus.TheVariants as status
 use Rattle.gasnet_trace.specs.declared.output.Output.{Output}
 use Rattle.gasnet_trace.specs.declared.output.Wanted.{Wanted}
-use Rattle.gasnet_trace.specs.Lines.{Line, IsLine, IsWord, joined, line_text, spell}
+use Rattle.text_lines.specs.LineTexts.{Line, IsLine, IsWord, joined, line_text, spell}
 use Rattle.gasnet_trace.specs.LineRefusals.{IsMeant, Means, TextKind}
 use Rattle.gasnet_trace.specs.OutputReading.{output_at, status_at, status_of}
 use Rattle.gasnet_trace.specs.OutputRefusals.{AtEntries, AtStatus, HasForm, IsStatus, MayStand, OutputPlace, output_kind}

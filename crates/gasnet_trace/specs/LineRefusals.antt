@@ -5,7 +5,7 @@ use Rattle.gasnet_trace.specs.declared.fault.TraceFault.{TraceFault}
 use Rattle.gasnet_trace.specs.declared.fault.TraceFault.TheVariants.{Bad, NoMemory}
 use Rattle.gasnet_trace.specs.declared.fault.TraceWhy.{TraceWhy}
 use Rattle.gasnet_trace.specs.declared.fault.TraceWhy.TheVariants.{Early, Text, Form, Value}
-use Rattle.gasnet_trace.specs.Lines.{Line, IsLine, line_text, spell}
+use Rattle.text_lines.specs.LineTexts.{Line, IsLine, line_text, spell}
 
 -- texts of one kind: what they are of, and the text of each; and of a line behind others, whether it has a form of its
 -- place, and whether it may stand there in a text of the kind

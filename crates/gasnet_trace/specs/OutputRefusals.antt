@@ -6,7 +6,7 @@ use Rattle.gasnet_trace.specs.declared.output.NodeStatus.TheVariants as status
 use Rattle.gasnet_trace.specs.declared.output.Output.{Output}
 use Rattle.gasnet_trace.specs.declared.output.Wanted.{Wanted}
 use Rattle.gasnet_trace.specs.LineRefusals.{TextKind}
-use Rattle.gasnet_trace.specs.Lines.{Line}
+use Rattle.text_lines.specs.LineTexts.{Line}
 use Rattle.gasnet_trace.specs.OutputText.{IsOutput, output_text}
 use Rattle.gasnet_trace.specs.TraceRefusals as traces
 use Rattle.gasnet_trace.specs.TraceRefusals.{IsNamed}

@@ -13,9 +13,9 @@ use Rattle.job_text.specs.declared.job.Job.{Job}
 use Rattle.gas_strided.specs.declared.shapes.Level.{Level}
 use Rattle.gas_strided.specs.declared.shapes.Way.{Way}
 use Rattle.gas_strided.specs.declared.shapes.Way.TheVariants.{Put, Get}
-use Rattle.job_text.specs.Forms.{Spans, Strides, bundle_text, entry_text, none_text}
-use Rattle.job_text.specs.VisLines.{entry_by}
-use Rattle.job_text.specs.declared.vis.VisShape.TheVariants as shapes
+use Rattle.line_forms.specs.Forms.{Spans, Strides, bundle_text, entry_text, none_text}
+use Rattle.vis_text.specs.VisLines.{entry_by}
+use Rattle.vis_text.specs.declared.vis.VisShape.TheVariants as shapes
 use Rattle.job_print.specs.Writing.{indexed_name, spaced_word, strided_name, word_bytes, words_then}
 use Rattle.job_print.specs.declared.words.Word.{Word}
 use Rattle.job_print.specs.declared.words.Word.TheVariants as word

@@ -2,11 +2,13 @@
 use Rattle.std.specs.Prelude.{ℕ, List, [], ◌∷◌, ◌++◌, codes, decimal}
 use Rattle.std.specs.Fmt.{signed_decimal}
 use Rattle.std.specs.List.{flat_map}
-use Rattle.job_text.specs.Payloads.{bytes_word, payload_word}
-use Rattle.job_text.specs.Words.{collective_word, implicit_word, kind_word, op_word, operand_word, role_word}
+use Rattle.text_lines.specs.HexBytes.{bytes_word}
+use Rattle.line_forms.specs.Payloads.{payload_word}
+use Rattle.line_forms.specs.Kinds.{collective_word, implicit_word, kind_word, op_word, operand_word}
+use Rattle.line_forms.specs.Kinds.{role_word}
 use Rattle.gas_strided.specs.declared.shapes.Way.{Way}
 use Rattle.gas_strided.specs.declared.shapes.Way.TheVariants.{Put, Get}
-use Rattle.job_text.specs.Forms.{Operations, Spans, Strides, bundle_text}
+use Rattle.line_forms.specs.Forms.{Operations, Spans, Strides, bundle_text}
 use Rattle.job_print.specs.declared.head.NumberLine.{NumberLine}
 use Rattle.job_print.specs.declared.words.Word.{Word}
 use Rattle.job_print.specs.declared.words.Word.TheVariants as word

@@ -2,13 +2,13 @@
 
 ghost use Rattle.std.specs.Prelude.{◌∷◌};
 ghost use Rattle.gas_outside.specs.Buffered.{GathersAll, outbox};
-ghost use Rattle.job_text.specs.Bodies.{action_text, reply_text};
-ghost use Rattle.job_text.specs.declared.job.Action.TheVariants as actions;
+ghost use Rattle.step_text.specs.Bodies.{action_text, reply_text};
+ghost use Rattle.step_text.specs.declared.steps.Action.TheVariants as actions;
 
 use crate::forms::{Last, write, write_form};
 use crate::words::Word;
 use gas_outside::{BufferedSink, Sink, Wrote};
-use job_text::{Action, ReplyAction};
+use step_text::{Action, ReplyAction};
 
 /// Writes what stands behind the word `reply`.
 fn write_reply<K: Sink>(reply: &ReplyAction, sink: &mut BufferedSink<K>) -> Wrote

@@ -2,14 +2,16 @@
 
 ghost use Rattle.std.specs.Prelude.{◌++◌};
 ghost use Rattle.gas_outside.specs.Buffered.{GathersAll, outbox};
-ghost use Rattle.job_text.specs.Calls.{begin_entry, call_text, implicit_entry, long_row, notify_row};
-ghost use Rattle.job_text.specs.Forms.{entry_text, none_text, values_text};
-ghost use Rattle.job_text.specs.declared.job.ScheduledCall.TheVariants as calls;
+ghost use Rattle.call_text.specs.Calls.{begin_entry, call_text, implicit_entry, long_row};
+ghost use Rattle.call_text.specs.Calls.{notify_row};
+ghost use Rattle.line_forms.specs.Forms.{entry_text, none_text, values_text};
+ghost use Rattle.call_text.specs.declared.scheduled.ScheduledCall.TheVariants as calls;
 
 use crate::forms::{Last, write, write_form, write_list};
 use crate::words::Word;
+use call_text::{BatchText, LongText, MediumText, ScheduledCall};
 use gas_outside::{BufferedSink, Sink, Wrote};
-use job_text::{BatchText, LongText, MediumText, Operands, ScheduledCall};
+use line_forms::Operands;
 use put_get::Transfer;
 
 /// Writes a Short request.

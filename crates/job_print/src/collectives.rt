@@ -1,12 +1,12 @@
 //! Lines that are calls of collectives.
 
 ghost use Rattle.gas_outside.specs.Buffered.{GathersAll, outbox};
-ghost use Rattle.job_text.specs.CollectiveLines.{collective_text};
+ghost use Rattle.step_text.specs.CollectiveLines.{collective_text};
 
 use crate::forms::write;
 use crate::words::Word;
 use gas_outside::{BufferedSink, Sink, Wrote};
-use job_text::CollectiveText;
+use step_text::CollectiveText;
 
 /// Writes the words of such a line.
 pub(crate) fn write_collective<K: Sink>(call: &CollectiveText, sink: &mut BufferedSink<K>) -> Wrote

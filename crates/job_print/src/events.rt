@@ -2,17 +2,19 @@
 
 ghost use Rattle.std.specs.Prelude.{ℕ};
 ghost use Rattle.gas_outside.specs.Buffered.{GathersAll, outbox};
-ghost use Rattle.job_text.specs.Events.{event_text, timed_text};
-ghost use Rattle.job_text.specs.declared.job.ScheduledEvent.TheVariants as events;
+ghost use Rattle.step_text.specs.Events.{event_text, timed_text};
+ghost use Rattle.step_text.specs.declared.steps.ScheduledEvent.TheVariants as events;
 
 use crate::calls::write_call;
 use crate::collectives::write_collective;
 use crate::forms::write;
-use crate::numbers::write_number;
 use crate::vis::write_vis;
 use crate::words::Word;
+use call_text::ScheduledCall;
 use gas_outside::{BufferedSink, Sink, Wrote};
-use job_text::{CollectiveText, ScheduledCall, ScheduledEvent, TimedEvent, VisText};
+use step_text::{CollectiveText, ScheduledEvent, TimedEvent};
+use text_lines::write_number;
+use vis_text::VisText;
 
 /// Writes a call of a thread of a node.
 fn write_thread_call<K: Sink>(

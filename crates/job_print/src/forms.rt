@@ -3,16 +3,18 @@
 ghost use Rattle.std.specs.Prelude.{◌++◌, ◌∷◌, [], decimal};
 ghost use Rattle.std.specs.List.{flat_map};
 ghost use Rattle.gas_outside.specs.Buffered.{GathersAll, outbox};
-ghost use Rattle.job_text.specs.Forms.{Operations, Spans, Strides, bundle_text};
-ghost use Rattle.job_text.specs.Words.{operand_word};
+ghost use Rattle.line_forms.specs.Forms.{Operations, Spans, Strides, bundle_text};
+ghost use Rattle.line_forms.specs.Kinds.{operand_word};
 ghost use Rattle.job_print.specs.Writing.{last_text, words_then};
 
-use crate::numbers::{write_number, write_operand};
+use crate::numbers::write_operand;
 use crate::words::{Word, write_spaced};
 use gas_atomic::WordOp;
 use gas_outside::{BufferedSink, Sink, Wrote};
 use gas_strided::Level;
-use job_text::{ListedLocks, Operand, Operands, Registers};
+use job_text::ListedLocks;
+use line_forms::{Operand, Operands, Registers};
+use text_lines::write_number;
 
 /// The list of words at the end of a line.
 #[derive(Clone, Copy)]

@@ -3,14 +3,15 @@
 ghost use Rattle.std.specs.Prelude.{◌++◌, ◌∷◌, [], map};
 ghost use Rattle.std.specs.List.{flat_map};
 ghost use Rattle.gas_outside.specs.Buffered.{GathersAll, outbox};
-ghost use Rattle.job_text.specs.Bodies.{action_text};
+ghost use Rattle.step_text.specs.Bodies.{action_text};
 ghost use Rattle.job_text.specs.JobText.{handler_lines, header_line, spell};
 
 use crate::actions::write_action;
 use crate::forms::{Last, write_form};
 use crate::words::Word;
 use gas_outside::{BufferedSink, Sink, Wrote};
-use job_text::{Action, HandlerText};
+use job_text::HandlerText;
+use step_text::Action;
 
 /// Writes the first line of a handler.
 fn write_header<K: Sink>(handler: &HandlerText, sink: &mut BufferedSink<K>) -> Wrote

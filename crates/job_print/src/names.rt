@@ -1,7 +1,8 @@
 //! The words of kinds of calls, of roles, of implicit operations, of those of remote atomics and of kinds of collectives.
 
 ghost use Rattle.std.specs.Prelude.{◌≡◌};
-ghost use Rattle.job_text.specs.Words.{collective_word, implicit_word, kind_word, op_word, role_word};
+ghost use Rattle.line_forms.specs.Kinds.{collective_word, implicit_word, kind_word, op_word};
+ghost use Rattle.line_forms.specs.Kinds.{role_word};
 
 use collective_area::CollectiveKind;
 use gas_atomic::Op;

@@ -1,63 +1,12 @@
-//! Bytes and payloads as words of a line.
+//! Payloads as words of a line.
 
-ghost use Rattle.std.specs.Prelude.{◌≡◌, ◌<◌, ◌++◌, ◌∷◌, decimal};
-ghost use Rattle.std.specs.List.{flat_map};
+ghost use Rattle.std.specs.Prelude.{◌++◌, ◌∷◌, decimal};
 ghost use Rattle.gas_outside.specs.Buffered.{GathersAll, outbox};
-ghost use Rattle.job_text.specs.Payloads.{bytes_word, hex_byte, hex_digit, payload_word};
+ghost use Rattle.line_forms.specs.Payloads.{payload_word};
 
-use crate::numbers::write_number;
 use gas_outside::{BufferedSink, Sink, Wrote};
-use job_text::Payload;
-
-/// The digit of a value below 16.
-fn hex_digit(value: u8) -> u8
-    requires { value < 16 }
-    ensures { result ≡ hex_digit value }
-{
-    if value < 10 {
-        return b'0' + value;
-    }
-    b'a' - 10 + value
-}
-
-/// The two digits of a byte.
-fn hex_byte(byte: u8) -> [u8; 2]
-    ensures { result ≡ hex_byte byte }
-{
-    [hex_digit(byte / 16), hex_digit(byte % 16)]
-}
-
-/// Writes the two digits of a byte.
-fn write_byte<K: Sink>(byte: u8, sink: &mut BufferedSink<K>) -> Wrote
-    ensures { GathersAll (outbox K.taken K.faults sink.old) (outbox K.taken K.faults sink.new)
-        (hex_byte byte) result }
-{
-    sink.write_all(&hex_byte(byte))
-}
-
-/// Writes two digits for each byte.
-fn write_digits<K: Sink>(bytes: &[u8], sink: &mut BufferedSink<K>) -> Wrote
-    ensures { GathersAll (outbox K.taken K.faults sink.old) (outbox K.taken K.faults sink.new)
-        (flat_map hex_byte bytes.now) result }
-{
-    for byte in bytes {
-        if let Wrote::Fault = write_byte(*byte, sink) {
-            return Wrote::Fault;
-        }
-    }
-    Wrote::Done
-}
-
-/// Writes the word of bytes: `x`, and two digits for each.
-pub(crate) fn write_bytes<K: Sink>(bytes: &[u8], sink: &mut BufferedSink<K>) -> Wrote
-    ensures { GathersAll (outbox K.taken K.faults sink.old) (outbox K.taken K.faults sink.new)
-        (bytes_word bytes.now) result }
-{
-    if let Wrote::Fault = sink.write_all(b"x") {
-        return Wrote::Fault;
-    }
-    write_digits(bytes, sink)
-}
+use line_forms::Payload;
+use text_lines::{write_bytes, write_number};
 
 /// Writes the word of a range: its offset and its length.
 fn write_range<K: Sink>(offset: u64, len: u64, sink: &mut BufferedSink<K>) -> Wrote

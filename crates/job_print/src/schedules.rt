@@ -6,7 +6,8 @@ ghost use Rattle.job_text.specs.JobText.{schedule_lines, spell, timed_lines};
 
 use crate::events::write_timed;
 use gas_outside::{BufferedSink, Sink, Wrote};
-use job_text::{Schedule, TimedEvent};
+use job_text::Schedule;
+use step_text::TimedEvent;
 
 /// Writes the lines of events.
 fn write_events<K: Sink>(events: &[TimedEvent], sink: &mut BufferedSink<K>) -> Wrote

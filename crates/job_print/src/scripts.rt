@@ -3,14 +3,15 @@
 ghost use Rattle.std.specs.Prelude.{◌++◌, ◌∷◌, [], map};
 ghost use Rattle.std.specs.List.{flat_map};
 ghost use Rattle.gas_outside.specs.Buffered.{GathersAll, outbox};
-ghost use Rattle.job_text.specs.Scripts.{step_text};
+ghost use Rattle.step_text.specs.Scripts.{step_text};
 ghost use Rattle.job_text.specs.JobText.{script_line, script_lines, spell};
 
 use crate::forms::write;
 use crate::steps::write_step;
 use crate::words::Word;
 use gas_outside::{BufferedSink, Sink, Wrote};
-use job_text::{NodeScript, ScriptStep};
+use job_text::NodeScript;
+use step_text::ScriptStep;
 
 /// Writes the first line of a script.
 fn write_begin<K: Sink>(script: &NodeScript, sink: &mut BufferedSink<K>) -> Wrote

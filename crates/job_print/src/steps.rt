@@ -1,9 +1,9 @@
 //! The steps of a script.
 
 ghost use Rattle.gas_outside.specs.Buffered.{GathersAll, outbox};
-ghost use Rattle.job_text.specs.Forms.{entry_text, none_text};
-ghost use Rattle.job_text.specs.declared.job.WaitingStep.TheVariants as waits;
-ghost use Rattle.job_text.specs.Scripts.{step_text, transfer_entry, waiting_text};
+ghost use Rattle.line_forms.specs.Forms.{entry_text, none_text};
+ghost use Rattle.step_text.specs.declared.steps.WaitingStep.TheVariants as waits;
+ghost use Rattle.step_text.specs.Scripts.{step_text, transfer_entry, waiting_text};
 
 use crate::calls::{write_barrier, write_call};
 use crate::collectives::write_collective;
@@ -12,8 +12,8 @@ use crate::vis::write_vis;
 use crate::words::Word;
 use collective_area::Shape;
 use gas_outside::{BufferedSink, Sink, Wrote};
-use job_text::{PutText, ScriptStep, WaitingStep};
 use put_get::Transfer;
+use step_text::{PutText, ScriptStep, WaitingStep};
 
 /// Writes a transfer that is waited for.
 fn write_transfer<K: Sink>(transfer: &Transfer, sink: &mut BufferedSink<K>) -> Wrote

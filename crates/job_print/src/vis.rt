@@ -2,14 +2,14 @@
 
 ghost use Rattle.std.specs.Prelude.{◌≡◌};
 ghost use Rattle.gas_outside.specs.Buffered.{GathersAll, outbox};
-ghost use Rattle.job_text.specs.VisLines.{vis_text};
+ghost use Rattle.vis_text.specs.VisLines.{vis_text};
 ghost use Rattle.job_print.specs.Writing.{indexed_name, strided_name};
 
 use crate::forms::{Last, write_form};
 use crate::words::Word;
 use gas_outside::{BufferedSink, Sink, Wrote};
 use gas_strided::Way;
-use job_text::{VisShape, VisText};
+use vis_text::{VisShape, VisText};
 
 /// The name of a strided transfer.
 fn strided_name(way: Way) -> &'static [u8]

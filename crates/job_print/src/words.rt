@@ -5,14 +5,15 @@ ghost use Rattle.std.specs.List.{flat_map};
 ghost use Rattle.job_print.specs.Writing.{spaced_word, word_bytes};
 
 use crate::names::{collective_word, implicit_word, kind_word, op_word, role_word};
-use crate::numbers::{write_integer, write_number, write_operand};
-use crate::payloads::{write_bytes, write_payload};
+use crate::numbers::write_operand;
+use crate::payloads::write_payload;
 use collective_area::CollectiveKind;
 use gas_atomic::Op;
 use gas_outside::{BufferedSink, Sink, Wrote};
 use handler_rules::{CallKind, Role};
-use job_text::{Bytes, Operand, Payload};
+use line_forms::{Operand, Payload};
 use put_get::ImplicitKinds;
+use text_lines::{Bytes, write_bytes, write_integer, write_number};
 
 /// A word of a line behind its name, by what it says.
 #[derive(Clone, Copy)]

@@ -6,9 +6,9 @@ use Rattle.collective_area.specs.Area.{Area, IsArea, area_end}
 use Rattle.datagram_grammar.specs.Parameters.{Parameters}
 use Rattle.job_text.specs.CollectAreas.{area_of, is_area, IsCollect}
 use Rattle.job_text.specs.Places.{collect_fits}
-use Rattle.job_text.specs.Scopes.{is_second}
+use Rattle.line_forms.specs.Versions.{is_second}
 use Rattle.job_text.specs.declared.job.CollectArea.{CollectArea}
-use Rattle.job_text.specs.declared.scope.Scope.{Scope}
+use Rattle.line_forms.specs.declared.scope.Scope.{Scope}
 
 -- what passes the test is an area
 area_by : (segment : ℕ) (area : Area) → is_area segment area ≡ true → IsArea segment area

@@ -10,40 +10,46 @@ use Rattle.datagram_grammar.specs.Message.{is_version}
 use Rattle.datagram_grammar.specs.Parameters.{Parameters, IsPair, ArePairs, own_credits, credits_in_all}
 use Rattle.datagram_grammar.specs.declared.pairs.PairCredits.{PairCredits}
 use Rattle.datagram_grammar.proofs.Credits.{even_sum, last_pair}
-use Rattle.job_text.specs.Forms.{IsSaid, U8}
-use Rattle.job_text.specs.Bodies.{action_text, IsAction}
-use Rattle.job_text.specs.Events.{IsTimed}
-use Rattle.job_text.specs.Scripts.{step_text, IsStep}
+use Rattle.line_forms.specs.Forms.{IsSaid, U8}
+use Rattle.step_text.specs.Bodies.{action_text, IsAction}
+use Rattle.step_text.specs.Events.{IsTimed}
+use Rattle.step_text.specs.Scripts.{step_text, IsStep}
 use Rattle.job_text.specs.Places.{Setting, Version, Nodes, Credits, Threads, Segment, Last, Resend, Patience}
 use Rattle.job_text.specs.Places as places
 use Rattle.job_text.specs.Places.{Place, AtSetting, AtSieve, AtPairs, AtHandlers, AtBody, AtScripts, AtSteps}
 use Rattle.job_text.specs.Places.{AtAtomics, atomics_text, AtCollect, collect_text, AtSchedule, AtDone, Over}
 use Rattle.job_text.specs.CollectAreas.{IsCollect, IsCollectOrNone}
 use Rattle.job_text.specs.Scopes.{scope_of}
-use Rattle.job_text.specs.declared.scope.Scope.{Scope}
-use Rattle.job_text.specs.Places.{Named, Other, Item, item_text, IsItem, least, greatest, setting_fits, in_place}
-use Rattle.job_text.specs.JobReading.{State, least_job, start, with_number, behind_setting, with_body, with_handler}
-use Rattle.job_text.specs.JobReading.{with_steps, with_script, total_rounds, next, has_index, has_pair, has_thread}
-use Rattle.job_text.specs.JobReading.{rounds_of, is_full, is_reserved, most_handlers, with_atomics, front_with, read}
+use Rattle.line_forms.specs.declared.scope.Scope.{Scope}
+use Rattle.job_text.specs.Places.{Named, Other, Item, item_text, IsItem, least, greatest, setting_fits}
+use Rattle.job_text.specs.Places.{in_place}
+use Rattle.job_text.specs.JobReading.{State, least_job, start, with_number, behind_setting, with_body}
+use Rattle.job_text.specs.JobReading.{with_handler}
+use Rattle.job_text.specs.JobReading.{with_steps, with_script, total_rounds, next, has_index, has_pair}
+use Rattle.job_text.specs.JobReading.{has_thread}
+use Rattle.job_text.specs.JobReading.{rounds_of, is_full, is_reserved, most_handlers, with_atomics}
+use Rattle.job_text.specs.JobReading.{front_with, read}
 use Rattle.job_text.specs.JobReading.{amounts_of, is_full_script, lines_of, with_collect}
 use Rattle.job_text.specs.PlanPieces.{most_pieces, event_pieces, schedule_pieces}
 use Rattle.job_text.specs.StepPieces.{step_pieces, steps_pieces}
 use Rattle.job_text.specs.PlanPieces.{scripts_pieces}
-use Rattle.job_text.specs.JobText.{Line, spell, setting_line, sieve_line, pair_line, handler_lines, timed_lines}
-use Rattle.job_text.specs.JobText.{script_lines, schedule_lines, head_lines, lines_with_pairs, lines_with_handlers}
+use Rattle.job_text.specs.JobText.{Line, spell, setting_line, sieve_line, pair_line, handler_lines}
+use Rattle.job_text.specs.JobText.{timed_lines}
+use Rattle.job_text.specs.JobText.{script_lines, schedule_lines, head_lines, lines_with_pairs}
+use Rattle.job_text.specs.JobText.{lines_with_handlers}
 use Rattle.job_text.specs.JobText.{job_lines, job_text, IsHandler, IsNodeScript, AreThreads, IsScheduleOrNone}
 use Rattle.job_text.specs.JobText.{AreUnreserved, atomics_lines, lines_with_atomics, with_first_pairs, IsJob}
 use Rattle.job_text.specs.JobText.{collect_lines, lines_with_collect}
 use Rattle.job_text.specs.JobText.{number_of, all_settings, header_line, script_line, IsSchedule}
 use Rattle.job_text.specs.Refusals.{so_far}
-use Rattle.job_text.specs.declared.job.Action.{Action}
+use Rattle.step_text.specs.declared.steps.Action.{Action}
 use Rattle.job_text.specs.declared.job.CollectArea.{CollectArea}
 use Rattle.job_text.specs.declared.job.HandlerText.{HandlerText}
 use Rattle.job_text.specs.declared.job.Job.{Job}
 use Rattle.job_text.specs.declared.job.NodeScript.{NodeScript}
-use Rattle.job_text.specs.declared.job.ScriptStep.{ScriptStep}
-use Rattle.job_text.specs.declared.job.ScheduledEvent.{ScheduledEvent}
-use Rattle.job_text.specs.declared.job.TimedEvent.{TimedEvent}
+use Rattle.step_text.specs.declared.steps.ScriptStep.{ScriptStep}
+use Rattle.step_text.specs.declared.steps.ScheduledEvent.{ScheduledEvent}
+use Rattle.step_text.specs.declared.steps.TimedEvent.{TimedEvent}
 use Rattle.job_text.specs.declared.schedules.Amounts.{Amounts}
 use Rattle.job_text.specs.declared.sections.Section.TheVariants as section
 use Rattle.job_text.proofs.Freshness.{AreFresh, AreNew, apart_fresh, fresh_to}

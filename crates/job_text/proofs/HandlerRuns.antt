@@ -3,36 +3,38 @@ use Rattle.std.proofs.Common.{◌≡◌, ℕ, ◌+◌, ◌*◌, ◌<◌, ◌≤�
 use Rattle.std.proofs.Common.{Some, None, Result, Err, Bool, true, false, cond, refl, ap, sym, ◌∙◌, arith}
 use Rattle.std.proofs.Common.{length-append}
 use Rattle.std.proofs.lemmas.Bool.{leb-false, ltb-false, ltb-true, lt-ltb, and_parts, and_from, or_parts}
-use Rattle.job_text.specs.Reasons.{reason, why_of}
+use Rattle.text_lines.specs.Reasons.{reason, why_of}
 use Rattle.job_text.specs.Places.{section_fits}
-use Rattle.job_text.specs.JobReading.{has_thread, has_index, is_reserved, most_beside, most_handlers, handler_why}
+use Rattle.job_text.specs.JobReading.{has_thread, has_index, is_reserved, most_beside, most_handlers}
+use Rattle.job_text.specs.JobReading.{handler_why}
 use Rattle.job_text.specs.JobReading.{section_why}
 use Rattle.job_text.specs.JobReading.{behind_scripts, behind_section}
-use Rattle.job_text.specs.JobReading.{is_schedule, BadLine, amounts_of, with_event, is_full, admitted, total_rounds}
+use Rattle.job_text.specs.JobReading.{is_schedule, BadLine, amounts_of, with_event, is_full, admitted}
+use Rattle.job_text.specs.JobReading.{total_rounds}
 use Rattle.job_text.specs.JobReading.{rounds_of, is_full_script}
 use Rattle.job_text.specs.PlanPieces.{event_pieces, schedule_pieces}
 use Rattle.job_text.specs.StepPieces.{step_pieces}
-use Rattle.job_text.specs.declared.fault.JobWhy.{JobWhy}
-use Rattle.job_text.specs.declared.fault.JobWhy.TheVariants.{Count, Entry}
+use Rattle.text_lines.specs.declared.why.LineWhy.{LineWhy}
+use Rattle.text_lines.specs.declared.why.LineWhy.TheVariants.{Count, Entry}
 use Rattle.job_text.specs.declared.job.HandlerText.{HandlerText}
 use Rattle.job_text.specs.declared.job.Job.{Job}
 use Rattle.job_text.specs.declared.job.NodeScript.{NodeScript}
-use Rattle.job_text.specs.declared.job.ScheduledEvent.{ScheduledEvent}
-use Rattle.job_text.specs.declared.job.ScriptStep.{ScriptStep}
-use Rattle.job_text.specs.declared.job.TimedEvent.{TimedEvent}
-use Rattle.job_text.specs.declared.scope.Scope.{Scope}
+use Rattle.step_text.specs.declared.steps.ScheduledEvent.{ScheduledEvent}
+use Rattle.step_text.specs.declared.steps.ScriptStep.{ScriptStep}
+use Rattle.step_text.specs.declared.steps.TimedEvent.{TimedEvent}
+use Rattle.line_forms.specs.declared.scope.Scope.{Scope}
 use Rattle.job_text.specs.declared.schedules.Amounts.{Amounts}
 use Rattle.job_text.specs.declared.sections.Section.{Section}
 use Rattle.job_text.specs.declared.sections.Section.TheVariants as section
 use Rattle.job_text.proofs.PlanPieces.{schedule_more}
 
 -- a reason that was found is the reason
-pub told_by : {A : Type 0} (total : Result A BadLine) (line : ℕ) (why found : JobWhy) → total ≡ Err
+pub told_by : {A : Type 0} (total : Result A BadLine) (line : ℕ) (why found : LineWhy) → total ≡ Err
     (record { line = line; why = why }) → found ≡ why → total ≡ Err (record { line = line; why = found })
-told_by total line why found h e = h ∙ ap (λ (w : JobWhy). Err (record { line = line; why = w })) (sym e)
+told_by total line why found h e = h ∙ ap (λ (w : LineWhy). Err (record { line = line; why = w })) (sym e)
 
 -- a reason, by the test of the form
-pub reason_by : (form : List ℕ → Bool) (bytes : List ℕ) (test : Bool) (why : JobWhy) → test ≡ form bytes → why
+pub reason_by : (form : List ℕ → Bool) (bytes : List ℕ) (test : Bool) (why : LineWhy) → test ≡ form bytes → why
     ≡ why_of test bytes → why ≡ reason form bytes
 reason_by form bytes test why e h = h ∙ ap (λ (t : Bool). why_of t bytes) e
 
@@ -71,7 +73,7 @@ script_new scripts node thread h = new_by (has_thread scripts node thread) h
     new_by false k = refl
 
 -- there is room for one more handler
-room_by : (t u : Bool) (a b : JobWhy) → cond t (Some a) (cond u (Some b) None) ≡ None → u ≡ false
+room_by : (t u : Bool) (a b : LineWhy) → cond t (Some a) (cond u (Some b) None) ≡ None → u ≡ false
 room_by true u a b h = absurd (cc)
 room_by false true a b h = absurd (cc)
 room_by false false a b h = refl

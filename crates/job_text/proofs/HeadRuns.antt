@@ -2,20 +2,22 @@
 use Rattle.std.proofs.Common.{◌≡◌, ℕ, ◌+◌, List, [], ◌∷◌, Option, Some, None, Result, Ok, Err, Bool, true, false}
 use Rattle.std.proofs.Common.{cond, refl, ap, sym, ◌∙◌}
 use Rattle.job_text.specs.Scopes.{scope_of}
-use Rattle.job_text.specs.declared.scope.Scope.{Scope}
-use Rattle.job_text.specs.Lines.{front, back, ended}
-use Rattle.job_text.specs.Lines as options
-use Rattle.job_text.specs.Forms.{none_at, named_at, passed}
+use Rattle.line_forms.specs.declared.scope.Scope.{Scope}
+use Rattle.text_lines.specs.Lines.{front, back, ended}
+use Rattle.text_lines.specs.Lines as options
+use Rattle.line_forms.specs.Forms.{none_at, named_at, passed}
 use Rattle.job_text.specs.Places.{Setting, Version, Nodes, Credits, Threads, Segment, Last, Resend, Patience}
 use Rattle.job_text.specs.Places as places
 use Rattle.job_text.specs.Places.{AtSetting, AtSieve, AtPairs, setting_fits}
 use Rattle.job_text.specs.Places.{setting_row, item_form}
-use Rattle.job_text.specs.JobReading.{BadLine, Front, start, least_job, line_at, with_number, behind_setting, read}
-use Rattle.job_text.specs.HeadReading.{◌>>=◌, told, number_line, fitting_line, number_why, number_from, setting_form}
+use Rattle.job_text.specs.JobReading.{BadLine, Front, start, least_job, line_at, with_number, behind_setting}
+use Rattle.job_text.specs.JobReading.{read}
+use Rattle.job_text.specs.HeadReading.{◌>>=◌, told, number_line, fitting_line, number_why, number_from}
+use Rattle.job_text.specs.HeadReading.{setting_form}
 use Rattle.job_text.specs.HeadReading.{sieve_line, sieve_why, head_at}
 use Rattle.job_text.specs.declared.job.Job.{Job}
 use Rattle.job_text.specs.declared.job.SieveRule.{SieveRule}
-use Rattle.job_text.proofs.Fronts.{cond_yes, cond_no}
+use Rattle.text_lines.proofs.Fronts.{cond_yes, cond_no}
 use Rattle.job_text.proofs.LineRuns.{read_on, line_bad}
 
 -- what passes a test before the end of the line passes it behind it

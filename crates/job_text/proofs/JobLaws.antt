@@ -8,13 +8,13 @@ use Rattle.std.proofs.lemmas.List.{take-append-le}
 use Rattle.datagram_grammar.specs.Parameters.{Parameters, AreInRange, credits_in_all, with_pair}
 use Rattle.datagram_grammar.specs.declared.pairs.PairCredits.{PairCredits}
 use Rattle.datagram_grammar.proofs.Credits.{even_sum}
-use Rattle.job_text.specs.Events.{IsTimed}
+use Rattle.step_text.specs.Events.{IsTimed}
 use Rattle.job_text.specs.Places.{Setting, Version, Nodes, Credits, Threads, Segment, Last, Resend, Patience}
 use Rattle.job_text.specs.Places as places
 use Rattle.job_text.specs.Places.{setting_fits, pair_fits}
 use Rattle.job_text.specs.JobReading.{with_number, with_own, with_handler, with_script, with_line, lines_of}
 use Rattle.job_text.specs.Scopes.{scope_of}
-use Rattle.job_text.specs.declared.scope.Scope.{Scope}
+use Rattle.line_forms.specs.declared.scope.Scope.{Scope}
 use Rattle.job_text.specs.JobReading.{with_atomics, with_collect, is_reserved, most_handlers}
 use Rattle.job_text.specs.CollectAreas.{IsCollect, IsCollectOrNone}
 use Rattle.job_text.specs.JobText.{AreUnreserved}
@@ -23,17 +23,18 @@ use Rattle.job_text.specs.PlanPieces.{most_pieces, schedule_pieces, scripts_piec
 use Rattle.job_text.specs.StepPieces.{steps_pieces}
 use Rattle.job_text.specs.JobText.{IsHandler, IsNodeScript, AreThreads, IsSchedule, IsScheduleOrNone, IsSieve}
 use Rattle.job_text.specs.JobText.{with_first_pairs, all_pieces, IsJob}
-use Rattle.job_text.specs.declared.fault.JobWhy.{JobWhy}
+use Rattle.text_lines.specs.declared.why.LineWhy.{LineWhy}
 use Rattle.job_text.specs.declared.job.CollectArea.{CollectArea}
 use Rattle.job_text.specs.declared.job.HandlerText.{HandlerText}
 use Rattle.job_text.specs.declared.job.Job.{Job}
 use Rattle.job_text.specs.declared.job.NodeScript.{NodeScript}
-use Rattle.job_text.specs.declared.job.TimedEvent.{TimedEvent}
+use Rattle.step_text.specs.declared.steps.TimedEvent.{TimedEvent}
 use Rattle.job_text.proofs.Freshness.{AreFresh, fresh_apart, fresh_more, fresh_from}
 use Rattle.job_text.proofs.HandlerRuns.{few_full, rounds_more}
 use Rattle.job_text.proofs.PlanPieces.{schedule_more as pieces_more, scripts_more}
 use Rattle.job_text.proofs.Threads.{threads_more}
-use Rattle.job_text.proofs.Ranges.{IsNumber, AreNumbers, settings_range, segments_few, fitting, is_pair, pair_range}
+use Rattle.job_text.proofs.Ranges.{IsNumber, AreNumbers, settings_range, segments_few, fitting, is_pair}
+use Rattle.job_text.proofs.Ranges.{pair_range}
 
 -- ---- the head
 
@@ -245,7 +246,7 @@ sums_by settings pair count false e old new =
     take_all (suc n) (x ∷ xs) le = ap (λ (ys : List PairCredits). x ∷ ys) (take_all n xs (omega arith))
 
 -- no reason against a pair
-pub pair_free_by : (t u : Bool) (a b : JobWhy) → cond t (Some a) (cond u (Some b) None) ≡ None → (t ≡ false) × (u
+pub pair_free_by : (t u : Bool) (a b : LineWhy) → cond t (Some a) (cond u (Some b) None) ≡ None → (t ≡ false) × (u
     ≡ false)
 pair_free_by true u a b h = absurd (cc)
 pair_free_by false true a b h = absurd (cc)
@@ -451,7 +452,7 @@ some_is : (scope : Scope) (schedule : Option (List TimedEvent)) → (lines : Lis
 some_is scope None some is = absurd (cc)
 some_is scope (Some lines) some is = is
 
-full_by : (b : Bool) (w : JobWhy) → cond b (Some w) None ≡ None → b ≡ false
+full_by : (b : Bool) (w : LineWhy) → cond b (Some w) None ≡ None → b ≡ false
 full_by true w h = absurd (cc)
 full_by false w h = refl
 

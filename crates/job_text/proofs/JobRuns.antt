@@ -1,15 +1,16 @@
 -- A job, as it is read.
 use Rattle.std.proofs.Common.{◌≡◌, ℕ, ◌-◌, ◌<◌, ◌≤◌, List, length, Result, Ok, Err, true, false, eqb, refl, ap}
 use Rattle.std.proofs.lemmas.Bool.{lt-ltb, le-ltb}
-use Rattle.job_text.specs.JobReading.{BadLine, Front, start, limit, front_with, of_front, alone, sized, read, job_of}
+use Rattle.job_text.specs.JobReading.{BadLine, Front, start, limit, front_with, of_front, alone, sized, read}
+use Rattle.job_text.specs.JobReading.{job_of}
 use Rattle.job_text.specs.JobReading.{front_of}
 use Rattle.job_text.specs.HeadReading.{◌>>=◌}
 use Rattle.job_text.specs.Reading.{FailsAt}
 use Rattle.job_text.specs.declared.fault.JobFault.{JobFault}
 use Rattle.job_text.specs.declared.fault.JobFault.TheVariants as faults
-use Rattle.job_text.specs.declared.fault.JobWhy.TheVariants.{Size, After}
+use Rattle.text_lines.specs.declared.why.LineWhy.TheVariants.{Size, After}
 use Rattle.job_text.specs.declared.job.Job.{Job}
-use Rattle.job_text.proofs.Fronts.{cond_yes, cond_no}
+use Rattle.text_lines.proofs.Fronts.{cond_yes, cond_no}
 
 -- too many bytes
 pub too_long : (bytes : List ℕ) → limit < length bytes → job_of bytes ≡ Err (record { line = 0; why = Size })

@@ -2,8 +2,8 @@
 use Rattle.std.proofs.Common.{◌≡◌, ◌⊎◌, inl, inr, ℕ, ◌+◌, List, [], ◌∷◌, ◌++◌, Option, Some, None, Ok, Err}
 use Rattle.std.proofs.Common.{refl, ap, sym, ◌∙◌}
 use Rattle.job_text.specs.Scopes.{scope_of}
-use Rattle.job_text.specs.declared.scope.Scope.{Scope}
-use Rattle.job_text.specs.Reasons.{reason}
+use Rattle.line_forms.specs.declared.scope.Scope.{Scope}
+use Rattle.text_lines.specs.Reasons.{reason}
 use Rattle.job_text.specs.HeadReading.{told}
 use Rattle.job_text.specs.Places.{AtAtomics, AtCollect}
 use Rattle.job_text.specs.Places.{Place, AtSetting, AtSieve, AtPairs, AtHandlers, AtBody, AtScripts, AtSteps}
@@ -13,11 +13,12 @@ use Rattle.job_text.specs.JobReading.{from_lines, over_or, run, read}
 use Rattle.job_text.specs.Reading.{FailsAt}
 use Rattle.job_text.specs.declared.fault.JobFault.{JobFault}
 use Rattle.job_text.specs.declared.fault.JobFault.TheVariants as faults
-use Rattle.job_text.specs.declared.fault.JobWhy.{JobWhy}
+use Rattle.text_lines.specs.declared.why.LineWhy.{LineWhy}
 use Rattle.job_text.specs.declared.job.Job.{Job}
-use Rattle.job_text.proofs.Fronts.{cond_no}
-use Rattle.job_text.proofs.Takes.{Takes, takes_some, takes_then}
-use Rattle.job_text.proofs.FormLaws.{IsFlat, ended_takes}
+use Rattle.text_lines.proofs.Fronts.{cond_no}
+use Rattle.text_lines.proofs.Takes.{Takes, takes_some, takes_then}
+use Rattle.line_forms.proofs.FormLaws.{IsFlat}
+use Rattle.text_lines.proofs.Seams.{ended_takes}
 use Rattle.job_text.proofs.PlaceLaws.{place_exact}
 
 -- the later lines begin behind the end of the first one
@@ -127,7 +128,7 @@ read_on place job line bytes rest item state h n =
     rw (lines_after place (scope_of job) bytes (item, rest) h) (goes_on place _ _ (open_of place item) ∙ rw (h, n) refl)
 
 -- a line was read, and it may not stand there
-pub read_full : (place : Place) (job : Job) (line : ℕ) (bytes rest : List ℕ) (item : Item place) (why : JobWhy)
+pub read_full : (place : Place) (job : Job) (line : ℕ) (bytes rest : List ℕ) (item : Item place) (why : LineWhy)
     → line_at place (scope_of job) bytes ≡ Some (item, rest) → next place job item ≡ Err why → read
     (record { place = place; job = job }) line bytes ≡ Err (record { line = line; why = why })
 unfolding read run step
@@ -154,12 +155,12 @@ over_read job line (b ∷ bytes) = refl
 
 -- ---- what is told of a line
 
-pub told_ok : {A : Type 0} (line : ℕ) (why : JobWhy) (found : Option A) (x : A) → told line why found ≡ Ok x → found
+pub told_ok : {A : Type 0} (line : ℕ) (why : LineWhy) (found : Option A) (x : A) → told line why found ≡ Ok x → found
     ≡ Some x
 told_ok line why None x h = absurd (cc)
 told_ok line why (Some y) x h = cc
 
-told_err : {A : Type 0} (line : ℕ) (why : JobWhy) (found : Option A) (bad : BadLine) → told line why found ≡ Err bad →
+told_err : {A : Type 0} (line : ℕ) (why : LineWhy) (found : Option A) (bad : BadLine) → told line why found ≡ Err bad →
     (found ≡ None) × (record { line = line; why = why } ≡ bad)
 told_err line why None bad h = (refl, cc)
 told_err line why (Some y) bad h = absurd (cc)

@@ -5,42 +5,50 @@ use Rattle.std.proofs.Common.{sym, ap, subst, ◌∙◌, arith, append_assoc, ap
 use Rattle.std.proofs.lemmas.Bool.{eqb-true, eqb-false, leb-true, ltb-true, ltb-false, le-ltb, ne_eqb, and_parts}
 use Rattle.std.specs.Prelude.{IfOk, IfErr}
 use Rattle.datagram_grammar.specs.declared.pairs.PairCredits.{PairCredits}
-use Rattle.job_text.specs.Reasons.{is_text, is_plain, goes_on_as_text, reason}
+use Rattle.text_lines.specs.Reasons.{is_text, is_plain, goes_on_as_text, reason}
 use Rattle.job_text.specs.Places.{Place, AtSetting, AtSieve, AtPairs, AtHandlers, AtBody, AtScripts, AtSteps}
 use Rattle.job_text.specs.Places.{AtAtomics, AtCollect, AtSchedule, AtDone, Over}
 use Rattle.job_text.specs.Scopes.{scope_of}
-use Rattle.job_text.specs.Places.{Named, Other, Item, item_text, item_form, HandlerItem, CollectItem, AtomicsItem, PairItem}
-use Rattle.job_text.specs.JobReading.{State, BadLine, Front, start, limit, line_at, why_at, next, onward, stepped}
+use Rattle.job_text.specs.Places.{Named, Other, Item, item_text, item_form, HandlerItem, CollectItem}
+use Rattle.job_text.specs.Places.{AtomicsItem, PairItem}
+use Rattle.job_text.specs.JobReading.{State, BadLine, Front, start, limit, line_at, why_at, next, onward}
+use Rattle.job_text.specs.JobReading.{stepped}
 use Rattle.job_text.specs.JobReading.{step, unless, opened, headed, paired, has_index, has_pair, has_thread}
-use Rattle.job_text.specs.JobReading.{handler_why, section_why, pair_why, action_why, step_why, line_why, is_full}
-use Rattle.job_text.specs.JobReading.{amounts_of, is_full_script, lines_of, front_with, of_front, alone, sized, read}
+use Rattle.job_text.specs.JobReading.{handler_why, section_why, pair_why, action_why, step_why, line_why}
+use Rattle.job_text.specs.JobReading.{is_full}
+use Rattle.job_text.specs.JobReading.{amounts_of, is_full_script, lines_of, front_with, of_front, alone}
+use Rattle.job_text.specs.JobReading.{sized, read}
 use Rattle.job_text.specs.JobReading.{job_of}
 use Rattle.job_text.specs.PlanPieces.{scripts_pieces}
 use Rattle.job_text.specs.StepPieces.{steps_pieces}
 use Rattle.job_text.specs.JobReading.{front_of, collected, served, is_reserved, most_handlers}
 use Rattle.job_text.specs.JobText.{spell, job_lines, job_text, IsJob, JobText, BeginsWith}
 use Rattle.job_text.specs.Reading.{GivesAt}
-use Rattle.job_text.specs.Refusals.{first_lines, after_lines, IsNoFront, Before, so_far, completed, IsWrong, Means}
-use Rattle.job_text.specs.Refusals.{Says, IsTaken, IsFull, HasNoText, HasNoForm, HasBadValue, IsRepeated, IsTooMany}
-use Rattle.job_text.specs.Refusals.{IsAtFault, NoneGoesOn, IsMeant, IsNoMemory, IsTooLong, FrontMeans, IsFrontMeant}
+use Rattle.job_text.specs.Refusals.{first_lines, after_lines, IsNoFront, Before, so_far, completed, IsWrong}
+use Rattle.job_text.specs.Refusals.{Means}
+use Rattle.job_text.specs.Refusals.{Says, IsTaken, IsFull, HasNoText, HasNoForm, HasBadValue, IsRepeated}
+use Rattle.job_text.specs.Refusals.{IsTooMany}
+use Rattle.job_text.specs.Refusals.{IsAtFault, NoneGoesOn, IsMeant, IsNoMemory, IsTooLong, FrontMeans}
+use Rattle.job_text.specs.Refusals.{IsFrontMeant}
 use Rattle.job_text.specs.declared.fault.JobFault.{JobFault}
 use Rattle.job_text.specs.declared.fault.JobFault.TheVariants as faults
-use Rattle.job_text.specs.declared.fault.JobWhy.{JobWhy}
-use Rattle.job_text.specs.declared.fault.JobWhy.TheVariants.{Size, Early, Text, Form, Value as BadValue, Entry, Count}
-use Rattle.job_text.specs.declared.fault.JobWhy.TheVariants.{After}
+use Rattle.text_lines.specs.declared.why.LineWhy.{LineWhy}
+use Rattle.text_lines.specs.declared.why.LineWhy.TheVariants.{Size, Early, Text, Form, Value as BadValue, Entry, Count}
+use Rattle.text_lines.specs.declared.why.LineWhy.TheVariants.{After}
 use Rattle.job_text.specs.declared.job.Job.{Job}
 use Rattle.job_text.specs.declared.sections.HandlerHeader.{HandlerHeader}
 use Rattle.job_text.specs.declared.sections.Section.{Section}
 use Rattle.job_text.specs.declared.sections.Section.TheVariants as section
-use Rattle.job_text.proofs.Fronts.{cond_yes, cond_no}
-use Rattle.job_text.proofs.FormLaws.{IsFlat}
+use Rattle.text_lines.proofs.Fronts.{cond_yes, cond_no}
+use Rattle.line_forms.proofs.FormLaws.{IsFlat}
 use Rattle.job_text.proofs.JobRuns.{is_sized}
 use Rattle.job_text.proofs.PlaceLaws.{place_exact}
 use Rattle.job_text.proofs.LineRuns.{IsOpen, line_takes, line_again, read_on, over_read}
 use Rattle.job_text.proofs.JobLaws.{sound_job}
 use Rattle.job_text.proofs.States.{IsState, unread, sound_completed}
 use Rattle.job_text.proofs.Walks.{step_of, step_keeps, Walks, EndsAs, Ends, Fails, IsOver, read_outcome}
-use Rattle.job_text.proofs.Refusing.{first_flat, first_none, first_spelled, after_spelled, IsWalk, walk_of, walk_front}
+use Rattle.job_text.proofs.Refusing.{first_flat, first_none, first_spelled, after_spelled, IsWalk, walk_of}
+use Rattle.job_text.proofs.Refusing.{walk_front}
 use Rattle.job_text.proofs.Refusing.{front_same, read_text, rest_size, walk_lines}
 use Rattle.job_text.proofs.Standing.{not_over, walk_reached}
 use Rattle.job_text.proofs.Completeness.{job_read}
@@ -65,7 +73,7 @@ pub record IsWhole (rest : List ℕ) : Type 0 where
   pub flat : IsFlat line
   pub text : rest ≡ line ++ 10 ∷ more
 
-pub data Kind (place : Place) (job : Job) (rest : List ℕ) (why : JobWhy) : Type 0 where
+pub data Kind (place : Place) (job : Job) (rest : List ℕ) (why : LineWhy) : Type 0 where
   IsText : HasNoText place job rest → why ≡ Text → Kind place job rest why
   IsLine : IsWhole rest → (why ≡ Form) ⊎ ((why ≡ BadValue) ⊎ ((why ≡ Entry) ⊎ (why ≡ Count)))
       → IsAtFault why place job rest → Kind place job rest why
@@ -107,7 +115,7 @@ says_none place job rest none item says =
     none_some none (ap (line_at place (scope_of job)) says.1.1 ∙ line_again place (scope_of job) item says.1.0 says.0)
 
 -- the reason of a line that isn't empty
-reason_by : (place : Place) (job : Job) (form text : Bool) (b : ℕ) (rest : List ℕ) (why : JobWhy) → place ≢ Over
+reason_by : (place : Place) (job : Job) (form text : Bool) (b : ℕ) (rest : List ℕ) (why : LineWhy) → place ≢ Over
     → item_form place (scope_of job) (b ∷ rest) ≡ form → is_text (b ∷ rest) ≡ text
     → line_at place (scope_of job) (b ∷ rest) ≡ None → cond text (cond form BadValue Form) Text ≡ why → Kind place job
     (b ∷ rest) why
@@ -118,7 +126,7 @@ reason_by place job true true b rest why open_ f e none h =
       form = f;
       says_nothing = says_none place job (b ∷ rest) none;
     } in
-    IsLine (text_whole (b ∷ rest) e) (inr (inl (sym h))) (subst (λ (w : JobWhy). IsAtFault w place job (b ∷ rest)) h bad)
+    IsLine (text_whole (b ∷ rest) e) (inr (inl (sym h))) (subst (λ (w : LineWhy). IsAtFault w place job (b ∷ rest)) h bad)
 reason_by place job false true b rest why open_ f e none h =
     let bad : HasNoForm place job (b ∷ rest) = record {
       to_come = open_;
@@ -126,7 +134,7 @@ reason_by place job false true b rest why open_ f e none h =
       no_form = f;
       says_nothing = says_none place job (b ∷ rest) none;
     } in
-    IsLine (text_whole (b ∷ rest) e) (inl (sym h)) (subst (λ (w : JobWhy). IsAtFault w place job (b ∷ rest)) h bad)
+    IsLine (text_whole (b ∷ rest) e) (inl (sym h)) (subst (λ (w : LineWhy). IsAtFault w place job (b ∷ rest)) h bad)
 reason_by place job form false b rest why open_ f e none h =
     let bad : HasNoText place job (b ∷ rest) = record {
       to_come = open_;
@@ -136,7 +144,7 @@ reason_by place job form false b rest why open_ f e none h =
     } in
     IsText bad (sym h)
 
-reason_kind : (place : Place) (job : Job) (rest : List ℕ) (why : JobWhy) → place ≢ Over → (rest ≡ [] → ⊥)
+reason_kind : (place : Place) (job : Job) (rest : List ℕ) (why : LineWhy) → place ≢ Over → (rest ≡ [] → ⊥)
     → line_at place (scope_of job) rest ≡ None → reason (item_form place (scope_of job)) rest ≡ why
     → Kind place job rest why
 reason_kind place job [] why open_ some none h = absurd (some refl)
@@ -145,22 +153,22 @@ reason_kind place job (b ∷ rest) why open_ some none h =
     (sym (cond_no (eqb (length (b ∷ rest)) 0) Early _ (ne_eqb (length (b ∷ rest)) 0 (λ e. omega arith))) ∙ h)
 
 -- a line that may not stand there
-abbrev pub IsCounted : (place : Place) → Job → Item place → JobWhy → Type 0
+abbrev pub IsCounted : (place : Place) → Job → Item place → LineWhy → Type 0
 IsCounted place job item why =
     ((why ≡ Entry) × IsTaken place job item)
     ⊎ ((why ≡ Count) × (IsTaken place job item → ⊥) × IsFull place job item)
 
-unless_err : (o : Option JobWhy) (state : State) (why : JobWhy) → unless o state ≡ Err why → o ≡ Some why
+unless_err : (o : Option LineWhy) (state : State) (why : LineWhy) → unless o state ≡ Err why → o ≡ Some why
 unless_err None state why h = absurd (cc)
 unless_err (Some w) state why h = cc
 
-two_by : (t u : Bool) (why : JobWhy) → cond t (Some Entry) (cond u (Some Count) None) ≡ Some why
+two_by : (t u : Bool) (why : LineWhy) → cond t (Some Entry) (cond u (Some Count) None) ≡ Some why
     → ((why ≡ Entry) × (t ≡ true)) ⊎ ((why ≡ Count) × (t ≡ true → ⊥) × (u ≡ true))
 two_by true u why h = inl (cc, refl)
 two_by false true why h = inr (cc, λ t. cc, refl)
 two_by false false why h = absurd (cc)
 
-one_by : (t : Bool) (why : JobWhy) → cond t (Some Count) None ≡ Some why → (why ≡ Count) × (t ≡ true)
+one_by : (t : Bool) (why : LineWhy) → cond t (Some Count) None ≡ Some why → (why ≡ Count) × (t ≡ true)
 one_by true why h = (cc, refl)
 one_by false why h = absurd (cc)
 
@@ -169,11 +177,11 @@ either : {A B C D : Type 0} → A ⊎ B → (A → C) → (B → D) → C ⊎ D
 either (inl a) f g = inl (f a)
 either (inr b) f g = inr (g b)
 
-entry_by : (t : Bool) (why : JobWhy) → cond t (Some Entry) None ≡ Some why → (why ≡ Entry) × (t ≡ true)
+entry_by : (t : Bool) (why : LineWhy) → cond t (Some Entry) None ≡ Some why → (why ≡ Entry) × (t ≡ true)
 entry_by true why h = (cc, refl)
 entry_by false why h = absurd (cc)
 
-opened_kind : (job : Job) (s : Section) (why : JobWhy) → opened job s ≡ Err why → IsCounted AtScripts job s why
+opened_kind : (job : Job) (s : Section) (why : LineWhy) → opened job s ≡ Err why → IsCounted AtScripts job s why
 opened_kind job (section.Script node thread) why h =
     inl (entry_by (has_thread job.scripts node thread) why
     (unless_err (section_why job.scripts (section.Script node thread)) _ why h))
@@ -181,12 +189,12 @@ opened_kind job section.Schedule why h = absurd (cc)
 opened_kind job section.Done why h = absurd (cc)
 
 -- a script is never too much for its place
-from_scripts : (job : Job) (s : Section) (why : JobWhy) → IsCounted AtScripts job s why
+from_scripts : (job : Job) (s : Section) (why : LineWhy) → IsCounted AtScripts job s why
     → IsCounted AtHandlers job (Other s) why
 from_scripts job s why (inl taken) = inl taken
 from_scripts job s why (inr full) = absurd full.2
 
-headed_kind : (job : Job) (item : HandlerItem) (why : JobWhy) → headed job item ≡ Err why
+headed_kind : (job : Job) (item : HandlerItem) (why : LineWhy) → headed job item ≡ Err why
     → IsCounted AtHandlers job item why
 headed_kind job (Named header) why h =
     let most = most_handlers (scope_of job) in
@@ -195,24 +203,24 @@ headed_kind job (Named header) why h =
     (λ t. t) (λ u. (u.0, u.1, leb-true most (length job.handlers) u.2))
 headed_kind job (Other s) why h = from_scripts job s why (opened_kind job s why h)
 
-collected_kind : (job : Job) (item : CollectItem) (why : JobWhy) → collected job item ≡ Err why
+collected_kind : (job : Job) (item : CollectItem) (why : LineWhy) → collected job item ≡ Err why
     → IsCounted AtCollect job item why
 collected_kind job (Named area) why h = absurd (cc)
 collected_kind job (Other item) why h = headed_kind job item why h
 
-served_kind : (job : Job) (item : AtomicsItem) (why : JobWhy) → served job item ≡ Err why
+served_kind : (job : Job) (item : AtomicsItem) (why : LineWhy) → served job item ≡ Err why
     → IsCounted AtAtomics job item why
 served_kind job (Named line) why h = absurd (cc)
 served_kind job (Other item) why h = collected_kind job item why h
 
-paired_kind : (job : Job) (item : PairItem) (why : JobWhy) → paired job item ≡ Err why → IsCounted AtPairs job item why
+paired_kind : (job : Job) (item : PairItem) (why : LineWhy) → paired job item ≡ Err why → IsCounted AtPairs job item why
 paired_kind job (Named pair) why h =
     either (two_by (has_pair job.settings.pairs pair) (leb 64 (length job.settings.pairs)) why
     (unless_err (pair_why job.settings.pairs pair) _ why h)) (λ t. t) (λ u.
     (u.0, u.1, leb-true 64 (length job.settings.pairs) u.2))
 paired_kind job (Other item) why h = served_kind job item why h
 
-next_kind : (place : Place) (job : Job) (item : Item place) (why : JobWhy) → next place job item ≡ Err why
+next_kind : (place : Place) (job : Job) (item : Item place) (why : LineWhy) → next place job item ≡ Err why
     → IsCounted place job item why
 next_kind (AtSetting setting) job item why h = absurd (cc)
 next_kind AtSieve job item why h = absurd (cc)
@@ -240,20 +248,20 @@ next_kind AtSchedule job (Some t) why h =
 next_kind AtDone job item why h = absurd (cc)
 next_kind Over job item why h = absurd item
 
-counted_line : (place : Place) (job : Job) (rest : List ℕ) (why : JobWhy) (item : Item place) → IsWhole rest
+counted_line : (place : Place) (job : Job) (rest : List ℕ) (why : LineWhy) (item : Item place) → IsWhole rest
     → Says place (scope_of job) rest item → IsCounted place job item why → Kind place job rest why
 counted_line place job rest why item w says (inl e) =
     let bad : IsRepeated place job rest = record { item = item; says = says; taken = e.1 } in
-    IsLine w (inr (inr (inl e.0))) (subst (λ (x : JobWhy). IsAtFault x place job rest) (sym e.0) bad)
+    IsLine w (inr (inr (inl e.0))) (subst (λ (x : LineWhy). IsAtFault x place job rest) (sym e.0) bad)
 counted_line place job rest why item w says (inr e) =
     let bad : IsTooMany place job rest = record { item = item; says = says; is_new = e.1; full = e.2 } in
-    IsLine w (inr (inr (inr e.0))) (subst (λ (x : JobWhy). IsAtFault x place job rest) (sym e.0) bad)
+    IsLine w (inr (inr (inr e.0))) (subst (λ (x : LineWhy). IsAtFault x place job rest) (sym e.0) bad)
 
-onward_err : (rest : List ℕ) (r : Result State JobWhy) (why : JobWhy) → onward rest r ≡ Err why → r ≡ Err why
+onward_err : (rest : List ℕ) (r : Result State LineWhy) (why : LineWhy) → onward rest r ≡ Err why → r ≡ Err why
 onward_err rest (Ok state) why h = absurd (cc)
 onward_err rest (Err w) why h = cc
 
-kind_by : (state : State) (rest : List ℕ) (why : JobWhy) (o : Option (Item state.place × List ℕ))
+kind_by : (state : State) (rest : List ℕ) (why : LineWhy) (o : Option (Item state.place × List ℕ))
     → line_at state.place (scope_of state.job) rest ≡ o → state.place ≢ Over → (rest ≡ [] → ⊥)
     → stepped state.place state.job (why_at state.place (scope_of state.job) rest) o ≡ Err why
     → Kind state.place state.job rest why
@@ -269,7 +277,7 @@ kind_by state rest why (Some y) e open_ some h =
     counted_line state.place state.job rest why y.0 whole (said.1, (y.1, said.0))
     (next_kind state.place state.job y.0 why (onward_err y.1 (next state.place state.job y.0) why h))
 
-fail_kind : (state : State) (rest : List ℕ) (why : JobWhy) → state.place ≢ Over → (rest ≡ [] → ⊥)
+fail_kind : (state : State) (rest : List ℕ) (why : LineWhy) → state.place ≢ Over → (rest ≡ [] → ⊥)
     → step state rest ≡ Err why → Kind state.place state.job rest why
 unfolding step
 fail_kind state rest why open_ some h =
@@ -307,7 +315,7 @@ flat_same (c ∷ a) (d ∷ b) x y h k e = cons_same c d a b (cc) (flat_same a b 
     cons_same c d a b p q = cc
 
 -- a whole line that isn't read
-wrong_line : (state : State) (number : ℕ) (rest : List ℕ) (why : JobWhy) (w : IsWhole rest) (more : List ℕ)
+wrong_line : (state : State) (number : ℕ) (rest : List ℕ) (why : LineWhy) (w : IsWhole rest) (more : List ℕ)
     (front : Front) → IsOpen state.place → IsState state.place state.job → step state rest ≡ Err why
     → read state number (w.line ++ 10 ∷ more) ≡ Ok front → ⊥
 wrong_line state number rest why w more front open_ is f h =
@@ -361,7 +369,7 @@ no_front_over count bytes end rest w over some job more is e =
     (length_join (first_lines 1 rest) more (first_some rest some)) (read_behind count bytes end rest w job more is e)
 
 no_front_line : (count : ℕ) (bytes : List ℕ) (end : State) (rest : List ℕ) → IsWalk count bytes end rest →
-    (why : JobWhy) → IsOpen end.place → step end rest ≡ Err why → IsWhole rest
+    (why : LineWhy) → IsOpen end.place → step end rest ≡ Err why → IsWhole rest
     → IsNoFront (first_lines (count + 1) bytes)
 no_front_line count bytes end rest w why open_ f whole job more is e =
     let first : first_lines 1 rest ≡ whole.line ++ 10 ∷ [] = ap (first_lines 1) whole.text
@@ -401,7 +409,7 @@ before_of count line bytes end rest w walks e =
     }
 
 -- the line behind a walk is wrong
-wrong : (count line : ℕ) (bytes : List ℕ) (end : State) (rest : List ℕ) (why : JobWhy)
+wrong : (count line : ℕ) (bytes : List ℕ) (end : State) (rest : List ℕ) (why : LineWhy)
     → Walks count start bytes end rest → line ≡ 1 + count → NoneGoesOn why (first_lines (count + 1) bytes)
     → IsAtFault why end.place end.job rest → IsWrong bytes line why
 unfolding before_of
@@ -417,22 +425,22 @@ wrong count line bytes end rest why walks e none fault =
     }
 
 -- a whole line that isn't read
-wrong_found : (found : JobWhy) (count line : ℕ) (bytes : List ℕ) (end : State) (rest : List ℕ) (why : JobWhy)
+wrong_found : (found : LineWhy) (count line : ℕ) (bytes : List ℕ) (end : State) (rest : List ℕ) (why : LineWhy)
     → Walks count start bytes end rest → line ≡ 1 + count → IsOpen end.place → step end rest ≡ Err why → IsWhole rest
     → why ≡ found → (IsNoFront (first_lines (count + 1) bytes) → NoneGoesOn found (first_lines (count + 1) bytes))
     → IsAtFault why end.place end.job rest → IsWrong bytes line found
 wrong_found found count line bytes end rest why walks e open_ f whole is none fault =
     wrong count line bytes end rest found walks e
     (none (no_front_line count bytes end rest (walk_of count bytes end rest walks) why open_ f whole))
-    (subst (λ (x : JobWhy). IsAtFault x end.place end.job rest) is fault)
+    (subst (λ (x : LineWhy). IsAtFault x end.place end.job rest) is fault)
 
 -- what a refusal within a job's lines means
-abbrev pub IsLineWrong : List ℕ → (line : ℕ) → JobWhy → Type 0
+abbrev pub IsLineWrong : List ℕ → (line : ℕ) → LineWhy → Type 0
 IsLineWrong bytes line Size = ⊥
 IsLineWrong bytes line After = ⊥
 IsLineWrong bytes line why = IsWrong bytes line why
 
-means_by : (count line : ℕ) (bytes : List ℕ) (end : State) (rest : List ℕ) (why : JobWhy)
+means_by : (count line : ℕ) (bytes : List ℕ) (end : State) (rest : List ℕ) (why : LineWhy)
     → Walks count start bytes end rest → line ≡ 1 + count → IsOpen end.place → step end rest ≡ Err why
     → Kind end.place end.job rest why → IsLineWrong bytes line why
 means_by count line bytes end rest why w e open_ f (IsText bad is) =
@@ -474,7 +482,7 @@ read_means bytes found h =
     ends_mean bytes found o.count o.end o.rest (read start 1 bytes) o.walks o.ends h
 
 -- of a text that isn't too long, and of one behind which bytes may follow
-line_means : (bytes : List ℕ) (line : ℕ) (why : JobWhy) → length bytes ≤ limit → IsLineWrong bytes line why
+line_means : (bytes : List ℕ) (line : ℕ) (why : LineWhy) → length bytes ≤ limit → IsLineWrong bytes line why
     → Means bytes line why
 line_means bytes line Size few h = absurd h
 line_means bytes line Early few h = (h, few)
@@ -485,7 +493,7 @@ line_means bytes line Entry few h = (h, few)
 line_means bytes line Count few h = (h, few)
 line_means bytes line After few h = absurd h
 
-line_front_means : (bytes : List ℕ) (line : ℕ) (why : JobWhy) → IsLineWrong bytes line why → FrontMeans bytes line why
+line_front_means : (bytes : List ℕ) (line : ℕ) (why : LineWhy) → IsLineWrong bytes line why → FrontMeans bytes line why
 line_front_means bytes line Size h = absurd h
 line_front_means bytes line Early h = h
 line_front_means bytes line Text h = h

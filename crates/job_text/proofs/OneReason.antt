@@ -4,36 +4,41 @@ use Rattle.std.proofs.Common.{None, Result, Ok, Err, Bool, true, false, eqb, con
 use Rattle.std.proofs.Common.{length-append}
 use Rattle.std.specs.Prelude.{◌⊎◌}
 use Rattle.std.proofs.lemmas.Bool.{le-leb, lt-ltb, ne_eqb}
-use Rattle.job_text.specs.Reasons.{is_text, reason}
+use Rattle.text_lines.specs.Reasons.{is_text, reason}
 use Rattle.job_text.specs.Scopes.{scope_of}
 use Rattle.job_text.specs.Places.{Setting, Version, Nodes, Credits, Threads, Segment, Last, Resend, Patience}
 use Rattle.job_text.specs.Places as places
-use Rattle.job_text.specs.Places.{Place, AtSetting, AtSieve, AtPairs, AtAtomics, AtHandlers, AtBody, AtScripts, AtSteps}
+use Rattle.job_text.specs.Places.{Place, AtSetting, AtSieve, AtPairs, AtAtomics, AtHandlers, AtBody}
+use Rattle.job_text.specs.Places.{AtScripts, AtSteps}
 use Rattle.job_text.specs.Places.{AtCollect, AtSchedule, AtDone, Over, Named, Other, Item, item_form}
 use Rattle.job_text.specs.Places.{HandlerItem, CollectItem, AtomicsItem}
 use Rattle.job_text.specs.JobReading.{BadLine, start, limit, line_at, next, opened, headed, collected, served}
-use Rattle.job_text.specs.JobReading.{front_with, of_front, alone, sized, from_lines, run, read, job_of, front_of}
+use Rattle.job_text.specs.JobReading.{front_with, of_front, alone, sized, from_lines, run, read, job_of}
+use Rattle.job_text.specs.JobReading.{front_of}
 use Rattle.job_text.specs.JobReading.{most_handlers}
 use Rattle.job_text.specs.JobReading.{has_pair, has_index, is_reserved}
 use Rattle.job_text.specs.JobText.{spell, job_lines, job_text}
 use Rattle.job_text.specs.Reading.{GivesAt}
-use Rattle.job_text.specs.Refusals.{first_lines, after_lines, so_far, Says, SaysNothing, IsTaken, IsTakenIndex}
+use Rattle.job_text.specs.Refusals.{first_lines, after_lines, so_far, Says, SaysNothing, IsTaken}
+use Rattle.job_text.specs.Refusals.{IsTakenIndex}
 use Rattle.job_text.specs.Refusals.{IsTakenBehind, IsTakenLater, IsFullBehind}
-use Rattle.job_text.specs.Refusals.{IsTakenThread, IsFull, IsFullOfHandlers, IsFullLater, HasNoText, HasNoForm}
+use Rattle.job_text.specs.Refusals.{IsTakenThread, IsFull, IsFullOfHandlers, IsFullLater, HasNoText}
+use Rattle.job_text.specs.Refusals.{HasNoForm}
 use Rattle.job_text.specs.Refusals.{HasBadValue, IsAtFault, Before, IsWrong, Means}
 use Rattle.job_text.specs.Refusals.{IsTold, IsTooLong, FrontMeans}
 use Rattle.job_text.specs.declared.fault.JobFault.{JobFault}
 use Rattle.job_text.specs.declared.fault.JobFault.TheVariants as faults
-use Rattle.job_text.specs.declared.fault.JobWhy.{JobWhy}
-use Rattle.job_text.specs.declared.fault.JobWhy.TheVariants.{Size, Early, Text, Form, Value as BadValue, Entry, Count}
-use Rattle.job_text.specs.declared.fault.JobWhy.TheVariants.{After}
+use Rattle.text_lines.specs.declared.why.LineWhy.{LineWhy}
+use Rattle.text_lines.specs.declared.why.LineWhy.TheVariants.{Size, Early, Text, Form, Value as BadValue, Entry, Count}
+use Rattle.text_lines.specs.declared.why.LineWhy.TheVariants.{After}
 use Rattle.job_text.specs.declared.job.Job.{Job}
 use Rattle.job_text.specs.declared.sections.HandlerHeader.{HandlerHeader}
 use Rattle.job_text.specs.declared.sections.Section.{Section}
 use Rattle.job_text.specs.declared.sections.Section.TheVariants as section
-use Rattle.job_text.proofs.Fronts.{cond_yes, cond_no}
+use Rattle.text_lines.proofs.Fronts.{cond_yes, cond_no}
 use Rattle.job_text.proofs.JobRuns.{job_reads, front_reads}
-use Rattle.job_text.proofs.LineRuns.{IsOpen, goes_on, open_or_over, line_takes, line_again, read_full, line_bad, over_read}
+use Rattle.job_text.proofs.LineRuns.{IsOpen, goes_on, open_or_over, line_takes, line_again, read_full}
+use Rattle.job_text.proofs.LineRuns.{line_bad, over_read}
 use Rattle.job_text.proofs.Completeness.{reach_read, job_read}
 use Rattle.job_text.proofs.Reaching.{known, reach_place}
 
@@ -74,12 +79,12 @@ nothing_read : (place : Place) (job : Job) (rest : List ℕ) → SaysNothing pla
 nothing_read place job rest says = nothing_by place job rest (line_at place (scope_of job) rest) refl says
 
 -- the reader refuses these bytes there so
-abbrev pub IsRefused : Place → Job → (line : ℕ) → List ℕ → JobWhy → Type 0
+abbrev pub IsRefused : Place → Job → (line : ℕ) → List ℕ → LineWhy → Type 0
 IsRefused place job line rest why =
     read (record { place = place; job = job }) line rest ≡ Err (record { line = line; why = why })
 
 -- by the reason of a line that says nothing
-reasoned : (place : Place) (job : Job) (line b : ℕ) (rest : List ℕ) (form text : Bool) (why : JobWhy) → place ≢ Over
+reasoned : (place : Place) (job : Job) (line b : ℕ) (rest : List ℕ) (form text : Bool) (why : LineWhy) → place ≢ Over
     → is_text (b ∷ rest) ≡ text → item_form place (scope_of job) (b ∷ rest) ≡ form
     → SaysNothing place job (b ∷ rest) → cond text (cond form BadValue Form) Text ≡ why
     → IsRefused place job line (b ∷ rest) why
@@ -87,7 +92,7 @@ reasoned place job line b rest form text why to_come e f says is =
     let told : reason (item_form place (scope_of job)) (b ∷ rest) ≡ why =
     cond_no (eqb (length (b ∷ rest)) 0) Early _ (ne_eqb (length (b ∷ rest)) 0 (λ none. omega arith)) ∙ rw (e, f) is in
     line_bad place (open_at place to_come) job line (b ∷ rest) (nothing_read place job (b ∷ rest) says)
-    ∙ ap (λ (w : JobWhy). Err (record { line = line; why = w })) told
+    ∙ ap (λ (w : LineWhy). Err (record { line = line; why = w })) told
 
 no_text_bytes : is_text [] ≡ true → ⊥
 unfolding is_text
@@ -193,7 +198,7 @@ next_full AtSchedule job (Some timed) is_new h = rw h refl
 next_full AtDone job item is_new h = absurd h
 next_full Over job item is_new h = absurd h
 
-said_refused : (place : Place) (job : Job) (line : ℕ) (rest : List ℕ) (why : JobWhy) (item : Item place)
+said_refused : (place : Place) (job : Job) (line : ℕ) (rest : List ℕ) (why : LineWhy) (item : Item place)
     → Says place (scope_of job) rest item → next place job item ≡ Err why → IsRefused place job line rest why
 said_refused place job line rest why item says goes =
     let read_as : line_at place (scope_of job) rest ≡ Some (item, says.1.0) =
@@ -201,12 +206,12 @@ said_refused place job line rest why item says goes =
     read_full place job line rest says.1.0 item why read_as goes
 
 -- a fault within the lines of a job
-abbrev pub IsWithin : JobWhy → Type 0
+abbrev pub IsWithin : LineWhy → Type 0
 IsWithin Size = ⊥
 IsWithin After = ⊥
 IsWithin why = Unit {0}
 
-fault_refused : (why : JobWhy) (place : Place) (job : Job) (line : ℕ) (rest : List ℕ) → IsWithin why
+fault_refused : (why : LineWhy) (place : Place) (job : Job) (line : ℕ) (rest : List ℕ) → IsWithin why
     → IsAtFault why place job rest → IsRefused place job line rest why
 fault_refused Size place job line rest within h = absurd within
 fault_refused Early place job line rest within h =
@@ -241,7 +246,7 @@ setting_back Patience job rest item says = says
 sieve_back : SaysBack AtSieve
 sieve_back job rest item says = says
 
-head_known : (why : JobWhy) (place : Place) (job : Job) (rest : List ℕ) → SaysBack place
+head_known : (why : LineWhy) (place : Place) (job : Job) (rest : List ℕ) → SaysBack place
     → (item_form place (scope_of (known place job)) rest ≡ item_form place (scope_of job) rest)
     → ((item : Item place) → IsTaken place job item → ⊥) → ((item : Item place) → IsFull place job item → ⊥)
     → IsAtFault why place job rest → IsAtFault why place (known place job) rest
@@ -269,7 +274,7 @@ head_known Entry place job rest back form taken full h = absurd (taken h.item h.
 head_known Count place job rest back form taken full h = absurd (full h.item h.full)
 head_known After place job rest back form taken full h = h
 
-fault_known : (why : JobWhy) (place : Place) (job : Job) (rest : List ℕ) → IsAtFault why place job rest
+fault_known : (why : LineWhy) (place : Place) (job : Job) (rest : List ℕ) → IsAtFault why place job rest
     → IsAtFault why place (known place job) rest
 fault_known why (AtSetting setting) job rest h =
     head_known why (AtSetting setting) job rest (setting_back setting) refl (λ item t. t) (λ item f. f) h
@@ -302,7 +307,7 @@ read_before bytes line b =
     (reach_place b.place b.job b.is b.unread b.reached)
     ∙ ap (λ (n : ℕ). read (record { place = b.place; job = known b.place b.job }) n rest) (omega (arith, count))
 
-wrong_read : (bytes : List ℕ) (line : ℕ) (why : JobWhy) → IsWithin why → IsWrong bytes line why
+wrong_read : (bytes : List ℕ) (line : ℕ) (why : LineWhy) → IsWithin why → IsWrong bytes line why
     → read start 1 bytes ≡ Err (record { line = line; why = why })
 wrong_read bytes line why within w =
     let b = w.before in
@@ -333,11 +338,11 @@ after_read bytes line w =
 
 -- ---- what is meant is told
 
-within_read : (bytes : List ℕ) (line : ℕ) (why : JobWhy) → IsWithin why → IsWrong bytes line why × (length bytes ≤ limit)
+within_read : (bytes : List ℕ) (line : ℕ) (why : LineWhy) → IsWithin why → IsWrong bytes line why × (length bytes ≤ limit)
     → job_of bytes ≡ Err (record { line = line; why = why })
 within_read bytes line why within w = job_reads bytes w.1 ∙ ap (of_front alone) (wrong_read bytes line why within w.0)
 
-pub means_told : (bytes : List ℕ) (line : ℕ) (why : JobWhy) → Means bytes line why
+pub means_told : (bytes : List ℕ) (line : ℕ) (why : LineWhy) → Means bytes line why
     → job_of bytes ≡ Err (record { line = line; why = why })
 unfolding job_of
 means_told bytes line Size m =
@@ -351,7 +356,7 @@ means_told bytes line Entry m = within_read bytes line Entry tt m
 means_told bytes line Count m = within_read bytes line Count tt m
 means_told bytes line After m = job_reads bytes m.1 ∙ after_read bytes line m.0
 
-within_front : (bytes : List ℕ) (line : ℕ) (why : JobWhy) → IsWithin why → IsWrong bytes line why
+within_front : (bytes : List ℕ) (line : ℕ) (why : LineWhy) → IsWithin why → IsWrong bytes line why
     → front_of bytes ≡ Err (record { line = line; why = why })
 within_front bytes line why within w =
     front_reads bytes ∙ ap (of_front (sized (length bytes))) (wrong_read bytes line why within w)
@@ -368,7 +373,7 @@ long_read bytes t =
     ∙ ap (of_front (sized (length bytes))) (job_read t.job t.is t.rest)
     ∙ cond_yes _ _ _ (lt-ltb limit (length bytes - length front.rest) (omega (arith, size, long)))
 
-pub front_means_told : (bytes : List ℕ) (line : ℕ) (why : JobWhy) → FrontMeans bytes line why
+pub front_means_told : (bytes : List ℕ) (line : ℕ) (why : LineWhy) → FrontMeans bytes line why
     → front_of bytes ≡ Err (record { line = line; why = why })
 front_means_told bytes line Size m =
     long_read bytes m.1 ∙ ap (λ (n : ℕ). Err (record { line = n; why = Size })) (sym m.0)
@@ -392,7 +397,7 @@ told_of : (bad found : BadLine) → bad ≡ found → faults.Bad bad.line bad.wh
 told_of bad found same = ap (λ (b : BadLine). faults.Bad b.line b.why) same
 
 pub gives_told : (r : Result Job JobFault) (bytes : List ℕ) → GivesAt (λ (j : Job). j) r (job_of bytes)
-    → (line : ℕ) (why : JobWhy) → Means bytes line why → IsTold r line why
+    → (line : ℕ) (why : LineWhy) → Means bytes line why → IsTold r line why
 gives_told (Ok job) bytes h line why m =
     no_fault job (job_of bytes) (record { line = line; why = why }) h (means_told bytes line why m)
 gives_told (Err faults.NoMemory) bytes h line why m = inl tt
@@ -403,7 +408,7 @@ gives_told (Err (faults.Bad at told)) bytes h line why m =
 
 pub gives_front_told : (r : Result (Job × ℕ) JobFault) (bytes : List ℕ)
     → GivesAt (λ (x : Job × ℕ). x) r (front_of bytes)
-    → (line : ℕ) (why : JobWhy) → FrontMeans bytes line why → IsTold r line why
+    → (line : ℕ) (why : LineWhy) → FrontMeans bytes line why → IsTold r line why
 gives_front_told (Ok x) bytes h line why m =
     no_fault x (front_of bytes) (record { line = line; why = why }) h (front_means_told bytes line why m)
 gives_front_told (Err faults.NoMemory) bytes h line why m = inl tt

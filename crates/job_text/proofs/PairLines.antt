@@ -3,18 +3,20 @@ use Rattle.std.proofs.Common.{◌≡◌, ℕ, ◌+◌, List, Option, Some, None,
 use Rattle.std.proofs.Common.{refl, sym, ap, ◌∙◌, codes}
 use Rattle.std.specs.Str.{bytes_eq}
 use Rattle.job_text.specs.Scopes.{scope_of}
-use Rattle.job_text.specs.declared.scope.Scope.{Scope}
+use Rattle.line_forms.specs.declared.scope.Scope.{Scope}
 use Rattle.datagram_grammar.specs.declared.pairs.PairCredits.{PairCredits}
-use Rattle.job_text.specs.Lines.{◌>>=◌, front, ended}
-use Rattle.job_text.specs.Reasons.{reason, why_of}
+use Rattle.text_lines.specs.Lines.{◌>>=◌, front, ended}
+use Rattle.text_lines.specs.Reasons.{reason, why_of}
 use Rattle.job_text.specs.Places.{NamedOr, Named, Other, AtAtomics, atomics_at, atomics_or_later_at}
 use Rattle.job_text.specs.Places.{atomics_or_later_form, AtCollect, collect_at, collect_or_later_at}
 use Rattle.job_text.specs.Places.{collect_or_later_form}
-use Rattle.job_text.specs.Places.{Place, AtPairs, AtHandlers, AtBody, AtScripts, Item, item_form, named_or, header_at}
-use Rattle.job_text.specs.Places.{section_at, pair_at, header_or_section_at, header_or_section_form, pairs_form}
+use Rattle.job_text.specs.Places.{Place, AtPairs, AtHandlers, AtBody, AtScripts, Item, item_form, named_or}
+use Rattle.job_text.specs.Places.{header_at}
+use Rattle.job_text.specs.Places.{section_at, pair_at, header_or_section_at, header_or_section_form}
+use Rattle.job_text.specs.Places.{pairs_form}
 use Rattle.job_text.specs.JobReading.{State, lined, line_at, next, begun, handler_why, pair_why, with_atomics}
 use Rattle.job_text.specs.JobReading.{with_collect, with_own, read}
-use Rattle.job_text.specs.declared.fault.JobWhy.{JobWhy}
+use Rattle.text_lines.specs.declared.why.LineWhy.{LineWhy}
 use Rattle.job_text.specs.declared.job.CollectArea.{CollectArea}
 use Rattle.job_text.specs.declared.job.Job.{Job}
 use Rattle.job_text.specs.declared.sections.HandlerHeader.{HandlerHeader}
@@ -78,7 +80,7 @@ pair_read job line bytes rest pair b h w =
     (pair_line (scope_of job) bytes b ∙ rw h refl) (rw w refl)
 
 -- a pair is read, and may not stand there
-pub pair_full : (job : Job) (line : ℕ) (bytes rest : List ℕ) (pair : PairCredits) (why : JobWhy) → bytes_eq
+pub pair_full : (job : Job) (line : ℕ) (bytes rest : List ℕ) (pair : PairCredits) (why : LineWhy) → bytes_eq
     (front bytes) (codes "pair") ≡ true → lined (pair_at job.settings) bytes ≡ Some (pair, rest)
     → pair_why job.settings.pairs pair ≡ Some why
     → read (record { place = AtPairs; job = job }) line bytes ≡ Err (record { line = line; why = why })
@@ -143,7 +145,7 @@ handler_read job line bytes rest header b h w =
     (header_line (scope_of job) bytes b ∙ rw h refl) (rw w refl)
 
 -- it is read, and may not stand there
-pub handler_full : (job : Job) (line : ℕ) (bytes rest : List ℕ) (header : HandlerHeader) (why : JobWhy) → bytes_eq
+pub handler_full : (job : Job) (line : ℕ) (bytes rest : List ℕ) (header : HandlerHeader) (why : LineWhy) → bytes_eq
     (front bytes) (codes "handler") ≡ true → lined header_at bytes ≡ Some (header, rest)
     → handler_why (scope_of job) job.handlers header.index ≡ Some why
     → read (record { place = AtHandlers; job = job }) line bytes ≡ Err (record { line = line; why = why })
@@ -171,7 +173,7 @@ pub record IsSameLine (here there : Place) (job : Job) (bytes : List ℕ) : Type
   pub bad_there : Refuses there
 
 same_ok : (here there : Place) (job : Job) (line : ℕ) (bytes rest : List ℕ) (item : Item there)
-    (r : Result State JobWhy) → IsSameLine here there job bytes → line_at there (scope_of job) bytes ≡ Some (item, rest)
+    (r : Result State LineWhy) → IsSameLine here there job bytes → line_at there (scope_of job) bytes ≡ Some (item, rest)
     → next there job item ≡ r
     → read (record { place = here; job = job }) line bytes ≡ read (record { place = there; job = job }) line bytes
 same_ok here there job line bytes rest item (Ok state) is h n =

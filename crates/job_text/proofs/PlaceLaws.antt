@@ -8,52 +8,56 @@ use Rattle.std.proofs.lemmas.Fmt.{digits_decimal, decimal_nonempty}
 use Rattle.std.proofs.lemmas.Bool.{ne_eqb}
 use Rattle.datagram_grammar.specs.Parameters.{Parameters}
 use Rattle.datagram_grammar.specs.declared.pairs.PairCredits.{PairCredits}
-use Rattle.job_text.specs.Lines.{◌>>=◌, is_stop, front, back}
-use Rattle.job_text.specs.Forms.{none_at, none_text, none_fits, entry_text}
-use Rattle.job_text.specs.Bodies.{action_at, action_text, IsAction}
-use Rattle.job_text.specs.Events.{timed_at, IsTimed}
-use Rattle.job_text.specs.Scripts.{step_at, step_text, IsStep}
+use Rattle.text_lines.specs.Lines.{◌>>=◌, is_stop, front, back}
+use Rattle.line_forms.specs.Forms.{none_at, none_text, none_fits, entry_text}
+use Rattle.step_text.specs.Bodies.{action_at, action_text, IsAction}
+use Rattle.step_text.specs.Events.{timed_at, IsTimed}
+use Rattle.step_text.specs.Scripts.{step_at, step_text, IsStep}
 use Rattle.gas_strided.specs.declared.shapes.Way.{Way}
 use Rattle.gas_strided.specs.declared.shapes.Way.TheVariants.{Put, Get}
-use Rattle.job_text.specs.VisLines.{entry_by}
-use Rattle.job_text.specs.declared.vis.VisShape.{VisShape}
-use Rattle.job_text.specs.declared.vis.VisShape.TheVariants as shapes
+use Rattle.vis_text.specs.VisLines.{entry_by}
+use Rattle.vis_text.specs.declared.vis.VisShape.{VisShape}
+use Rattle.vis_text.specs.declared.vis.VisShape.TheVariants as shapes
 use Rattle.job_text.specs.Places.{Setting, Version, Nodes, Credits, Threads, Segment, Last, Resend, Patience}
 use Rattle.job_text.specs.Places as places
 use Rattle.job_text.specs.Places.{Place, AtSetting, AtSieve, AtPairs, AtHandlers, AtBody, AtScripts, AtSteps}
 use Rattle.job_text.specs.Places.{AtAtomics, AtCollect, AtSchedule, AtDone, Over}
-use Rattle.job_text.specs.Places.{collect_row, collect_entry, collect_fits, collect_at, collect_text, IsCollectLine}
+use Rattle.job_text.specs.Places.{collect_row, collect_entry, collect_fits, collect_at, collect_text}
+use Rattle.job_text.specs.Places.{IsCollectLine}
 use Rattle.job_text.specs.Places.{collect_or_later_at, collect_or_later_text, IsCollectOrLater}
-use Rattle.job_text.specs.Places.{atomics_row, atomics_entry, atomics_fit, atomics_at, atomics_text, IsAtomicsLine}
+use Rattle.job_text.specs.Places.{atomics_row, atomics_entry, atomics_fit, atomics_at, atomics_text}
+use Rattle.job_text.specs.Places.{IsAtomicsLine}
 use Rattle.job_text.specs.Places.{atomics_or_later_at, atomics_or_later_text, IsAtomicsOrLater}
-use Rattle.job_text.specs.declared.scope.Scope.{Scope}
+use Rattle.line_forms.specs.declared.scope.Scope.{Scope}
 use Rattle.job_text.specs.Places.{setting_row, setting_entry, setting_fits, sieve_row, sieve_entry, pair_row}
 use Rattle.job_text.specs.Places.{pair_entry, pair_fits}
 use Rattle.job_text.specs.Places.{NamedOr, Named, Other, header_row, header_entry, header_fits, header_at}
-use Rattle.job_text.specs.Places.{sections, section_entry, section_fits, section_at, end_or, end_or_text, end_or_fits}
+use Rattle.job_text.specs.Places.{sections, section_entry, section_fits, section_at, end_or, end_or_text}
+use Rattle.job_text.specs.Places.{end_or_fits}
 use Rattle.job_text.specs.Places.{pair_at, named_or, named_or_text, named_or_fits, pair_text, header_text}
 use Rattle.job_text.specs.Places.{section_text, IsPairLine, IsHeader, IsSection, header_or_section_at}
 use Rattle.job_text.specs.Places.{header_or_section_text, IsHeaderOrSection}
 use Rattle.job_text.specs.Places.{done_at, Item, item_at, item_text, IsItem}
-use Rattle.job_text.specs.declared.job.Action.TheVariants as action
+use Rattle.step_text.specs.declared.steps.Action.TheVariants as action
 use Rattle.job_text.specs.declared.job.CollectArea.{CollectArea}
-use Rattle.job_text.specs.declared.job.CollectiveText.TheVariants as collective
-use Rattle.job_text.specs.declared.job.ScheduledCall.TheVariants as call
-use Rattle.job_text.specs.declared.job.ScriptStep.TheVariants as step
+use Rattle.step_text.specs.declared.steps.CollectiveText.TheVariants as collective
+use Rattle.call_text.specs.declared.scheduled.ScheduledCall.TheVariants as call
+use Rattle.step_text.specs.declared.steps.ScriptStep.TheVariants as step
 use Rattle.job_text.specs.declared.job.SieveRule.{SieveRule}
 use Rattle.put_get.specs.declared.operation.Transfer.TheVariants as transfer
-use Rattle.job_text.specs.declared.job.WaitingStep.TheVariants as waiting
+use Rattle.step_text.specs.declared.steps.WaitingStep.TheVariants as waiting
 use Rattle.job_text.specs.declared.sections.HandlerHeader.{HandlerHeader}
 use Rattle.job_text.specs.declared.sections.Section.{Section}
 use Rattle.job_text.specs.declared.sections.Section.TheVariants as section
-use Rattle.job_text.proofs.Decimals.{own}
-use Rattle.job_text.proofs.Fronts.{cond_yes, cond_no}
-use Rattle.job_text.proofs.Takes.{Takes, takes_some, takes_none, takes_then, takes_if}
-use Rattle.job_text.proofs.WordLaws.{same_word}
-use Rattle.job_text.proofs.FormLaws.{IsExact, IsTable, IsEntryOf, entry_of, table_exact, none_exact, whole, IsFlat}
-use Rattle.job_text.proofs.BodyLaws.{actions_exact}
-use Rattle.job_text.proofs.EventLaws.{event_line, timed_line, timed_exact}
-use Rattle.job_text.proofs.ScriptLaws.{steps_exact}
+use Rattle.text_lines.proofs.Decimals.{own}
+use Rattle.text_lines.proofs.Fronts.{cond_yes, cond_no}
+use Rattle.text_lines.proofs.Takes.{Takes, takes_some, takes_none, takes_then, takes_if}
+use Rattle.line_forms.proofs.WordLaws.{same_word}
+use Rattle.line_forms.proofs.FormLaws.{IsExact, IsTable, IsEntryOf, entry_of, table_exact, none_exact, IsFlat}
+use Rattle.text_lines.proofs.Seams.{whole}
+use Rattle.step_text.proofs.BodyLaws.{actions_exact}
+use Rattle.step_text.proofs.EventLaws.{event_line, timed_line, timed_exact}
+use Rattle.step_text.proofs.ScriptLaws.{steps_exact}
 
 -- ---- settings
 

@@ -4,8 +4,8 @@ use Rattle.std.proofs.lemmas.Bool.{ltb-true, ltb-false, lt-ltb, le-ltb}
 use Rattle.job_text.specs.PlanPieces.{event_pieces, schedule_pieces, scripts_pieces}
 use Rattle.job_text.specs.StepPieces.{step_pieces, steps_pieces}
 use Rattle.job_text.specs.declared.job.NodeScript.{NodeScript}
-use Rattle.job_text.specs.declared.job.ScriptStep.{ScriptStep}
-use Rattle.job_text.specs.declared.job.TimedEvent.{TimedEvent}
+use Rattle.step_text.specs.declared.steps.ScriptStep.{ScriptStep}
+use Rattle.step_text.specs.declared.steps.TimedEvent.{TimedEvent}
 
 -- those of lines and others behind them
 pub schedule_join : (front rest : List TimedEvent) → schedule_pieces (front ++ rest)

@@ -2,11 +2,12 @@
 use Rattle.std.proofs.Common.{◌≡◌, ◌≢◌, inl, inr, List, [], ◌∷◌, ◌++◌, map, Option, Some, None, Bool, true, false, refl, sym, ap}
 use Rattle.std.proofs.Common.{subst, ◌∙◌, codes, append_assoc, append-nil}
 use Rattle.std.specs.List.{flat_map}
-use Rattle.job_text.specs.Bodies.{action_text}
-use Rattle.job_text.specs.Scripts.{step_text}
+use Rattle.step_text.specs.Bodies.{action_text}
+use Rattle.step_text.specs.Scripts.{step_text}
 use Rattle.job_text.specs.Places.{Setting, Version, Nodes, Credits, Threads, Segment, Last, Resend, Patience}
 use Rattle.job_text.specs.Places as places
-use Rattle.job_text.specs.Places.{Place, AtSetting, AtSieve, AtPairs, AtAtomics, AtHandlers, AtBody, AtScripts, AtSteps}
+use Rattle.job_text.specs.Places.{Place, AtSetting, AtSieve, AtPairs, AtAtomics, AtHandlers, AtBody}
+use Rattle.job_text.specs.Places.{AtScripts, AtSteps}
 use Rattle.job_text.specs.Places.{AtCollect, AtSchedule, AtDone, Over}
 use Rattle.job_text.specs.JobReading.{State, least_job, start, with_handler, with_script}
 use Rattle.job_text.specs.JobText.{Line, handler_lines, header_line, script_lines, script_line, timed_lines}
@@ -19,12 +20,17 @@ use Rattle.job_text.specs.declared.job.CollectArea.{CollectArea}
 use Rattle.job_text.specs.declared.job.HandlerText.{HandlerText}
 use Rattle.job_text.specs.declared.job.Job.{Job}
 use Rattle.job_text.specs.declared.job.NodeScript.{NodeScript}
-use Rattle.job_text.specs.declared.job.TimedEvent.{TimedEvent}
-use Rattle.job_text.proofs.Completeness.{Reaches, reach_join, of_head, version_said, job_said, nodes_said, credits_said}
-use Rattle.job_text.proofs.Completeness.{threads_said, segment_said, last_said, resend_said, patience_said, to_job}
-use Rattle.job_text.proofs.Completeness.{to_nodes, to_credits, to_threads, to_segment, to_last, to_resend, to_patience}
-use Rattle.job_text.proofs.Completeness.{to_sieve, head_reach, pairs_reach, before_handlers, before_scripts, handlers_lead}
-use Rattle.job_text.proofs.Completeness.{scripts_lead, handler_opens, script_opens, schedule_begins, schedule_whole}
+use Rattle.step_text.specs.declared.steps.TimedEvent.{TimedEvent}
+use Rattle.job_text.proofs.Completeness.{Reaches, reach_join, of_head, version_said, job_said, nodes_said}
+use Rattle.job_text.proofs.Completeness.{credits_said}
+use Rattle.job_text.proofs.Completeness.{threads_said, segment_said, last_said, resend_said, patience_said}
+use Rattle.job_text.proofs.Completeness.{to_job}
+use Rattle.job_text.proofs.Completeness.{to_nodes, to_credits, to_threads, to_segment, to_last, to_resend}
+use Rattle.job_text.proofs.Completeness.{to_patience}
+use Rattle.job_text.proofs.Completeness.{to_sieve, head_reach, pairs_reach, before_handlers, before_scripts}
+use Rattle.job_text.proofs.Completeness.{handlers_lead}
+use Rattle.job_text.proofs.Completeness.{scripts_lead, handler_opens, script_opens, schedule_begins}
+use Rattle.job_text.proofs.Completeness.{schedule_whole}
 use Rattle.job_text.proofs.Completeness.{whole_reach, with_scripts, with_schedule, some_behind}
 use Rattle.job_text.proofs.Completeness.{with_flag, atomics_lead}
 

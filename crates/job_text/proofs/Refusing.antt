@@ -10,25 +10,30 @@ use Rattle.job_text.specs.Places as places
 use Rattle.job_text.specs.Places.{Place, AtSetting, AtSieve, AtPairs, AtHandlers, AtBody, AtScripts, AtSteps}
 use Rattle.job_text.specs.Places.{AtAtomics, AtCollect, AtSchedule, AtDone, Over}
 use Rattle.job_text.specs.Places.{Version}
-use Rattle.job_text.specs.JobReading.{State, BadLine, Front, start, limit, of_front, alone, sized, read, job_of}
+use Rattle.job_text.specs.JobReading.{State, BadLine, Front, start, limit, of_front, alone, sized, read}
+use Rattle.job_text.specs.JobReading.{job_of}
 use Rattle.job_text.specs.JobReading.{front_of}
-use Rattle.job_text.specs.JobText.{Line, spell, setting_line, sieve_line, pair_line, handler_lines, schedule_lines}
-use Rattle.job_text.specs.JobText.{script_lines, lines_with_pairs, lines_with_handlers, lines_with_scripts, job_lines}
-use Rattle.job_text.specs.JobText.{atomics_lines, collect_lines, lines_with_atomics, lines_with_collect, job_text, IsJob, JobText, BeginsWith}
+use Rattle.job_text.specs.JobText.{Line, spell, setting_line, sieve_line, pair_line, handler_lines}
+use Rattle.job_text.specs.JobText.{schedule_lines}
+use Rattle.job_text.specs.JobText.{script_lines, lines_with_pairs, lines_with_handlers, lines_with_scripts}
+use Rattle.job_text.specs.JobText.{job_lines}
+use Rattle.job_text.specs.JobText.{atomics_lines, collect_lines, lines_with_atomics, lines_with_collect}
+use Rattle.job_text.specs.JobText.{job_text, IsJob, JobText, BeginsWith}
 use Rattle.job_text.specs.Refusals.{first_lines, after_lines, IsFront}
 use Rattle.job_text.specs.Reading.{GivesAt}
 use Rattle.std.specs.Prelude.{IfOk}
 use Rattle.job_text.specs.declared.fault.JobFault.{JobFault}
 use Rattle.job_text.specs.declared.job.Job.{Job}
-use Rattle.job_text.proofs.Fronts.{cond_yes, cond_no}
-use Rattle.job_text.proofs.FormLaws.{IsFlat}
+use Rattle.text_lines.proofs.Fronts.{cond_yes, cond_no}
+use Rattle.line_forms.proofs.FormLaws.{IsFlat}
 use Rattle.job_text.specs.Refusals.{completed, so_far, IsUnread}
 use Rattle.job_text.proofs.StateLaws.{from_on, done_line, end_line, handler_more, script_more}
 use Rattle.job_text.proofs.StateLaws.{end_schedule}
 use Rattle.job_text.proofs.JobLaws.{sound_job}
 use Rattle.job_text.proofs.States.{unread, start_is, sound_completed}
 use Rattle.job_text.proofs.LineRuns.{IsOpen}
-use Rattle.job_text.proofs.Walks.{Walks, Walked, walk_keeps, Outcome, EndsAs, Ends, Fails, IsOver, read_outcome}
+use Rattle.job_text.proofs.Walks.{Walks, Walked, walk_keeps, Outcome, EndsAs, Ends, Fails, IsOver}
+use Rattle.job_text.proofs.Walks.{read_outcome}
 
 -- ---- first lines
 

@@ -2,15 +2,18 @@
 use Rattle.std.proofs.Common.{◌≡◌, ◌≢◌, inl, inr, ℕ, zero, suc, List, [], ◌∷◌, ◌++◌, Some, None, Result, Ok, refl, subst}
 use Rattle.job_text.specs.Places.{Setting, Version, Nodes, Credits, Threads, Segment, Last, Resend, Patience}
 use Rattle.job_text.specs.Places as places
-use Rattle.job_text.specs.Places.{Place, AtSetting, AtSieve, AtPairs, AtAtomics, AtHandlers, AtBody, AtScripts, AtSteps}
-use Rattle.job_text.specs.Places.{AtCollect, AtSchedule, AtDone, Over, Named, Other, Item, HandlerItem, CollectItem}
+use Rattle.job_text.specs.Places.{Place, AtSetting, AtSieve, AtPairs, AtAtomics, AtHandlers, AtBody}
+use Rattle.job_text.specs.Places.{AtScripts, AtSteps}
+use Rattle.job_text.specs.Places.{AtCollect, AtSchedule, AtDone, Over, Named, Other, Item, HandlerItem}
+use Rattle.job_text.specs.Places.{CollectItem}
 use Rattle.job_text.specs.Places.{AtomicsItem}
 use Rattle.job_text.specs.Scopes.{scope_of}
-use Rattle.job_text.specs.JobReading.{State, behind_setting, next, opened, headed, collected, served, pair_why}
+use Rattle.job_text.specs.JobReading.{State, behind_setting, next, opened, headed, collected, served}
+use Rattle.job_text.specs.JobReading.{pair_why}
 use Rattle.job_text.specs.JobReading.{handler_why, section_why, action_why, step_why, line_why, lines_of}
 use Rattle.job_text.specs.PlanPieces.{scripts_pieces}
 use Rattle.job_text.specs.Refusals.{IsReached}
-use Rattle.job_text.specs.declared.fault.JobWhy.{JobWhy}
+use Rattle.text_lines.specs.declared.why.LineWhy.{LineWhy}
 use Rattle.job_text.specs.declared.job.Job.{Job}
 use Rattle.job_text.specs.declared.sections.Section.{Section}
 use Rattle.job_text.specs.declared.sections.Section.TheVariants as section
@@ -26,7 +29,7 @@ abbrev pub Stands : State → Type 0
 Stands state = IsReached state.place state.job
 
 -- behind what was read
-by_ok : (a b : State) → ◌≡◌ {A = Result State JobWhy} (Ok a) (Ok b) → Stands a → Stands b
+by_ok : (a b : State) → ◌≡◌ {A = Result State LineWhy} (Ok a) (Ok b) → Stands a → Stands b
 by_ok a b h stands = subst Stands (ok_same h) stands
 
 some_more : {A : Type 0} (xs : List A) (x : A) → xs ++ x ∷ [] ≢ []

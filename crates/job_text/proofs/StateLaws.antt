@@ -6,9 +6,9 @@ use Rattle.std.proofs.lemmas.List.Concat.{flat_map-append}
 use Rattle.std.proofs.lemmas.List.{map-append}
 use Rattle.datagram_grammar.specs.Parameters.{Parameters}
 use Rattle.datagram_grammar.specs.declared.pairs.PairCredits.{PairCredits}
-use Rattle.job_text.specs.Bodies.{action_text}
-use Rattle.job_text.specs.Events.{timed_text}
-use Rattle.job_text.specs.Scripts.{step_text}
+use Rattle.step_text.specs.Bodies.{action_text}
+use Rattle.step_text.specs.Events.{timed_text}
+use Rattle.step_text.specs.Scripts.{step_text}
 use Rattle.job_text.specs.Places.{Setting, Version, Nodes, Credits, Threads, Segment, Last, Resend, Patience}
 use Rattle.job_text.specs.Places as places
 use Rattle.job_text.specs.Places.{AtAtomics, AtCollect, atomics_text, collect_text, HandlerItem, CollectItem}
@@ -19,7 +19,8 @@ use Rattle.job_text.specs.Places.{AtSchedule, AtDone, Over}
 use Rattle.job_text.specs.Places.{Named, Other, Item, item_text}
 use Rattle.job_text.specs.JobReading.{State, with_number, behind_setting, lines_of, unless, next}
 use Rattle.job_text.specs.JobReading.{collected, served, with_atomics, with_collect}
-use Rattle.job_text.specs.JobReading.{opened, headed, paired, acted, scripted, scheduled, pair_why, handler_why}
+use Rattle.job_text.specs.JobReading.{opened, headed, paired, acted, scripted, scheduled, pair_why}
+use Rattle.job_text.specs.JobReading.{handler_why}
 use Rattle.job_text.specs.JobReading.{section_why, action_why, step_why, line_why}
 use Rattle.job_text.specs.PlanPieces.{scripts_pieces}
 use Rattle.job_text.specs.JobText.{Line, all_settings, pair_line, header_line}
@@ -27,14 +28,14 @@ use Rattle.job_text.specs.JobText.{handler_lines, timed_lines, schedule_lines, h
 use Rattle.job_text.specs.JobText.{atomics_lines, collect_lines, lines_with_atomics, lines_with_collect}
 use Rattle.job_text.specs.JobText.{script_line, script_lines, lines_with_handlers, lines_with_scripts}
 use Rattle.job_text.specs.Refusals.{so_far, IsUnread}
-use Rattle.job_text.specs.declared.fault.JobWhy.{JobWhy}
-use Rattle.job_text.specs.declared.job.Action.{Action}
+use Rattle.text_lines.specs.declared.why.LineWhy.{LineWhy}
+use Rattle.step_text.specs.declared.steps.Action.{Action}
 use Rattle.job_text.specs.declared.job.CollectArea.{CollectArea}
 use Rattle.job_text.specs.declared.job.HandlerText.{HandlerText}
 use Rattle.job_text.specs.declared.job.Job.{Job}
 use Rattle.job_text.specs.declared.job.NodeScript.{NodeScript}
-use Rattle.job_text.specs.declared.job.ScriptStep.{ScriptStep}
-use Rattle.job_text.specs.declared.job.TimedEvent.{TimedEvent}
+use Rattle.step_text.specs.declared.steps.ScriptStep.{ScriptStep}
+use Rattle.step_text.specs.declared.steps.TimedEvent.{TimedEvent}
 use Rattle.job_text.specs.declared.sections.HandlerHeader.{HandlerHeader}
 use Rattle.job_text.specs.declared.sections.Section.{Section}
 use Rattle.job_text.specs.declared.sections.Section.TheVariants as section
@@ -121,11 +122,11 @@ setting_more Resend number job u = (refl, u)
 setting_more Patience number job u = (refl, u)
 
 -- equal results
-pub ok_same : {a b : State} → ◌≡◌ {A = Result State JobWhy} (Ok a) (Ok b) → a ≡ b
+pub ok_same : {a b : State} → ◌≡◌ {A = Result State LineWhy} (Ok a) (Ok b) → a ≡ b
 ok_same h = cc
 
 -- what stands behind a test
-pub unless_ok : (why : Option JobWhy) (state found : State) → unless why state ≡ Ok found → (why ≡ None) × (state
+pub unless_ok : (why : Option LineWhy) (state found : State) → unless why state ≡ Ok found → (why ≡ None) × (state
     ≡ found)
 unless_ok None state found h = (refl, cc)
 unless_ok (Some why) state found h = absurd (cc)

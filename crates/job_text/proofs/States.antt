@@ -5,8 +5,8 @@ use Rattle.std.proofs.Common.{◌++◌, length, ltb, Option, Some, None, Ok, ref
 use Rattle.std.proofs.lemmas.Bool.{and_parts, or_parts, eqb-true, leb-true, leb-false, ltb-true}
 use Rattle.datagram_grammar.specs.declared.pairs.PairCredits.{PairCredits}
 use Rattle.job_text.specs.Locks.{are_listed}
-use Rattle.job_text.specs.Bodies.{IsAction}
-use Rattle.job_text.specs.Scripts.{IsStep}
+use Rattle.step_text.specs.Bodies.{IsAction}
+use Rattle.step_text.specs.Scripts.{IsStep}
 use Rattle.job_text.specs.Places.{Setting, Version, Nodes, Credits, Threads, Segment, Last, Resend, Patience}
 use Rattle.job_text.specs.Places as places
 use Rattle.job_text.specs.Places.{Place, AtSetting, AtSieve, AtPairs, AtHandlers, AtBody, AtScripts, AtSteps}
@@ -14,31 +14,35 @@ use Rattle.job_text.specs.Places.{AtAtomics, AtCollect, AtSchedule, AtDone, Over
 use Rattle.job_text.specs.Places.{HandlerItem, CollectItem, AtomicsItem, PairItem}
 use Rattle.job_text.specs.Scopes.{scope_of}
 use Rattle.job_text.specs.Places.{Named, Other, Item, IsItem}
-use Rattle.job_text.specs.JobReading.{State, least_job, with_number, behind_setting, with_action, lines_of, next}
+use Rattle.job_text.specs.JobReading.{State, least_job, with_number, behind_setting, with_action, lines_of}
+use Rattle.job_text.specs.JobReading.{next}
 use Rattle.job_text.specs.JobReading.{with_step, begun_script, begun, opened, headed, paired, acted, scripted}
 use Rattle.job_text.specs.JobReading.{scheduled, collected, served, is_reserved, most_handlers}
-use Rattle.job_text.specs.JobReading.{has_index, has_pair, has_thread, pair_why, handler_why, section_why, action_why}
+use Rattle.job_text.specs.JobReading.{has_index, has_pair, has_thread, pair_why, handler_why, section_why}
+use Rattle.job_text.specs.JobReading.{action_why}
 use Rattle.job_text.specs.JobReading.{is_full_script, step_why, line_why}
 use Rattle.job_text.specs.PlanPieces.{most_pieces, scripts_pieces}
 use Rattle.job_text.specs.StepPieces.{step_pieces, steps_pieces}
 use Rattle.job_text.specs.JobText.{IsHandler, IsNodeScript, IsSieve}
-use Rattle.job_text.specs.declared.fault.JobWhy.TheVariants.{Entry, Count}
-use Rattle.job_text.specs.declared.job.Action.{Action}
+use Rattle.text_lines.specs.declared.why.LineWhy.TheVariants.{Entry, Count}
+use Rattle.step_text.specs.declared.steps.Action.{Action}
 use Rattle.job_text.specs.declared.job.HandlerText.{HandlerText}
 use Rattle.job_text.specs.declared.job.Job.{Job}
 use Rattle.job_text.specs.declared.job.NodeScript.{NodeScript}
-use Rattle.job_text.specs.declared.job.ScriptStep.{ScriptStep}
+use Rattle.step_text.specs.declared.steps.ScriptStep.{ScriptStep}
 use Rattle.job_text.specs.declared.job.SieveRule.{SieveRule}
-use Rattle.job_text.specs.declared.job.TimedEvent.{TimedEvent}
+use Rattle.step_text.specs.declared.steps.TimedEvent.{TimedEvent}
 use Rattle.job_text.specs.declared.sections.HandlerHeader.{HandlerHeader}
 use Rattle.job_text.specs.declared.sections.Section.{Section}
 use Rattle.job_text.specs.declared.sections.Section.TheVariants as section
 use Rattle.job_text.proofs.HandlerRuns.{few_steps}
 use Rattle.job_text.proofs.PlanPieces.{steps_more}
 use Rattle.job_text.proofs.Ranges.{IsNumber, AreNumbers}
-use Rattle.job_text.proofs.JobLaws.{AreLeast, numbers_more, IsHead, head_sound, IsSound, pair_sound, pair_free_by}
+use Rattle.job_text.proofs.JobLaws.{AreLeast, numbers_more, IsHead, head_sound, IsSound, pair_sound}
+use Rattle.job_text.proofs.JobLaws.{pair_free_by}
 use Rattle.job_text.proofs.AreaLaws.{collect_is}
-use Rattle.job_text.proofs.JobLaws.{atomics_sound, collect_sound, handler_sound, script_sound, all_more, empty_sound}
+use Rattle.job_text.proofs.JobLaws.{atomics_sound, collect_sound, handler_sound, script_sound, all_more}
+use Rattle.job_text.proofs.JobLaws.{empty_sound}
 use Rattle.job_text.proofs.JobLaws.{line_sound}
 use Rattle.job_text.specs.Refusals.{completed, IsUnread}
 use Rattle.job_text.proofs.StateLaws.{unless_ok, ok_same}

@@ -5,25 +5,25 @@ use Rattle.std.specs.List.{AllByRecursion}
 use Rattle.datagram_grammar.specs.Parameters.{Parameters, upgraded}
 use Rattle.job_text.specs.CollectAreas.{IsCollectOrNone}
 use Rattle.job_text.specs.declared.job.CollectArea.{CollectArea}
-use Rattle.job_text.specs.Calls.{IsCall}
-use Rattle.job_text.specs.Events.{IsEvent, IsTimed}
+use Rattle.call_text.specs.Calls.{IsCall}
+use Rattle.step_text.specs.Events.{IsEvent, IsTimed}
 use Rattle.job_text.specs.JobText.{IsNodeScript, IsScheduleOrNone}
-use Rattle.job_text.specs.Scopes.{is_second}
-use Rattle.job_text.specs.VisLines.{IsVis}
-use Rattle.job_text.specs.declared.vis.VisText.{VisText}
-use Rattle.job_text.proofs.VisLaws.{vis_second}
-use Rattle.job_text.specs.Scripts.{IsStep, IsWaiting}
+use Rattle.line_forms.specs.Versions.{is_second}
+use Rattle.vis_text.specs.VisLines.{IsVis}
+use Rattle.vis_text.specs.declared.vis.VisText.{VisText}
+use Rattle.step_text.proofs.VisLaws.{vis_second}
+use Rattle.step_text.specs.Scripts.{IsStep, IsWaiting}
 use Rattle.job_text.specs.declared.job.NodeScript.{NodeScript}
-use Rattle.job_text.specs.declared.job.ScheduledCall.{ScheduledCall}
-use Rattle.job_text.specs.declared.job.ScheduledCall.TheVariants as call
-use Rattle.job_text.specs.declared.job.ScheduledEvent.{ScheduledEvent}
-use Rattle.job_text.specs.declared.job.ScheduledEvent.TheVariants as event
-use Rattle.job_text.specs.declared.job.ScriptStep.{ScriptStep}
-use Rattle.job_text.specs.declared.job.ScriptStep.TheVariants as step
-use Rattle.job_text.specs.declared.job.TimedEvent.{TimedEvent}
-use Rattle.job_text.specs.declared.job.WaitingStep.{WaitingStep}
-use Rattle.job_text.specs.declared.job.WaitingStep.TheVariants as waiting
-use Rattle.job_text.specs.declared.scope.Scope.{Scope}
+use Rattle.call_text.specs.declared.scheduled.ScheduledCall.{ScheduledCall}
+use Rattle.call_text.specs.declared.scheduled.ScheduledCall.TheVariants as call
+use Rattle.step_text.specs.declared.steps.ScheduledEvent.{ScheduledEvent}
+use Rattle.step_text.specs.declared.steps.ScheduledEvent.TheVariants as event
+use Rattle.step_text.specs.declared.steps.ScriptStep.{ScriptStep}
+use Rattle.step_text.specs.declared.steps.ScriptStep.TheVariants as step
+use Rattle.step_text.specs.declared.steps.TimedEvent.{TimedEvent}
+use Rattle.step_text.specs.declared.steps.WaitingStep.{WaitingStep}
+use Rattle.step_text.specs.declared.steps.WaitingStep.TheVariants as waiting
+use Rattle.line_forms.specs.declared.scope.Scope.{Scope}
 
 -- the scope with datagrams of the second version
 abbrev pub upgraded_scope : Scope → Scope

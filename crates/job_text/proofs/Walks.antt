@@ -8,9 +8,9 @@ use Rattle.job_text.specs.JobReading.{State, BadLine, Front, line_at, why_at, ne
 use Rattle.job_text.specs.JobReading.{from_lines, front_with, over_or, after_step, run, read}
 use Rattle.job_text.specs.JobText.{Line, spell}
 use Rattle.job_text.specs.Refusals.{so_far}
-use Rattle.job_text.specs.declared.fault.JobWhy.{JobWhy}
-use Rattle.job_text.specs.declared.fault.JobWhy.TheVariants.{Early}
-use Rattle.job_text.proofs.FormLaws.{IsFlat}
+use Rattle.text_lines.specs.declared.why.LineWhy.{LineWhy}
+use Rattle.text_lines.specs.declared.why.LineWhy.TheVariants.{Early}
+use Rattle.line_forms.proofs.FormLaws.{IsFlat}
 use Rattle.job_text.proofs.PlaceLaws.{place_exact}
 use Rattle.job_text.proofs.LineRuns.{IsOpen, goes_on, open_or_over, line_takes, line_again, lines_after}
 use Rattle.job_text.proofs.StateLaws.{says_more}
@@ -25,7 +25,7 @@ pub record IsStepOf (state : State) (bytes : List ℕ) (to : State) (rest : List
   pub goes : next state.place state.job item ≡ Ok to
 
 step_on : (state : State) (bytes : List ℕ) (x : State × List ℕ) (y : Item state.place × List ℕ)
-    (r : Result State JobWhy) → line_at state.place (scope_of state.job) bytes ≡ Some y
+    (r : Result State LineWhy) → line_at state.place (scope_of state.job) bytes ≡ Some y
     → next state.place state.job y.0 ≡ r → onward y.1 r ≡ Ok x → IsStepOf state bytes x.0 x.1
 step_on state bytes x y (Ok to) e n h =
     let same : ◌≡◌ {A = State × List ℕ} (to, y.1) x = cc in
@@ -140,7 +140,7 @@ walk_keeps (suc count) state bytes end rest is w =
 -- the end of the text, a line that isn't read, or the end of a job
 pub data EndsAs (end : State) (rest : List ℕ) (line : ℕ) (result : Result Front BadLine) : Type 0 where
   Ends : IsOpen end.place → rest ≡ [] → result ≡ Err (record { line = line; why = Early }) → EndsAs end rest line result
-  Fails : (why : JobWhy) → IsOpen end.place → (rest ≡ [] → ⊥) → step end rest ≡ Err why → result ≡ Err
+  Fails : (why : LineWhy) → IsOpen end.place → (rest ≡ [] → ⊥) → step end rest ≡ Err why → result ≡ Err
       (record { line = line; why = why }) → EndsAs end rest line result
   IsOver : end.place ≡ Over → result ≡ Ok (front_with end.job line rest) → EndsAs end rest line result
 
@@ -204,7 +204,7 @@ no_line state line bytes none (inr over) =
     ∙ ap (λ (r : List ℕ). Ok (front_with state.job (line + 0) r)) (sym none)))
 
 -- a line follows where lines go on
-run_by : (later : List (List ℕ)) (state : State) (line : ℕ) (bytes : List ℕ) (r : Result (State × List ℕ) JobWhy)
+run_by : (later : List (List ℕ)) (state : State) (line : ℕ) (bytes : List ℕ) (r : Result (State × List ℕ) LineWhy)
     → IsOpen state.place → step state bytes ≡ r → (bytes ≡ [] → ⊥) → ((to : State) (more : List ℕ)
     → step state bytes ≡ Ok (to, more) → Outcome to (line + 1) more (run to (line + 1) later))
     → Outcome state line bytes (after_step line (λ to. run to (line + 1) later) r)

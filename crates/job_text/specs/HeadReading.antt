@@ -1,15 +1,16 @@
 -- Reading the head of a job: the lines of a name and a number, and the sieve.
 use Rattle.std.specs.Prelude.{ℕ, List, [], ◌∷◌, Option, Some, None, Result, Ok, Err, Bool, true, false}
 use Rattle.datagram_grammar.specs.Parameters.{Parameters}
-use Rattle.job_text.specs.Lines.{Word}
-use Rattle.job_text.specs.Lines as options
-use Rattle.job_text.specs.Forms.{table_at, none_at, passed}
-use Rattle.job_text.specs.Reasons.{table_form, reason}
+use Rattle.text_lines.specs.Lines.{Word}
+use Rattle.text_lines.specs.Lines as options
+use Rattle.line_forms.specs.Forms.{table_at, none_at, passed}
+use Rattle.line_forms.specs.FormTests.{table_form}
+use Rattle.text_lines.specs.Reasons.{reason}
 use Rattle.job_text.specs.Places.{Setting, Version, Nodes, Credits, Threads, Segment, Last, Resend, Patience}
 use Rattle.job_text.specs.Places as places
 use Rattle.job_text.specs.Places.{setting_name, least, greatest, setting_fits, number_row, sieve_row}
 use Rattle.job_text.specs.JobReading.{BadLine, least_job, lined}
-use Rattle.job_text.specs.declared.fault.JobWhy.{JobWhy}
+use Rattle.text_lines.specs.declared.why.LineWhy.{LineWhy}
 use Rattle.job_text.specs.declared.job.Job.{Job}
 use Rattle.job_text.specs.declared.job.SieveRule.{SieveRule}
 
@@ -20,7 +21,7 @@ abbrev pub ◌>>=◌ : {A B : Type 0} → Result A BadLine → (A → Result B B
 (Err bad) >>= f = Err bad
 
 -- what was found in a line, or why it wasn't
-abbrev pub told : {A : Type 0} → (line : ℕ) → JobWhy → Option A → Result A BadLine
+abbrev pub told : {A : Type 0} → (line : ℕ) → LineWhy → Option A → Result A BadLine
 told line why None = Err (record { line = line; why = why })
 told line why (Some x) = Ok x
 
@@ -63,7 +64,7 @@ unfoldable pub fitting_line : NumberForm → List ℕ → Option (ℕ × List �
 fitting_line form bytes = options.◌>>=◌ (number_line form.name form.low form.high bytes) (passed form.fits)
 
 -- the reason where there is none
-unfoldable pub number_why : Word → List ℕ → JobWhy
+unfoldable pub number_why : Word → List ℕ → LineWhy
 number_why name bytes = reason (table_form (λ b. false) (number_row name 0 0 ∷ [])) bytes
 
 -- the number, or the reason
@@ -75,7 +76,7 @@ unfoldable pub sieve_line : List ℕ → Option (SieveRule × List ℕ)
 sieve_line bytes = lined (table_at none_at (sieve_row ∷ []) (λ rule. true)) bytes
 
 -- the reason where there is none
-unfoldable pub sieve_why : List ℕ → JobWhy
+unfoldable pub sieve_why : List ℕ → LineWhy
 sieve_why bytes = reason (table_form (λ b. false) (sieve_row ∷ [])) bytes
 
 -- the ten lines of the head

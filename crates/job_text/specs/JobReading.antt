@@ -6,11 +6,11 @@ use Rattle.std.specs.List.{list_any}
 use Rattle.datagram_grammar.specs.Parameters.{with_pair}
 use Rattle.datagram_grammar.specs.declared.pairs.PairCredits.{PairCredits}
 use Rattle.gas_atomic.specs.BatchRequests.{batch_handler, block_handler}
-use Rattle.job_text.specs.Lines.{◌>>=◌, ended}
-use Rattle.job_text.specs.Reasons.{reason}
+use Rattle.text_lines.specs.Lines.{◌>>=◌, ended}
+use Rattle.text_lines.specs.Reasons.{reason}
 use Rattle.job_text.specs.Places.{Setting, Version, Nodes, Credits, Threads, Segment, Last, Resend, Patience}
 use Rattle.job_text.specs.Scopes.{scope_of}
-use Rattle.job_text.specs.declared.scope.Scope.{Scope}
+use Rattle.line_forms.specs.declared.scope.Scope.{Scope}
 use Rattle.job_text.specs.Places.{AtAtomics, AtCollect, HandlerItem, CollectItem, AtomicsItem, PairItem}
 use Rattle.collective_area.specs.Served.{collective_handler}
 use Rattle.job_text.specs.Places.{Place, AtSetting, AtSieve, AtPairs, AtHandlers, AtBody, AtScripts, AtSteps}
@@ -19,18 +19,18 @@ use Rattle.job_text.specs.Places as places
 use Rattle.job_text.specs.PlanPieces.{most_pieces, event_pieces, schedule_pieces}
 use Rattle.job_text.specs.StepPieces.{step_pieces, steps_pieces}
 use Rattle.job_text.specs.PlanPieces.{scripts_pieces}
-use Rattle.job_text.specs.declared.fault.JobWhy.{JobWhy}
-use Rattle.job_text.specs.declared.fault.JobWhy.TheVariants.{Size, Early, Entry, Count, After}
-use Rattle.job_text.specs.declared.job.Action.{Action}
+use Rattle.text_lines.specs.declared.why.LineWhy.{LineWhy}
+use Rattle.text_lines.specs.declared.why.LineWhy.TheVariants.{Size, Early, Entry, Count, After}
+use Rattle.step_text.specs.declared.steps.Action.{Action}
 use Rattle.job_text.specs.declared.job.CollectArea.{CollectArea}
 use Rattle.job_text.specs.declared.job.HandlerText.{HandlerText}
 use Rattle.job_text.specs.declared.job.Head.{Head}
 use Rattle.job_text.specs.declared.job.Job.{Job}
 use Rattle.job_text.specs.declared.job.NodeScript.{NodeScript}
-use Rattle.job_text.specs.declared.job.ScheduledEvent.{ScheduledEvent}
-use Rattle.job_text.specs.declared.job.ScheduledEvent.TheVariants as event
-use Rattle.job_text.specs.declared.job.ScriptStep.{ScriptStep}
-use Rattle.job_text.specs.declared.job.TimedEvent.{TimedEvent}
+use Rattle.step_text.specs.declared.steps.ScheduledEvent.{ScheduledEvent}
+use Rattle.step_text.specs.declared.steps.ScheduledEvent.TheVariants as event
+use Rattle.step_text.specs.declared.steps.ScriptStep.{ScriptStep}
+use Rattle.step_text.specs.declared.steps.TimedEvent.{TimedEvent}
 use Rattle.job_text.specs.declared.schedules.Amounts.{Amounts}
 use Rattle.job_text.specs.declared.sections.HandlerHeader.{HandlerHeader}
 use Rattle.job_text.specs.declared.sections.Section.{Section}
@@ -230,38 +230,38 @@ abbrev pub is_full_script : (pieces steps : ℕ) → ScriptStep → Bool
 is_full_script pieces steps step = nat_le 4096 steps || nat_lt most_pieces (pieces + step_pieces step)
 
 -- why a handler with this index may not stand behind these
-abbrev pub handler_why : Scope → List HandlerText → (index : ℕ) → Option JobWhy
+abbrev pub handler_why : Scope → List HandlerText → (index : ℕ) → Option LineWhy
 handler_why scope handlers index =
     if has_index handlers index || is_reserved scope index then Some Entry
     else (if nat_le (most_handlers scope) (length handlers) then Some Count else None)
 
 -- why a pair may not
-abbrev pub pair_why : List PairCredits → PairCredits → Option JobWhy
+abbrev pub pair_why : List PairCredits → PairCredits → Option LineWhy
 pair_why pairs pair = if has_pair pairs pair then Some Entry else (if nat_le 64
     (length pairs) then Some Count else None)
 
 -- why an action may not
-abbrev pub action_why : List Action → Option JobWhy
+abbrev pub action_why : List Action → Option LineWhy
 action_why actions = if nat_le 64 (length actions) then Some Count else None
 
 -- why a line that begins a script, or another part, may not
-abbrev pub section_why : List NodeScript → Section → Option JobWhy
+abbrev pub section_why : List NodeScript → Section → Option LineWhy
 section_why scripts (section.Script node thread) = if has_thread scripts node thread then Some Entry else None
 section_why scripts other = None
 
 -- why a step may not, where the scripts before have so many pieces
-abbrev pub step_why : (before : ℕ) → List ScriptStep → ScriptStep → Option JobWhy
+abbrev pub step_why : (before : ℕ) → List ScriptStep → ScriptStep → Option LineWhy
 step_why before steps step =
     if is_full_script (before + steps_pieces steps) (length steps) step then Some Count else None
 
 -- why a line of the schedule may not
-abbrev pub line_why : (nodes before : ℕ) → List TimedEvent → TimedEvent → Option JobWhy
+abbrev pub line_why : (nodes before : ℕ) → List TimedEvent → TimedEvent → Option LineWhy
 line_why nodes before lines timed = if is_full nodes (amounts_of before lines) timed.event then Some Count else None
 
 -- ---- a line
 
 -- what is read then, unless there is a reason against it
-abbrev pub unless : Option JobWhy → State → Result State JobWhy
+abbrev pub unless : Option LineWhy → State → Result State LineWhy
 unless None state = Ok state
 unless (Some why) state = Err why
 
@@ -289,11 +289,11 @@ behind_section job (section.Script node thread) =
 behind_section job other = behind_scripts (is_schedule other) job
 
 -- the same, unless there is a reason against it
-abbrev pub opened : Job → Section → Result State JobWhy
+abbrev pub opened : Job → Section → Result State LineWhy
 opened job section = unless (section_why job.scripts section) (behind_section job section)
 
 -- behind the first line of a handler, or such a line
-abbrev pub headed : Job → HandlerItem → Result State JobWhy
+abbrev pub headed : Job → HandlerItem → Result State LineWhy
 headed job (Named header) =
     unless (handler_why (scope_of job) job.handlers header.index) (record {
       place = AtBody (begun header);
@@ -302,43 +302,43 @@ headed job (Named header) =
 headed job (Other section) = opened job section
 
 -- behind the line of collectives, or one of these
-abbrev pub collected : Job → CollectItem → Result State JobWhy
+abbrev pub collected : Job → CollectItem → Result State LineWhy
 collected job (Named area) = Ok (record { place = AtHandlers; job = with_collect area job })
 collected job (Other item) = headed job item
 
 -- behind the line of atomics, or one of these
-abbrev pub served : Job → AtomicsItem → Result State JobWhy
+abbrev pub served : Job → AtomicsItem → Result State LineWhy
 served job (Named line) = Ok (record { place = AtCollect; job = with_atomics job })
 served job (Other item) = collected job item
 
 -- behind a pair, or one of these
-abbrev pub paired : Job → PairItem → Result State JobWhy
+abbrev pub paired : Job → PairItem → Result State LineWhy
 paired job (Named pair) = unless (pair_why job.settings.pairs pair)
     (record { place = AtPairs; job = with_own pair job })
 paired job (Other item) = served job item
 
 -- behind an action, or the line `end`
-abbrev pub acted : HandlerText → Job → Option Action → Result State JobWhy
+abbrev pub acted : HandlerText → Job → Option Action → Result State LineWhy
 acted handler job None = Ok (record { place = AtHandlers; job = with_handler handler job })
 acted handler job (Some action) =
     unless (action_why handler.body) (record { place = AtBody (with_action action handler); job = job })
 
 -- behind a step, or the line `end`
-abbrev pub scripted : NodeScript → Job → Option ScriptStep → Result State JobWhy
+abbrev pub scripted : NodeScript → Job → Option ScriptStep → Result State LineWhy
 scripted script job None = Ok (record { place = AtScripts; job = with_script script job })
 scripted script job (Some step) =
     unless (step_why (scripts_pieces job.scripts) script.steps step)
     (record { place = AtSteps (with_step step script); job = job })
 
 -- behind a line of the schedule, or the line `end`
-abbrev pub scheduled : Job → Option TimedEvent → Result State JobWhy
+abbrev pub scheduled : Job → Option TimedEvent → Result State LineWhy
 scheduled job None = Ok (record { place = AtDone; job = job })
 scheduled job (Some timed) =
     unless (line_why job.settings.nodes (scripts_pieces job.scripts) (lines_of job.schedule) timed)
     (record { place = AtSchedule; job = with_line timed job })
 
 -- what a line says adds to what was read
-abbrev pub next : (place : Place) → Job → Item place → Result State JobWhy
+abbrev pub next : (place : Place) → Job → Item place → Result State LineWhy
 next (AtSetting setting) job number = Ok (record {
   place = behind_setting setting;
   job = with_number setting number job;
@@ -363,20 +363,20 @@ abbrev pub line_at : (place : Place) → Scope → List ℕ → Option (Item pla
 line_at place scope bytes = lined (item_at place scope) bytes
 
 -- why it says nothing
-abbrev pub why_at : (place : Place) → Scope → List ℕ → JobWhy
+abbrev pub why_at : (place : Place) → Scope → List ℕ → LineWhy
 why_at place scope bytes = reason (item_form place scope) bytes
 
 -- what was read, with the bytes after it
-abbrev pub onward : List ℕ → Result State JobWhy → Result (State × List ℕ) JobWhy
+abbrev pub onward : List ℕ → Result State LineWhy → Result (State × List ℕ) LineWhy
 onward rest (Err why) = Err why
 onward rest (Ok state) = Ok (state, rest)
 
-abbrev pub stepped : (place : Place) → Job → JobWhy → Option (Item place × List ℕ) → Result (State × List ℕ) JobWhy
+abbrev pub stepped : (place : Place) → Job → LineWhy → Option (Item place × List ℕ) → Result (State × List ℕ) LineWhy
 stepped place job why None = Err why
 stepped place job why (Some item) = onward item.1 (next place job item.0)
 
 -- what was read with the first line, and the bytes after it; or the first reason that applies to that line
-unfoldable pub step : State → List ℕ → Result (State × List ℕ) JobWhy
+unfoldable pub step : State → List ℕ → Result (State × List ℕ) LineWhy
 step state bytes =
     stepped state.place state.job (why_at state.place (scope_of state.job) bytes)
     (line_at state.place (scope_of state.job) bytes)
@@ -386,7 +386,7 @@ step state bytes =
 -- the first bad line, counted from 1, and its reason
 pub record BadLine : Type 0 where
   pub line : ℕ
-  pub why : JobWhy
+  pub why : LineWhy
 
 -- behind the end of a line: the bytes from the next line on, if there is one, before those from the later lines on
 abbrev pub also_from : List ℕ → List (List ℕ) → List (List ℕ)
@@ -418,7 +418,7 @@ over_or Over told other = told
 over_or place told other = other
 
 -- a line was read, or not
-abbrev pub after_step : (line : ℕ) → (State → Result Front BadLine) → Result (State × List ℕ) JobWhy
+abbrev pub after_step : (line : ℕ) → (State → Result Front BadLine) → Result (State × List ℕ) LineWhy
     → Result Front BadLine
 after_step line more (Err why) = Err (record { line = line; why = why })
 after_step line more (Ok x) = more x.0

@@ -4,18 +4,19 @@ use Rattle.std.specs.Prelude.{Option, Some, None, slice_get, Bool, true, false, 
 use Rattle.std.specs.List.{AllByRecursion, flat_map}
 use Rattle.datagram_grammar.specs.Parameters.{Parameters, AreInRange, credits_in_all}
 use Rattle.datagram_grammar.specs.declared.pairs.PairCredits.{PairCredits}
-use Rattle.job_text.specs.Forms.{none_text, entry_text}
-use Rattle.job_text.specs.Bodies.{action_text, IsAction}
-use Rattle.job_text.specs.Events.{timed_text, IsTimed}
-use Rattle.job_text.specs.Scripts.{step_text, IsStep}
+use Rattle.line_forms.specs.Forms.{none_text, entry_text}
+use Rattle.step_text.specs.Bodies.{action_text, IsAction}
+use Rattle.step_text.specs.Events.{timed_text, IsTimed}
+use Rattle.step_text.specs.Scripts.{step_text, IsStep}
 use Rattle.job_text.specs.Places.{Setting, Version, Nodes, Credits, Threads, Segment, Last, Resend, Patience}
 use Rattle.job_text.specs.Places as places
-use Rattle.job_text.specs.Places.{setting_entry, sieve_entry, pair_text, atomics_text, collect_text, header_text}
+use Rattle.job_text.specs.Places.{setting_entry, sieve_entry, pair_text, atomics_text, collect_text}
+use Rattle.job_text.specs.Places.{header_text}
 use Rattle.job_text.specs.Places.{section_text}
 use Rattle.job_text.specs.CollectAreas.{IsCollectOrNone}
 use Rattle.job_text.specs.Locks.{are_listed}
 use Rattle.job_text.specs.Scopes.{scope_of}
-use Rattle.job_text.specs.declared.scope.Scope.{Scope}
+use Rattle.line_forms.specs.declared.scope.Scope.{Scope}
 use Rattle.job_text.specs.JobReading.{has_thread, total_rounds, limit, is_reserved, lines_of, most_handlers}
 use Rattle.job_text.specs.PlanPieces.{most_pieces, schedule_pieces, scripts_pieces}
 use Rattle.job_text.specs.declared.job.CollectArea.{CollectArea}
@@ -23,7 +24,7 @@ use Rattle.job_text.specs.declared.job.HandlerText.{HandlerText}
 use Rattle.job_text.specs.declared.job.Job.{Job}
 use Rattle.job_text.specs.declared.job.NodeScript.{NodeScript}
 use Rattle.job_text.specs.declared.job.SieveRule.{SieveRule}
-use Rattle.job_text.specs.declared.job.TimedEvent.{TimedEvent}
+use Rattle.step_text.specs.declared.steps.TimedEvent.{TimedEvent}
 use Rattle.job_text.specs.declared.sections.Section.TheVariants as section
 
 -- ---- lines

@@ -4,24 +4,25 @@ use Rattle.std.specs.Prelude.{not, ◌&&◌, ◌||◌, nat_le, nat_lt, ◌==◌,
 use Rattle.std.specs.Str.{bytes_eq}
 use Rattle.datagram_grammar.specs.Parameters.{Parameters, credits_in_all}
 use Rattle.datagram_grammar.specs.declared.pairs.PairCredits.{PairCredits}
-use Rattle.job_text.specs.Lines.{Word, ◌>>=◌, front, back}
-use Rattle.job_text.specs.Forms.{Number, Role, Shape, End, ◌▸◌, Any, Maker, Row, Entry}
-use Rattle.job_text.specs.Forms.{table_at, entry_text, IsOf, none_at, none_text, none_fits, U64, U16, U8}
+use Rattle.text_lines.specs.Lines.{Word, ◌>>=◌, front, back}
+use Rattle.line_forms.specs.Forms.{Number, Role, Shape, End, ◌▸◌, Any, Maker, Row, Entry}
+use Rattle.line_forms.specs.Forms.{table_at, entry_text, IsOf, none_at, none_text, none_fits, U64, U16, U8}
 use Rattle.job_text.specs.CollectAreas.{area_of, is_area}
 use Rattle.job_text.specs.Locks.{are_listed}
-use Rattle.job_text.specs.Reasons.{table_form, words_left}
-use Rattle.job_text.specs.Bodies.{action_at, action_form, action_text, IsAction}
-use Rattle.job_text.specs.Events.{timed_at, timed_form, timed_text, IsTimed}
-use Rattle.job_text.specs.Scripts.{step_at, step_form, step_text, IsStep}
-use Rattle.job_text.specs.Scopes.{is_second}
-use Rattle.job_text.specs.declared.scope.Scope.{Scope}
-use Rattle.job_text.specs.declared.job.Action.{Action}
+use Rattle.line_forms.specs.FormTests.{table_form}
+use Rattle.text_lines.specs.Reasons.{words_left}
+use Rattle.step_text.specs.Bodies.{action_at, action_form, action_text, IsAction}
+use Rattle.step_text.specs.Events.{timed_at, timed_form, timed_text, IsTimed}
+use Rattle.step_text.specs.Scripts.{step_at, step_form, step_text, IsStep}
+use Rattle.line_forms.specs.Versions.{is_second}
+use Rattle.line_forms.specs.declared.scope.Scope.{Scope}
+use Rattle.step_text.specs.declared.steps.Action.{Action}
 use Rattle.job_text.specs.declared.job.CollectArea.{CollectArea}
 use Rattle.job_text.specs.declared.job.HandlerText.{HandlerText}
 use Rattle.job_text.specs.declared.job.NodeScript.{NodeScript}
-use Rattle.job_text.specs.declared.job.ScriptStep.{ScriptStep}
+use Rattle.step_text.specs.declared.steps.ScriptStep.{ScriptStep}
 use Rattle.job_text.specs.declared.job.SieveRule.{SieveRule}
-use Rattle.job_text.specs.declared.job.TimedEvent.{TimedEvent}
+use Rattle.step_text.specs.declared.steps.TimedEvent.{TimedEvent}
 use Rattle.job_text.specs.declared.sections.HandlerHeader.{HandlerHeader}
 use Rattle.job_text.specs.declared.sections.Section.{Section}
 use Rattle.job_text.specs.declared.sections.Section.TheVariants as section

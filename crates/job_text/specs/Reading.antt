@@ -1,29 +1,11 @@
--- What the readers return, beside what reading is.
-use Rattle.std.specs.Prelude.{◌≡◌, ℕ, Option, Some, None, Result, Ok, Err}
-use Rattle.job_text.specs.declared.fault.Miss.{Miss}
-use Rattle.job_text.specs.declared.fault.Miss.TheVariants as miss
-use Rattle.job_text.specs.declared.fault.Other.{Other}
+-- What the readers of many lines return, beside what reading is.
+use Rattle.std.specs.Prelude.{◌≡◌, ℕ, Some, None, Result, Ok, Err}
 use Rattle.job_text.specs.declared.fault.JobFault.{JobFault}
 use Rattle.job_text.specs.declared.fault.JobFault.TheVariants as faults
-use Rattle.job_text.specs.declared.fault.JobWhy.{JobWhy}
+use Rattle.text_lines.specs.declared.why.LineWhy.{LineWhy}
 use Rattle.job_text.specs.declared.job.Head.{Head}
 use Rattle.datagram_grammar.specs.declared.pairs.PairCredits.{PairCredits}
 use Rattle.job_text.specs.JobReading.{BadLine, pair_why, job_of_head, with_own}
-
--- what was found is what reading finds
-abbrev pub Finds : {X Y : Type 0} → (X → Y) → Result X Other → Option Y → Type 0
-Finds view (Ok x) found = found ≡ Some (view x)
-Finds view (Err e) found = found ≡ None
-
--- a reader failed by want of memory, or found nothing
-abbrev pub Fails : {Y : Type 0} → Miss → Option Y → Type 0
-Fails miss.NoMemory found = Unit {0}
-Fails miss.Unlike found = found ≡ None
-
--- what was read is what reading finds, unless memory ran out
-abbrev pub Reads : {X Y : Type 0} → (X → Y) → Result X Miss → Option Y → Type 0
-Reads view (Ok x) found = found ≡ Some (view x)
-Reads view (Err e) found = Fails e found
 
 -- a reader of many lines failed by want of memory, or at the bad line of reading
 abbrev pub FailsAt : {Y : Type 0} → JobFault → Result Y BadLine → Type 0
@@ -41,7 +23,7 @@ Continues more (Ok x) total = total ≡ more x
 Continues more (Err e) total = FailsAt e total
 
 -- a pair was added to a head, or there is a reason against it
-abbrev pub IsPaired : Head → PairCredits → Result (Head × ℕ) JobWhy → Type 0
+abbrev pub IsPaired : Head → PairCredits → Result (Head × ℕ) LineWhy → Type 0
 IsPaired head pair (Ok x) = (pair_why head.settings.pairs pair ≡ None) × (job_of_head x.0
     ≡ with_own pair (job_of_head head))
 IsPaired head pair (Err why) = pair_why head.settings.pairs pair ≡ Some why

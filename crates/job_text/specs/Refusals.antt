@@ -3,17 +3,20 @@
 -- `item_form`, `has_pair`, `has_thread`, `is_full`).
 use Rattle.std.specs.Prelude.{◌≡◌, ◌≢◌, ◌⊎◌, ℕ, zero, suc, ◌+◌, ◌-◌, ◌<◌, ◌≤◌, List, [], ◌∷◌, ◌++◌, length, map, codes}
 use Rattle.std.specs.Prelude.{Some, None, is_some, true, false, ◌==◌, ◌||◌, if◌then◌else◌, Result, Ok, Err}
-use Rattle.job_text.specs.Reasons.{is_text}
+use Rattle.text_lines.specs.Reasons.{is_text}
 use Rattle.job_text.specs.Scopes.{scope_of}
-use Rattle.job_text.specs.declared.scope.Scope.{Scope}
-use Rattle.job_text.specs.Bodies.{action_text}
-use Rattle.job_text.specs.Scripts.{step_text}
+use Rattle.line_forms.specs.declared.scope.Scope.{Scope}
+use Rattle.step_text.specs.Bodies.{action_text}
+use Rattle.step_text.specs.Scripts.{step_text}
 use Rattle.job_text.specs.Places as places
 use Rattle.job_text.specs.Places.{Setting, Version, Nodes, Credits, Threads, Segment, Last, Resend, Patience}
-use Rattle.job_text.specs.Places.{Place, AtSetting, AtSieve, AtPairs, AtAtomics, AtCollect, AtHandlers, AtBody}
+use Rattle.job_text.specs.Places.{Place, AtSetting, AtSieve, AtPairs, AtAtomics, AtCollect, AtHandlers}
+use Rattle.job_text.specs.Places.{AtBody}
 use Rattle.job_text.specs.Places.{AtScripts, AtSteps, HandlerItem, CollectItem, AtomicsItem}
-use Rattle.job_text.specs.Places.{AtSchedule, AtDone, Over, NamedOr, Named, Other, Item, item_form, item_text, IsItem}
-use Rattle.job_text.specs.JobReading.{limit, job_of, front_of, with_handler, with_script, lines_of, amounts_of}
+use Rattle.job_text.specs.Places.{AtSchedule, AtDone, Over, NamedOr, Named, Other, Item, item_form, item_text}
+use Rattle.job_text.specs.Places.{IsItem}
+use Rattle.job_text.specs.JobReading.{limit, job_of, front_of, with_handler, with_script, lines_of}
+use Rattle.job_text.specs.JobReading.{amounts_of}
 use Rattle.job_text.specs.PlanPieces.{scripts_pieces}
 use Rattle.job_text.specs.StepPieces.{steps_pieces}
 use Rattle.job_text.specs.JobReading.{has_index, is_reserved, most_handlers}
@@ -21,17 +24,18 @@ use Rattle.job_text.specs.JobReading.{has_pair, has_thread, is_full, is_full_scr
 use Rattle.job_text.specs.declared.sections.HandlerHeader.{HandlerHeader}
 use Rattle.job_text.specs.declared.sections.Section.{Section}
 use Rattle.job_text.specs.declared.sections.Section.TheVariants as section
-use Rattle.job_text.specs.JobText.{Line, spell, setting_line, all_settings, header_line, script_line, timed_lines}
+use Rattle.job_text.specs.JobText.{Line, spell, setting_line, all_settings, header_line, script_line}
+use Rattle.job_text.specs.JobText.{timed_lines}
 use Rattle.job_text.specs.JobText.{schedule_lines, lines_with_pairs, lines_with_atomics}
 use Rattle.job_text.specs.JobText.{lines_with_handlers, lines_with_scripts}
 use Rattle.job_text.specs.JobText.{job_lines, IsJob, job_text}
 use Rattle.job_text.specs.declared.fault.JobFault.{JobFault}
 use Rattle.job_text.specs.declared.fault.JobFault.TheVariants as faults
-use Rattle.job_text.specs.declared.fault.JobWhy.{JobWhy}
-use Rattle.job_text.specs.declared.fault.JobWhy.TheVariants.{Size, Early, Text, Form, Value as BadValue, Entry, Count}
-use Rattle.job_text.specs.declared.fault.JobWhy.TheVariants.{After}
+use Rattle.text_lines.specs.declared.why.LineWhy.{LineWhy}
+use Rattle.text_lines.specs.declared.why.LineWhy.TheVariants.{Size, Early, Text, Form, Value as BadValue, Entry, Count}
+use Rattle.text_lines.specs.declared.why.LineWhy.TheVariants.{After}
 use Rattle.job_text.specs.declared.job.Job.{Job}
-use Rattle.job_text.specs.declared.job.TimedEvent.{TimedEvent}
+use Rattle.step_text.specs.declared.steps.TimedEvent.{TimedEvent}
 
 -- the first so many lines, each with its ending byte, which the last one may lack
 abbrev pub first_lines : (count : ℕ) → List ℕ → List ℕ
@@ -230,7 +234,7 @@ pub record IsTooMany (place : Place) (job : Job) (rest : List ℕ) : Type 0 wher
   pub full : IsFull place job item
 
 -- what is wrong with the bytes from a line on, where this was read before them
-abbrev pub IsAtFault : JobWhy → Place → Job → List ℕ → Type 0
+abbrev pub IsAtFault : LineWhy → Place → Job → List ℕ → Type 0
 IsAtFault Early place job rest = (place ≢ Over) × (rest ≡ [])
 IsAtFault Text place job rest = HasNoText place job rest
 IsAtFault Form place job rest = HasNoForm place job rest
@@ -242,20 +246,20 @@ IsAtFault Size place job rest = ⊥
 
 -- no job's text begins with the lines up to this one; where the next line is missing, or is none of words, more bytes
 -- could mend it
-abbrev pub NoneGoesOn : JobWhy → List ℕ → Type 0
+abbrev pub NoneGoesOn : LineWhy → List ℕ → Type 0
 NoneGoesOn Early lines = Unit {0}
 NoneGoesOn Text lines = Unit {0}
 NoneGoesOn why lines = IsNoFront lines
 
 -- the lines before this one begin some job's text, those with it begin none, and by what they say this is wrong with it
-pub record IsWrong (bytes : List ℕ) (line : ℕ) (why : JobWhy) : Type 0 where
+pub record IsWrong (bytes : List ℕ) (line : ℕ) (why : LineWhy) : Type 0 where
   pub before : Before bytes line
   pub fault : IsAtFault why before.place before.job (after_lines (line - 1) bytes)
   pub front : IsFront (first_lines (line - 1) bytes)
   pub none : NoneGoesOn why (first_lines line bytes)
 
 -- what a refusal at a line means
-abbrev pub Means : List ℕ → (line : ℕ) → JobWhy → Type 0
+abbrev pub Means : List ℕ → (line : ℕ) → LineWhy → Type 0
 Means bytes line Size = (line ≡ 0) × (limit < length bytes)
 Means bytes line why = IsWrong bytes line why × (length bytes ≤ limit)
 
@@ -270,7 +274,7 @@ IsNoMemory faults.NoMemory = Unit {0}
 IsNoMemory (faults.Bad line why) = ⊥
 
 -- this line and this reason are told, unless memory ran out
-abbrev pub IsTold : {A : Type 0} → Result A JobFault → (line : ℕ) → JobWhy → Type 0
+abbrev pub IsTold : {A : Type 0} → Result A JobFault → (line : ℕ) → LineWhy → Type 0
 IsTold (Ok read) line why = ⊥
 IsTold (Err fault) line why = IsNoMemory fault ⊎ (fault ≡ faults.Bad line why)
 
@@ -290,7 +294,7 @@ pub record IsTooLong (bytes : List ℕ) : Type 0 where
   pub long : limit < length (job_text job)
 
 -- what a refusal means where any bytes may follow a job's text
-abbrev pub FrontMeans : List ℕ → (line : ℕ) → JobWhy → Type 0
+abbrev pub FrontMeans : List ℕ → (line : ℕ) → LineWhy → Type 0
 FrontMeans bytes line Size = (line ≡ 0) × IsTooLong bytes
 FrontMeans bytes line After = ⊥
 FrontMeans bytes line why = IsWrong bytes line why

@@ -1,8 +1,8 @@
 -- How many pieces the plans of steps have.
 use Rattle.std.specs.Prelude.{ℕ, ◌+◌, List, [], ◌∷◌, length}
-use Rattle.job_text.specs.declared.job.ScriptStep.{ScriptStep}
-use Rattle.job_text.specs.declared.job.ScriptStep.TheVariants as step
-use Rattle.job_text.specs.declared.vis.VisText.{VisText}
+use Rattle.step_text.specs.declared.steps.ScriptStep.{ScriptStep}
+use Rattle.step_text.specs.declared.steps.ScriptStep.TheVariants as step
+use Rattle.vis_text.specs.declared.vis.VisText.{VisText}
 
 -- the pieces of the plan of a line
 abbrev pub vis_pieces : VisText → ℕ

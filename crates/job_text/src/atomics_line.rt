@@ -2,25 +2,18 @@
 
 ghost use Rattle.std.specs.Prelude.{◌≡◌, ◌≤◌, ◌+◌, codes, IfOk, true};
 ghost use Rattle.std.specs.Str.{bytes_eq};
-ghost use Rattle.job_text.specs.Lines.{front};
+ghost use Rattle.text_lines.specs.Lines.{front};
 ghost use Rattle.job_text.specs.JobReading.{State, job_of_head, lined, read};
 ghost use Rattle.job_text.specs.Places.{AtAtomics, AtCollect, atomics_at, atomics_or_later_form};
-ghost use Rattle.job_text.specs.Reading.{Continues, Finds};
-ghost use Rattle.job_text.specs.Reasons.{reason};
-ghost use Rattle.job_text.specs.Scopes.{is_second};
+ghost use Rattle.job_text.specs.Reading.{Continues};
+ghost use Rattle.text_lines.specs.Found.{Finds};
+ghost use Rattle.text_lines.specs.Reasons.{reason};
 
-use crate::fault::{JobFault, JobWhy, Other};
+use crate::fault::JobFault;
+use crate::head_scope::scope_of;
 use crate::job::Head;
-use crate::reasons::{reason_of, words_left};
-use crate::scope::{Scope, scope_of};
-use crate::words::{begins, ended, is_name, name_of};
-
-/// Whether the datagrams have the second version.
-pub fn is_second(scope: &Scope) -> bool
-    ensures { result ≡ is_second scope.now }
-{
-    scope.settings.version() == 2
-}
+use line_forms::{Scope, is_second};
+use text_lines::{LineWhy, Other, begins, ended, is_name, name_of, reason_of, words_left};
 
 /// The bytes after the words of the line of atomics.
 #[tactic(auto, unfolding(crate::specs::Places::atomics_at))]
@@ -46,7 +39,7 @@ fn atomics_line<'a>(scope: &Scope, bytes: &'a [u8]) -> Result<&'a [u8], Other>
 }
 
 /// Why a line that begins with `atomics` isn't read.
-fn atomics_why(scope: &Scope, bytes: &[u8]) -> JobWhy
+fn atomics_why(scope: &Scope, bytes: &[u8]) -> LineWhy
     requires { bytes_eq (front bytes.now) (codes "atomics") ≡ true }
     ensures { result ≡ reason (atomics_or_later_form scope.now) bytes.now }
 {

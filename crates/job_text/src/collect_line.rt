@@ -2,20 +2,20 @@
 
 ghost use Rattle.std.specs.Prelude.{◌≡◌, ◌≤◌, ◌+◌, ◌==◌, ◌%◌, ◌&&◌, nat_le, codes, IfOk, true};
 ghost use Rattle.std.specs.Str.{bytes_eq};
-ghost use Rattle.job_text.specs.Lines.{front};
+ghost use Rattle.text_lines.specs.Lines.{front};
 ghost use Rattle.job_text.specs.JobReading.{State, job_of_head, lined, read};
 ghost use Rattle.job_text.specs.Places.{AtAtomics, AtCollect, AtHandlers, collect_at, collect_fits};
 ghost use Rattle.job_text.specs.Places.{collect_or_later_form};
-ghost use Rattle.job_text.specs.Reading.{Continues, Finds};
-ghost use Rattle.job_text.specs.Reasons.{reason};
+ghost use Rattle.job_text.specs.Reading.{Continues};
+ghost use Rattle.text_lines.specs.Found.{Finds};
+ghost use Rattle.text_lines.specs.Reasons.{reason};
 
-use crate::atomics_line::{atomics_from, is_second};
-use crate::fault::{JobFault, JobWhy, Other};
+use crate::atomics_line::atomics_from;
+use crate::fault::JobFault;
+use crate::head_scope::scope_of;
 use crate::job::{CollectArea, Head};
-use crate::numbers::number_at;
-use crate::reasons::{reason_of, words_left};
-use crate::scope::{Scope, scope_of};
-use crate::words::{begins, ended, is_name, name_of};
+use line_forms::{Scope, is_second, number_at};
+use text_lines::{LineWhy, Other, begins, ended, is_name, name_of, reason_of, words_left};
 
 /// Whether a number is a multiple of 8.
 fn is_aligned(number: u64) -> bool
@@ -87,7 +87,7 @@ fn collect_line<'a>(scope: &Scope, bytes: &'a [u8]) -> Result<(CollectArea, &'a 
 }
 
 /// Why a line that begins with `collect` isn't read.
-fn collect_why(scope: &Scope, bytes: &[u8]) -> JobWhy
+fn collect_why(scope: &Scope, bytes: &[u8]) -> LineWhy
     requires { bytes_eq (front bytes.now) (codes "collect") ≡ true }
     ensures { result ≡ reason (collect_or_later_form scope.now) bytes.now }
 {

@@ -2,17 +2,18 @@
 
 ghost use Rattle.std.specs.Prelude.{◌≡◌, ◌≤◌, ◌+◌, None};
 ghost use Rattle.job_text.specs.Places.{AtDone, Over, done_at};
-ghost use Rattle.job_text.specs.JobReading.{State, lined, job_of_head, front_with, behind_scripts, read};
-ghost use Rattle.job_text.specs.Reading.{Finds, GivesAt, Continues};
+ghost use Rattle.job_text.specs.JobReading.{State, lined, job_of_head, front_with, behind_scripts};
+ghost use Rattle.job_text.specs.JobReading.{read};
+ghost use Rattle.text_lines.specs.Found.{Finds};
+ghost use Rattle.job_text.specs.Reading.{GivesAt, Continues};
 ghost use Rattle.job_text.specs.declared.job.Job.{Job as JobState};
 
-use crate::fault::{JobFault, Other};
+use crate::fault::JobFault;
 use crate::job::{HandlerTexts, Head, Job, NodeScripts};
-use crate::reasons::reason_of;
 use crate::schedules::schedule_at;
-use crate::scope::Scope;
-use crate::words::{ended, is_name, name_of};
+use line_forms::Scope;
 use std::alloc::Global;
+use text_lines::{Other, ended, is_name, name_of, reason_of};
 
 /// The job of a head and these handlers and scripts, without a schedule.
 pub fn job_with(head: Head, handlers: HandlerTexts, scripts: NodeScripts) -> Job

@@ -2,30 +2,31 @@
 
 ghost use Rattle.std.specs.Prelude.{◌≡◌, ◌+◌, ◌≤◌, ◌<◌, ◌==◌, [], length, map, true, IfOk};
 ghost use Rattle.job_text.specs.Places.{AtHandlers, AtBody, AtScripts, end_or};
-ghost use Rattle.job_text.specs.Bodies.{action_at, action_form};
+ghost use Rattle.step_text.specs.Bodies.{action_at, action_form};
 ghost use Rattle.job_text.specs.HeadReading.{told};
-ghost use Rattle.job_text.specs.JobReading.{State, begun, lined, has_index, is_reserved, most_beside};
-ghost use Rattle.job_text.specs.JobReading.{most_handlers, with_body, with_handler, handler_why, read};
+ghost use Rattle.job_text.specs.JobReading.{State, begun, lined, has_index, is_reserved};
+ghost use Rattle.job_text.specs.JobReading.{most_beside};
+ghost use Rattle.job_text.specs.JobReading.{most_handlers, with_body, with_handler, handler_why};
+ghost use Rattle.job_text.specs.JobReading.{read};
 ghost use Rattle.job_text.specs.Scopes.{scope_of};
-ghost use Rattle.job_text.specs.Lines.{front};
-ghost use Rattle.job_text.specs.Reading.{Reads, GivesAt, Continues};
-ghost use Rattle.job_text.specs.Reasons.{reason};
+ghost use Rattle.text_lines.specs.Lines.{front};
+ghost use Rattle.text_lines.specs.Found.{Reads};
+ghost use Rattle.job_text.specs.Reading.{GivesAt, Continues};
+ghost use Rattle.text_lines.specs.Reasons.{reason};
 ghost use Rattle.job_text.specs.declared.job.Job.{Job as JobState};
 ghost use Rattle.job_text.specs.declared.job.HandlerText.{HandlerText as HandlerValue};
 ghost use Rattle.std.specs.List.{list_any};
 ghost use Rattle.std.specs.Str.{bytes_eq};
 ghost use Rattle.std.specs.Prelude.{codes};
 
-use crate::bodies::{action_at, action_form};
-use crate::fault::{JobFault, JobWhy, Miss, Other};
-use crate::job::{Action, Body, HandlerText, HandlerTexts};
-use crate::operands::starts;
-use crate::reasons::reason_of;
-use crate::scope::Scope;
+use crate::fault::JobFault;
+use crate::job::{Body, HandlerText, HandlerTexts};
 use crate::sections::{HandlerHeader, header_line, header_why};
-use crate::words::{begins, ended, is_name, name_of};
 use gas_atomic::{BATCH_HANDLER, BLOCK_HANDLER};
+use line_forms::Scope;
 use std::alloc::Global;
+use step_text::{Action, action_at, action_form};
+use text_lines::{LineWhy, Miss, Other, begins, ended, is_name, name_of, reason_of, starts};
 
 /// The handler of collectives.
 const COLLECTIVE_HANDLER: u8 = 254;
@@ -103,7 +104,7 @@ fn body_at(alloc: Global, first: u32, bytes: &[u8]) -> Result<(Body, u32, &[u8])
         };
         if actions.len() >= ACTIONS {
             drop(action);
-            let why = JobWhy::Count;
+            let why = LineWhy::Count;
             return Err(JobFault::Bad { line, why });
         }
         actions.push(action)?;
@@ -166,14 +167,14 @@ fn most_handlers(scope: &Scope) -> usize
 }
 
 /// Why a handler with this index may not stand behind these.
-fn why_not(scope: &Scope, handlers: &[HandlerText], index: u8) -> Option<JobWhy>
+fn why_not(scope: &Scope, handlers: &[HandlerText], index: u8) -> Option<LineWhy>
     ensures { result ≡ handler_why scope.now handlers.now index }
 {
     if has_index(handlers, index) || is_reserved(scope, index) {
-        return Some(JobWhy::Entry);
+        return Some(LineWhy::Entry);
     }
     if handlers.len() >= most_handlers(scope) {
-        return Some(JobWhy::Count);
+        return Some(LineWhy::Count);
     }
     None
 }

@@ -1,18 +1,20 @@
 //! Reading the head of a job: its lines of a name and a number, and the sieve.
 
 ghost use Rattle.std.specs.Prelude.{◌≡◌, ◌≤◌, ◌*◌, ◌-◌, ◌%◌, ◌&&◌, ◌||◌, ◌==◌, nat_le, IfOk, true, []};
-ghost use Rattle.job_text.specs.HeadReading.{credits_form, fitting_line, head_at, in_range, nodes_form, number_from};
-ghost use Rattle.job_text.specs.HeadReading.{number_line, number_why, segment_form, sieve_line, sieve_why, told};
+ghost use Rattle.job_text.specs.HeadReading.{credits_form, fitting_line, head_at, in_range};
+ghost use Rattle.job_text.specs.HeadReading.{nodes_form, number_from};
+ghost use Rattle.job_text.specs.HeadReading.{number_line, number_why, segment_form, sieve_line};
+ghost use Rattle.job_text.specs.HeadReading.{sieve_why, told};
 ghost use Rattle.job_text.specs.JobReading.{job_of_head};
-ghost use Rattle.job_text.specs.Forms.{Number, part_at};
-ghost use Rattle.job_text.specs.Reading.{Finds, GivesAt};
+ghost use Rattle.line_forms.specs.Forms.{Number, part_at};
+ghost use Rattle.text_lines.specs.Found.{Finds};
+ghost use Rattle.job_text.specs.Reading.{GivesAt};
 
-use crate::fault::{JobFault, JobWhy, Other};
+use crate::fault::JobFault;
 use crate::job::{Head, SieveRule};
-use crate::numbers::number_at;
-use crate::reasons::{reason_of, words_left};
-use crate::words::{ended, is_name, name_of};
 use datagram_grammar::Settings;
+use line_forms::number_at;
+use text_lines::{LineWhy, Other, ended, is_name, name_of, reason_of, words_left};
 
 /// The number of a line of this name, in its range, and the bytes after the line.
 #[tactic(auto, unfolding(crate::specs::HeadReading::number_line))]
@@ -36,7 +38,7 @@ fn number_line<'a>(
 
 /// Why a line isn't one of this name and a number.
 #[tactic(auto, unfolding(crate::specs::HeadReading::number_why))]
-fn number_why(name: &[u8], bytes: &[u8]) -> JobWhy
+fn number_why(name: &[u8], bytes: &[u8]) -> LineWhy
     ensures { result ≡ number_why name.now bytes.now }
 {
     let (word, rest) = name_of(bytes);
@@ -142,7 +144,7 @@ fn sieve_line(bytes: &[u8]) -> Result<(SieveRule, &[u8]), Other>
 
 /// Why a line isn't that of the sieve.
 #[tactic(auto, unfolding(crate::specs::HeadReading::sieve_why))]
-fn sieve_why(bytes: &[u8]) -> JobWhy
+fn sieve_why(bytes: &[u8]) -> LineWhy
     ensures { result ≡ sieve_why bytes.now }
 {
     let (word, rest) = name_of(bytes);
@@ -276,7 +278,7 @@ pub fn head_at(bytes: &[u8]) -> Result<(Head, &[u8]), JobFault>
             ))
         }
         None => {
-            let why = JobWhy::Value;
+            let why = LineWhy::Value;
             Err(JobFault::Bad { line: 10, why })
         }
     }

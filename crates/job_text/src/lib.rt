@@ -1,4 +1,7 @@
-//! The text of a job: its values, the forms of its lines as tables, and reading it.
+//! The text of a job: its sections, what each of its lines may say there, and reading it.
+//!
+//! Words and lines are read by `text_lines`, the forms of lines stand in `line_forms`, and what handlers and threads do is
+//! read by `call_text`, `vis_text` and `step_text`.
 //!
 //! What is proved of `read_job` [`found`, `one`, `bad`, `meant`, `told`, `none`]: a job that is read has the bytes as its
 //! text (`JobText`: the printing of the job's value, and the ranges), and is the one job that has them; else the fault
@@ -18,47 +21,24 @@
 #![tactic(auto)]
 
 mod atomics_line;
-mod batches;
-mod bodies;
-mod calls;
 mod collect_line;
-mod collectives;
-mod digits;
 mod endings;
-mod events;
 mod fault;
 mod handler_lines;
 mod head;
+mod head_scope;
 mod job;
-mod kinds;
 mod locks;
-mod numbers;
-mod operand_lists;
-mod operands;
 mod pair_lines;
-mod payloads;
 mod plan_pieces;
 mod reading;
-mod reasons;
 mod schedules;
-mod scope;
 mod script_lines;
 mod sections;
-mod thread_actions;
-mod transfer_calls;
-mod vis;
-mod vis_lines;
-mod waiting_steps;
-mod words;
 
-pub use collective_area::{CollectiveKind, Shape};
-pub use fault::{JobFault, JobWhy};
-pub use gas_strided::Vis;
+pub use fault::JobFault;
 pub use job::{
-    Action, BatchText, Body, BoxedBatch, BoxedLong, BoxedMedium, BoxedTransfer, Bytes, CollectArea,
-    CollectiveText, HandlerText, HandlerTexts, Job, ListedLocks, LongText, MediumText, NodeScript,
-    NodeScripts, Operand, Operands, Payload, PutText, Registers, ReplyAction, Schedule,
-    ScheduledCall, ScheduledEvent, ScriptStep, ScriptSteps, SieveRule, TimedEvent, WaitingStep,
+    Body, CollectArea, HandlerText, HandlerTexts, Job, ListedLocks, NodeScript, NodeScripts,
+    Schedule, ScriptSteps, SieveRule,
 };
 pub use reading::{read_job, read_job_front};
-pub use vis::{BoxedVis, Levels, SegmentRanges, VisShape, VisText, VisWords};

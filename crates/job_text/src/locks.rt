@@ -1,14 +1,13 @@
 //! The locks that a handler lists.
 
 ghost use Rattle.std.specs.Prelude.{◌≡◌, length, true};
-ghost use Rattle.job_text.specs.Forms.{parts_at, U8};
+ghost use Rattle.line_forms.specs.Forms.{parts_at, U8};
 ghost use Rattle.job_text.specs.Locks.{are_listed, listed_by};
-ghost use Rattle.job_text.specs.Reading.{Reads};
+ghost use Rattle.text_lines.specs.Found.{Reads};
 
-use crate::fault::Miss;
-use crate::numbers::byte_at;
-use crate::words::has_more;
+use line_forms::byte_at;
 use std::alloc::Global;
+use text_lines::{Miss, has_more};
 
 /// The greatest lock.
 const LAST: u8 = 63;

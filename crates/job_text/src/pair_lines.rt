@@ -3,20 +3,20 @@
 ghost use Rattle.std.specs.Prelude.{◌≡◌, ◌≢◌, ◌≤◌, ◌<◌, ◌+◌, ◌*◌, ◌-◌, ◌==◌, ◌&&◌, true, [], length, codes, IfOk};
 ghost use Rattle.std.specs.Str.{bytes_eq};
 ghost use Rattle.datagram_grammar.specs.Parameters.{AreInRange, credits_in_all};
-ghost use Rattle.job_text.specs.Lines.{front};
-ghost use Rattle.job_text.specs.Forms.{Number, part_at};
+ghost use Rattle.text_lines.specs.Lines.{front};
+ghost use Rattle.line_forms.specs.Forms.{Number, part_at};
 ghost use Rattle.job_text.specs.JobReading.{State, lined, has_pair, job_of_head, read};
 ghost use Rattle.job_text.specs.Places.{AtAtomics, AtPairs, pair_at, pair_fits, pairs_form};
-ghost use Rattle.job_text.specs.Reading.{Finds, Continues, IsPaired};
-ghost use Rattle.job_text.specs.Reasons.{reason};
-ghost use Rattle.job_text.specs.declared.scope.Scope.{Scope as AnyScope};
+ghost use Rattle.text_lines.specs.Found.{Finds};
+ghost use Rattle.job_text.specs.Reading.{Continues, IsPaired};
+ghost use Rattle.text_lines.specs.Reasons.{reason};
+ghost use Rattle.line_forms.specs.declared.scope.Scope.{Scope as AnyScope};
 
-use crate::fault::{JobFault, JobWhy, Other};
+use crate::fault::JobFault;
 use crate::job::Head;
-use crate::numbers::{number_at, short_at};
-use crate::reasons::{reason_of, words_left};
-use crate::words::{begins, ended, is_name, name_of};
 use datagram_grammar::{PairCredits, Settings};
+use line_forms::{number_at, short_at};
+use text_lines::{LineWhy, Other, begins, ended, is_name, name_of, reason_of, words_left};
 
 /// The most pairs with credits of their own.
 const PAIRS: usize = 64;
@@ -93,7 +93,7 @@ fn pair_line<'a>(
 }
 
 /// Why a line that begins with `pair` isn't read.
-fn pair_why(bytes: &[u8]) -> JobWhy
+fn pair_why(bytes: &[u8]) -> LineWhy
     requires { bytes_eq (front bytes.now) (codes "pair") ≡ true }
     ensures { (scope : AnyScope) → result ≡ reason (pairs_form scope) bytes.now }
 {
@@ -111,7 +111,7 @@ fn has_pair(pairs: &[PairCredits], pair: PairCredits) -> bool
 }
 
 /// The head with one more pair, where the line may stand there.
-fn with_pair(head: Head, sum: u32, pair: PairCredits) -> Result<(Head, u32), JobWhy>
+fn with_pair(head: Head, sum: u32, pair: PairCredits) -> Result<(Head, u32), LineWhy>
     requires sum { sum ≡ credits_in_all head.settings }
     requires range { AreInRange head.settings }
     requires few { (1 ≤ pair.credits) × (pair.credits ≤ 32) }
@@ -124,16 +124,16 @@ fn with_pair(head: Head, sum: u32, pair: PairCredits) -> Result<(Head, u32), Job
 {
     let settings = head.settings;
     if has_pair(settings.pairs(), pair) {
-        return Err(JobWhy::Entry);
+        return Err(LineWhy::Entry);
     }
     if settings.pairs().len() >= PAIRS {
-        return Err(JobWhy::Count);
+        return Err(LineWhy::Count);
     }
     let own = u32::from(settings.credits(pair.from, pair.to));
     let sum = sum + u32::from(pair.credits) - own;
     match settings.with_pair(pair.from, pair.to, pair.credits) {
         Some(settings) => Ok((Head { settings, ..head }, sum)),
-        None => Err(JobWhy::Entry),
+        None => Err(LineWhy::Entry),
     }
 }
 

@@ -4,7 +4,7 @@ ghost use Rattle.std.specs.Prelude.{◌≡◌, ◌≤◌, ◌+◌, nat_lt};
 ghost use Rattle.job_text.specs.PlanPieces.{event_pieces, most_pieces};
 ghost use Rattle.job_text.specs.StepPieces.{step_pieces};
 
-use crate::job::{ScheduledEvent, ScriptStep};
+use step_text::{ScheduledEvent, ScriptStep};
 
 /// The most pieces of all plans of a job.
 const PIECES: usize = 65_536;

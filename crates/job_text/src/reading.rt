@@ -4,21 +4,22 @@ ghost use Rattle.std.specs.Prelude.{◌≡◌, ◌⊎◌, ℕ, IfOk, IfErr};
 ghost use Rattle.job_text.specs.JobText.{BeginsWith, JobText};
 ghost use Rattle.job_text.specs.Refusals.{FrontMeans, IsBadFront, IsBadLine, IsFrontMeant, IsMeant};
 ghost use Rattle.job_text.specs.Refusals.{IsNoMemory, IsTold, Means};
-ghost use Rattle.job_text.specs.declared.fault.JobWhy.{JobWhy as Why};
+ghost use Rattle.text_lines.specs.declared.why.LineWhy.{LineWhy as Why};
 ghost use Rattle.job_text.specs.declared.job.Job.{Job as JobState};
 ghost use Rattle.job_text.specs.JobReading.{front_of, front_with, job_of, read, start};
 ghost use Rattle.job_text.specs.Reading.{GivesAt};
 
 use crate::collect_line::services_from;
 use crate::endings::{job_with, tail_at};
-use crate::fault::{JobFault, JobWhy};
+use crate::fault::JobFault;
 use crate::handler_lines::handlers_at;
 use crate::head::head_at;
+use crate::head_scope::scope_of;
 use crate::job::Job;
 use crate::pair_lines::pairs_at;
-use crate::scope::scope_of;
 use crate::script_lines::scripts_at;
 use std::alloc::Global;
+use text_lines::LineWhy;
 
 /// The most bytes of a job's text.
 const LIMIT: usize = 4_194_304;
@@ -62,7 +63,7 @@ fn job_at(alloc: Global, bytes: &[u8]) -> Result<Job, JobFault>
     ensures { GivesAt (λ j. j) result (job_of bytes.now) }
 {
     if bytes.len() > LIMIT {
-        let (line, why) = (0, JobWhy::Size);
+        let (line, why) = (0, LineWhy::Size);
         return Err(JobFault::Bad { line, why });
     }
     let (job, line, rest) = match front_at(alloc, bytes) {
@@ -71,7 +72,7 @@ fn job_at(alloc: Global, bytes: &[u8]) -> Result<Job, JobFault>
     };
     if !rest.is_empty() {
         drop(job);
-        let why = JobWhy::After;
+        let why = LineWhy::After;
         return Err(JobFault::Bad { line, why });
     }
     Ok(job)
@@ -88,7 +89,7 @@ fn sized_job_at(alloc: Global, bytes: &[u8]) -> Result<(Job, usize), JobFault>
     let size = bytes.len() - rest.len();
     if size > LIMIT {
         drop(job);
-        let (line, why) = (0, JobWhy::Size);
+        let (line, why) = (0, LineWhy::Size);
         return Err(JobFault::Bad { line, why });
     }
     Ok((job, size))

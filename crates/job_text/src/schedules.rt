@@ -2,24 +2,25 @@
 
 ghost use Rattle.std.specs.Prelude.{◌≡◌, ◌+◌, ◌*◌, ◌≤◌, [], length, Some, IfOk};
 ghost use Rattle.job_text.specs.Places.{AtSchedule, AtDone, end_or};
-ghost use Rattle.job_text.specs.Events.{timed_at, timed_form};
+ghost use Rattle.step_text.specs.Events.{timed_at, timed_form};
 ghost use Rattle.job_text.specs.HeadReading.{told};
-ghost use Rattle.job_text.specs.JobReading.{State, lined, rounds_of, are_too_many, is_full, admitted, read};
+ghost use Rattle.job_text.specs.JobReading.{State, lined, rounds_of, are_too_many, is_full};
+ghost use Rattle.job_text.specs.JobReading.{admitted, read};
 ghost use Rattle.job_text.specs.PlanPieces.{scripts_pieces};
-ghost use Rattle.job_text.specs.Reading.{Reads, Continues, GivesAt};
-ghost use Rattle.job_text.specs.Reasons.{reason};
+ghost use Rattle.text_lines.specs.Found.{Reads};
+ghost use Rattle.job_text.specs.Reading.{Continues, GivesAt};
+ghost use Rattle.text_lines.specs.Reasons.{reason};
 ghost use Rattle.job_text.specs.Scopes.{scope_of};
 ghost use Rattle.job_text.specs.declared.job.Job.{Job as JobState};
 
-use crate::events::{timed_at, timed_form};
-use crate::fault::{JobFault, JobWhy, Miss, Other};
+use crate::fault::JobFault;
 use crate::handler_lines::is_end;
-use crate::job::{Schedule, ScheduledEvent, TimedEvent};
+use crate::job::Schedule;
 use crate::plan_pieces::{are_too_many_pieces, event_pieces};
-use crate::reasons::reason_of;
-use crate::scope::Scope;
-use crate::words::{ended, name_of};
+use line_forms::Scope;
 use std::alloc::Global;
+use step_text::{ScheduledEvent, TimedEvent, timed_at, timed_form};
+use text_lines::{LineWhy, Miss, Other, ended, name_of, reason_of};
 
 /// The most lines of a schedule.
 const LINES: usize = 65_536;
@@ -161,7 +162,7 @@ pub fn schedule_at<'a>(
         };
         let Some(amounts) = admitted(scope.settings.nodes(), so_far, &event.event) else {
             drop(event);
-            let why = JobWhy::Count;
+            let why = LineWhy::Count;
             return Err(JobFault::Bad { line, why });
         };
         lines.push(event)?;

@@ -3,29 +3,30 @@
 ghost use Rattle.std.specs.Prelude.{◌≡◌, ◌+◌, ◌≤◌, [], length, true, None, IfOk};
 ghost use Rattle.job_text.specs.HeadReading.{told};
 ghost use Rattle.job_text.specs.Places.{AtScripts, AtSteps, end_or, section_fits};
-ghost use Rattle.job_text.specs.Scripts.{step_at, step_form};
-ghost use Rattle.job_text.specs.JobReading.{State, begun_script, behind_scripts, behind_section, has_thread};
+ghost use Rattle.step_text.specs.Scripts.{step_at, step_form};
+ghost use Rattle.job_text.specs.JobReading.{State, begun_script, behind_scripts, behind_section};
+ghost use Rattle.job_text.specs.JobReading.{has_thread};
 ghost use Rattle.job_text.specs.JobReading.{is_full_script, is_schedule, lined, read, section_why};
 ghost use Rattle.job_text.specs.JobReading.{with_script, with_steps};
 ghost use Rattle.job_text.specs.PlanPieces.{scripts_pieces};
 ghost use Rattle.job_text.specs.StepPieces.{steps_pieces};
-ghost use Rattle.job_text.specs.Reading.{Reads, Continues, GivesAt};
-ghost use Rattle.job_text.specs.Reasons.{reason};
+ghost use Rattle.text_lines.specs.Found.{Reads};
+ghost use Rattle.job_text.specs.Reading.{Continues, GivesAt};
+ghost use Rattle.text_lines.specs.Reasons.{reason};
 ghost use Rattle.job_text.specs.Scopes.{scope_of};
 ghost use Rattle.job_text.specs.declared.job.Job.{Job as JobState};
 ghost use Rattle.job_text.specs.declared.job.NodeScript.{NodeScript as ScriptValue};
 
-use crate::fault::{JobFault, JobWhy, Miss, Other};
+use crate::fault::JobFault;
 use crate::handler_lines::is_end;
-use crate::job::{NodeScript, NodeScripts, ScriptStep, ScriptSteps};
+use crate::job::{NodeScript, NodeScripts, ScriptSteps};
 use crate::plan_pieces::{are_too_many_pieces, step_pieces};
-use crate::reasons::reason_of;
-use crate::scope::Scope;
 use crate::sections::{Section, section_form, section_line};
-use crate::waiting_steps::{step_at, step_form};
-use crate::words::{ended, name_of};
 use datagram_grammar::Settings;
+use line_forms::Scope;
 use std::alloc::Global;
+use step_text::{ScriptStep, step_at, step_form};
+use text_lines::{LineWhy, Miss, Other, ended, name_of, reason_of};
 
 /// The most steps of a script.
 const STEPS: usize = 4_096;
@@ -116,7 +117,7 @@ fn steps_at<'a>(
         };
         if is_full_script(before + pieces, steps.len(), &step) {
             drop(step);
-            let why = JobWhy::Count;
+            let why = LineWhy::Count;
             return Err(JobFault::Bad { line, why });
         }
         pieces += step_pieces(&step);
@@ -136,12 +137,12 @@ fn has_thread(scripts: &[NodeScript], node: u16, thread: u16) -> bool
 }
 
 /// Why a line that begins a script, or another part, may not stand behind these scripts.
-fn why_not(scripts: &[NodeScript], section: Section) -> Option<JobWhy>
+fn why_not(scripts: &[NodeScript], section: Section) -> Option<LineWhy>
     ensures { result ≡ section_why scripts.now section }
 {
     match section {
         Section::Script { node, thread } if has_thread(scripts, node, thread) => {
-            Some(JobWhy::Entry)
+            Some(LineWhy::Entry)
         }
         _ => None,
     }

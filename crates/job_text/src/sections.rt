@@ -2,21 +2,19 @@
 
 ghost use Rattle.std.specs.Prelude.{◌≡◌, ◌||◌, ◌&&◌, ◌==◌, nat_le, nat_lt, codes, true};
 ghost use Rattle.std.specs.Str.{bytes_eq};
-ghost use Rattle.job_text.specs.Lines.{front};
-ghost use Rattle.job_text.specs.Places.{header_at, header_or_section_form, section_at, section_form};
+ghost use Rattle.text_lines.specs.Lines.{front};
+ghost use Rattle.job_text.specs.Places.{header_at, header_or_section_form, section_at};
+ghost use Rattle.job_text.specs.Places.{section_form};
 ghost use Rattle.job_text.specs.JobReading.{lined};
-ghost use Rattle.job_text.specs.Reading.{Finds, Reads};
-ghost use Rattle.job_text.specs.Reasons.{reason};
+ghost use Rattle.text_lines.specs.Found.{Finds, Reads};
+ghost use Rattle.text_lines.specs.Reasons.{reason};
 
-use crate::fault::{JobWhy, Miss, Other};
 use crate::job::ListedLocks;
-use crate::kinds::role_at;
 use crate::locks::{are_listed, locks_at};
-use crate::numbers::{byte_at, short_at};
-use crate::reasons::{reason_of, words_left};
-use crate::words::{ended, is_name, name_of};
 use handler_rules::Role;
+use line_forms::{byte_at, role_at, short_at};
 use std::alloc::Global;
+use text_lines::{LineWhy, Miss, Other, ended, is_name, name_of, reason_of, words_left};
 
 /// The first line of a handler.
 #[derive(Drop)]
@@ -79,7 +77,7 @@ pub fn header_line(alloc: Global, bytes: &[u8]) -> Result<(HandlerHeader, &[u8])
 }
 
 /// Why a line that begins with `handler` isn't read.
-pub fn header_why(bytes: &[u8]) -> JobWhy
+pub fn header_why(bytes: &[u8]) -> LineWhy
     requires { bytes_eq (front bytes.now) (codes "handler") ≡ true }
     ensures { result ≡ reason header_or_section_form bytes.now }
 {

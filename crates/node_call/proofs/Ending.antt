@@ -22,7 +22,7 @@ use Rattle.station_run.specs.declared.node.Place.{Place}
 use Rattle.station_run.specs.NodeRuns.{IsUnopened, RunsStation, RunsOpen, RunsOver, WritesAt, tracing, whole_text}
 use Rattle.node_machine.specs.Kept.{MachineKept}
 use Rattle.node_machine.specs.NodeState.{NodeStands, opening_state}
-use Rattle.gasnet_trace.specs.Lines.{spell}
+use Rattle.text_lines.specs.LineTexts.{spell}
 use Rattle.gasnet_trace.specs.TraceText.{head_text}
 use Rattle.node_call.specs.Seen.{ClockSeen, DevicesSeen, LinkSeen, clock_seen, devices_seen, link_seen, sieved}
 use Rattle.node_call.specs.Seen.{seen_clocks, seen_links, seen_recorders}

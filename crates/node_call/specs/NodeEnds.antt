@@ -7,7 +7,7 @@ use Rattle.gas_outside.specs.declared.writing.Wrote.{Wrote}
 use Rattle.gas_outside.specs.declared.writing.Wrote.TheVariants as wrote
 use Rattle.gas_endpoint.specs.EndpointState.{EndpointState, ForItsRecord}
 use Rattle.machine.specs.declared.entry.Entry.{Entry}
-use Rattle.gasnet_trace.specs.Lines.{spell}
+use Rattle.text_lines.specs.LineTexts.{spell}
 use Rattle.gasnet_trace.specs.TraceText.{head_text}
 use Rattle.endpoint_lock.specs.declared.ends.End.{End}
 use Rattle.endpoint_lock.specs.declared.ends.End.TheVariants as stations

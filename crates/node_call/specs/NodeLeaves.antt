@@ -10,7 +10,7 @@ use Rattle.node_record.specs.Record.{Node as Record}
 use Rattle.endpoint_rules.specs.EndpointLocal.{EndpointLocal}
 use Rattle.job_text.specs.declared.job.Job.{Job as JobState}
 use Rattle.endpoint_lock.specs.declared.ends.Ended.{Ended}
-use Rattle.gasnet_trace.specs.Lines.{Line}
+use Rattle.text_lines.specs.LineTexts.{Line}
 use Rattle.gasnet_trace.specs.TraceText.{trace_lines}
 use Rattle.station_run.specs.declared.node.Node.{Node}
 use Rattle.station_run.specs.declared.node.Place.{Place}

@@ -8,7 +8,7 @@ use Rattle.gas_outside.specs.Told.{and_all}
 use Rattle.gas_outside.specs.declared.link.Link.{Ghosts as LinkGhosts}
 use Rattle.gas_outside.specs.declared.clock.Clock.{Ghosts as ClockGhosts}
 use Rattle.endpoint_lock.specs.declared.recorder.Recorder.{Ghosts as RecorderGhosts}
-use Rattle.gasnet_trace.specs.Lines.{line_text}
+use Rattle.text_lines.specs.LineTexts.{line_text}
 use Rattle.gasnet_trace.specs.TraceText.{entry_line}
 use Rattle.job_text.specs.declared.job.SieveRule.{SieveRule}
 use Rattle.node_call.specs.Sieved.{Datagrams, first_of, sift}

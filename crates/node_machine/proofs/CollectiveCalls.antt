@@ -23,8 +23,8 @@ use Rattle.gas_collectives.specs.declared.answers.EndAnswer.TheVariants as ends
 use Rattle.gas_collectives.specs.declared.answers.StartAnswer.{StartAnswer}
 use Rattle.gas_collectives.specs.declared.answers.StepAnswer.{StepAnswer}
 use Rattle.gas_collectives.specs.declared.answers.StepAnswer.TheVariants as steps
-use Rattle.job_text.specs.declared.job.CollectiveText.{CollectiveText}
-use Rattle.job_text.specs.declared.job.CollectiveText.TheVariants as text
+use Rattle.step_text.specs.declared.steps.CollectiveText.{CollectiveText}
+use Rattle.step_text.specs.declared.steps.CollectiveText.TheVariants as text
 use Rattle.node_caller.specs.Sites.{Site, ThreadCall as CallerCall, answer_at, node_in_the_end, node_then}
 use Rattle.node_record.specs.Behaviour.{Asking}
 use Rattle.node_record.specs.Record.{Node}

@@ -8,7 +8,7 @@ use Rattle.job_text.specs.JobText.{IsJob}
 use Rattle.job_text.specs.Scopes.{scope_of}
 use Rattle.job_text.specs.declared.job.CollectArea.{CollectArea}
 use Rattle.job_text.specs.declared.job.Job.{Job as JobState}
-use Rattle.job_text.specs.declared.job.ScriptStep.{ScriptStep}
+use Rattle.step_text.specs.declared.steps.ScriptStep.{ScriptStep}
 use Rattle.machine.specs.Replay.{after_entry, replayed}
 use Rattle.machine.specs.declared.entry.Entry.{Entry}
 use Rattle.node_script.specs.Bodies.{script_meaning}

@@ -14,13 +14,13 @@ use Rattle.endpoint_rules.specs.EndpointLocal.{nothing_begun}
 use Rattle.gas_collectives.specs.CollectivesState.{CollectivesState}
 use Rattle.gas_endpoint.specs.EndpointState.{EndpointState, EndpointStands, IsNodeOf}
 use Rattle.job_text.specs.JobText.{IsJob, IsNodeScript}
-use Rattle.job_text.specs.Scripts.{IsStep}
+use Rattle.step_text.specs.Scripts.{IsStep}
 use Rattle.job_text.specs.Scopes.{scope_of}
 use Rattle.job_text.specs.declared.job.CollectArea.{CollectArea}
 use Rattle.job_text.specs.declared.job.Job.{Job as JobState}
 use Rattle.job_text.specs.declared.job.NodeScript.{NodeScript}
-use Rattle.job_text.specs.declared.job.ScriptStep.{ScriptStep}
-use Rattle.job_text.specs.declared.scope.Scope.{Scope}
+use Rattle.step_text.specs.declared.steps.ScriptStep.{ScriptStep}
+use Rattle.line_forms.specs.declared.scope.Scope.{Scope}
 use Rattle.script_steps.specs.Forms.{IsJobStep}
 use Rattle.script_steps.specs.Tries.{AreThere}
 use Rattle.node_script.specs.Registration.{handlers_of, registered}

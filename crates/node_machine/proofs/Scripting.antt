@@ -3,7 +3,7 @@ use Rattle.std.proofs.Common.{◌≡◌, ℕ, List, [], ◌∷◌, Option, None,
 use Rattle.std.proofs.lemmas.Option.{same_Some}
 use Rattle.handler_rules.specs.Runs.{Meaning}
 use Rattle.endpoint_rules.specs.declared.answer.Answer.{Answer}
-use Rattle.job_text.specs.declared.job.ScriptStep.{ScriptStep}
+use Rattle.step_text.specs.declared.steps.ScriptStep.{ScriptStep}
 use Rattle.script_steps.specs.Tries.{Found, Tries}
 use Rattle.script_steps.specs.declared.trial.Trial.{Trial}
 use Rattle.script_steps.specs.declared.trial.Tried.{Tried}

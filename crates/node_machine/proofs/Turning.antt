@@ -21,7 +21,7 @@ use Rattle.endpoint_rules.specs.declared.answer.Answer.{Answer}
 use Rattle.endpoint_rules.proofs.Sound.{rules_sound}
 use Rattle.gas_endpoint.specs.EndpointState.{EndpointState, EndpointStands, ForItsRecord}
 use Rattle.script_steps.specs.Forms.{IsJobStep}
-use Rattle.job_text.specs.declared.job.ScriptStep.{ScriptStep}
+use Rattle.step_text.specs.declared.steps.ScriptStep.{ScriptStep}
 use Rattle.gas_collectives.specs.CollectivesState.{CollectivesState}
 use Rattle.node_runs.specs.Actions.{Progress, OwnScripts, StepContext, collectives_then, step_context, tried_step}
 use Rattle.node_runs.specs.Laws.{GotBytes}

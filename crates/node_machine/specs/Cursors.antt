@@ -1,7 +1,7 @@
 -- What is left of a thread's script, as the code keeps it.
 -- Origin: this project's profile.
 use Rattle.std.specs.Prelude.{List, map}
-use Rattle.job_text.specs.declared.job.ScriptStep.{ScriptStep}
+use Rattle.step_text.specs.declared.steps.ScriptStep.{ScriptStep}
 use Rattle.node_runs.specs.Actions.{Progress}
 use Rattle.node_machine.specs.declared.cursor.Cursor.{Cursor}
 

@@ -14,7 +14,7 @@ use Rattle.gas_collectives.specs.CollectivesState.{CollectivesState}
 use Rattle.script_steps.specs.Forms.{IsJobStep}
 use Rattle.script_steps.specs.Tries.{AreThere}
 use Rattle.job_text.specs.declared.job.Job.{Job as JobState}
-use Rattle.job_text.specs.declared.job.ScriptStep.{ScriptStep}
+use Rattle.step_text.specs.declared.steps.ScriptStep.{ScriptStep}
 use Rattle.node_script.specs.Registration.{handlers_of, registered}
 use Rattle.node_runs.specs.Actions.{Progress, OwnScripts}
 

@@ -11,7 +11,7 @@ use Rattle.endpoint_rules.specs.EndpointLocal.{EndpointLocal}
 use Rattle.gas_endpoint.specs.EndpointState.{EndpointStands}
 use Rattle.job_text.specs.declared.job.Job.{Job as JobState}
 use Rattle.job_text.specs.declared.job.NodeScript.{NodeScript}
-use Rattle.job_text.specs.declared.job.ScriptStep.{ScriptStep}
+use Rattle.step_text.specs.declared.steps.ScriptStep.{ScriptStep}
 use Rattle.node_script.specs.Bodies.{script_meaning}
 use Rattle.node_script.specs.Registration.{handlers_of, registered}
 use Rattle.std.specs.Option.{option_map}

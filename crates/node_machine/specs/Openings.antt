@@ -2,7 +2,7 @@
 -- Origin: this project's profile.
 use Rattle.std.specs.Prelude.{ℕ, ◌≡◌, ◌<◌, List, length, Some, slice_get}
 use Rattle.job_text.specs.declared.job.Job.{Job as JobState}
-use Rattle.job_text.specs.declared.job.ScriptStep.{ScriptStep}
+use Rattle.step_text.specs.declared.steps.ScriptStep.{ScriptStep}
 use Rattle.node_runs.specs.Actions.{Progress}
 use Rattle.node_machine.specs.NodeState.{threads_at}
 

@@ -8,7 +8,7 @@ use Rattle.lists.specs.Put.{put}
 use Rattle.node_record.specs.declared.answer.SlotRef.{SlotRef}
 use Rattle.endpoint_rules.specs.EndpointLocal.{EndpointLocal}
 use Rattle.gas_endpoint.specs.EndpointState.{EndpointState, EndpointStands}
-use Rattle.job_text.specs.declared.job.ScriptStep.{ScriptStep}
+use Rattle.step_text.specs.declared.steps.ScriptStep.{ScriptStep}
 use Rattle.node_runs.specs.Actions.{Progress, OwnScripts, scripts_of}
 use Rattle.node_runs.specs.Scripts.{NodeJob}
 use Rattle.node_runs.specs.Turn.{MachineState, Turn, turn, try_of, datagram, is_some_there}

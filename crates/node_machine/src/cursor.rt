@@ -7,8 +7,8 @@ ghost use Rattle.node_machine.specs.Cursors.{progress_of};
 ghost use Rattle.node_machine.specs.Scripted.{progress_after};
 
 use endpoint_rules::Answer;
-use job_text::ScriptStep;
 use script_steps::Tried;
+use step_text::ScriptStep;
 
 /// What is left of a thread's script.
 #[derive(Clone, Copy)]

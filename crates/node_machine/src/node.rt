@@ -15,12 +15,13 @@ use crate::outgoing::Outgoing;
 use crate::turn::{Done, ThreadTurn, take_turn};
 use gas_collectives::Collectives;
 use gas_endpoint::Endpoint;
-use job_text::{NodeScript, ScriptStep};
+use job_text::NodeScript;
 use machine::{Machine, Turned};
 use node_runs::ScriptAnswer;
 use node_script::Script;
 use std::alloc::{AllocError, Global};
 use std::marker::Model;
+use step_text::ScriptStep;
 
 /// The machine of a node of a job: its endpoint, and how far the scripts of its threads have come.
 ///

@@ -1,6 +1,5 @@
 mod Placing
 pub mod ScheduleNodes
-mod LineTexts
 pub mod SentNumbers
 mod RepliesAsked
 pub mod Batches

@@ -19,7 +19,7 @@ use Rattle.handler_rules.specs.declared.table.Entry.{Entry}
 use Rattle.handler_rules.specs.declared.table.EntryFault.{EntryFault}
 use Rattle.handler_rules.specs.declared.table.EntryFault.TheVariants.{Reserved}
 use Rattle.handler_rules.specs.Registered.{no_entries, entry_at, index_for, lowest_free, registering, unless_taken}
-use Rattle.job_text.specs.declared.job.Action.{Action}
+use Rattle.step_text.specs.declared.steps.Action.{Action}
 use Rattle.job_text.specs.declared.job.HandlerText.{HandlerText}
 use Rattle.node_script.specs.Registration.{JobHandlers, Registry, body_among, entries_first, entry_of, register}
 use Rattle.node_script.specs.Registration.{registered, registered_first, with_index}

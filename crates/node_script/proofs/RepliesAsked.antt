@@ -9,9 +9,9 @@ use Rattle.handler_rules.specs.Desks.{start_of}
 use Rattle.handler_rules.specs.Runs.{Outcome, IsSpelled, replying}
 use Rattle.handler_rules.proofs.Laws.{replying-leaving, cells-replying, writes-replying, IsSpelled-replying}
 use Rattle.raw_segment.specs.Image.{Write, written_by}
-use Rattle.job_text.specs.declared.job.Operand.{Operand}
-use Rattle.job_text.specs.declared.job.Payload.{Payload}
-use Rattle.job_text.specs.declared.job.ReplyAction.TheVariants as reply
+use Rattle.line_forms.specs.declared.values.Operand.{Operand}
+use Rattle.line_forms.specs.declared.values.Payload.{Payload}
+use Rattle.step_text.specs.declared.steps.ReplyAction.TheVariants as reply
 use Rattle.node_script.specs.ActionResult.{AsksReply}
 use Rattle.node_script.specs.Bodies.{operand_at, operand_value, payload_bytes, replied, segment_at}
 

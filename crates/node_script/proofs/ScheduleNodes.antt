@@ -5,24 +5,25 @@ use Rattle.std.proofs.lemmas.Bool.{and_parts, leb-true}
 use Rattle.std.specs.Prelude.{◌&&◌, is_none, nat_le}
 use Rattle.std.specs.List.{AllByRecursion}
 use Rattle.job_text.specs.declared.job.Job.{Job as JobState}
-use Rattle.job_text.specs.declared.job.ScheduledEvent.{ScheduledEvent}
-use Rattle.job_text.specs.declared.job.ScheduledEvent.TheVariants as event
-use Rattle.job_text.specs.declared.job.TimedEvent.{TimedEvent}
-use Rattle.job_text.specs.declared.job.ScheduledCall.{ScheduledCall}
-use Rattle.job_text.specs.declared.job.ScheduledCall.TheVariants as calls
-use Rattle.job_text.specs.Calls.{IsCall}
-use Rattle.job_text.specs.Events.{IsEvent, IsTimed}
+use Rattle.step_text.specs.declared.steps.ScheduledEvent.{ScheduledEvent}
+use Rattle.step_text.specs.declared.steps.ScheduledEvent.TheVariants as event
+use Rattle.step_text.specs.declared.steps.TimedEvent.{TimedEvent}
+use Rattle.call_text.specs.declared.scheduled.ScheduledCall.{ScheduledCall}
+use Rattle.call_text.specs.declared.scheduled.ScheduledCall.TheVariants as calls
+use Rattle.call_text.specs.Calls.{IsCall}
+use Rattle.step_text.specs.Events.{IsEvent, IsTimed}
 use Rattle.job_text.specs.JobReading.{lines_of}
 use Rattle.job_text.specs.JobText.{IsJob, IsScheduleOrNone}
-use Rattle.job_text.specs.Scopes.{is_second, scope_of}
-use Rattle.job_text.specs.VisLines.{IsVis, shape_fault, shape_plan, vis_plan}
-use Rattle.job_text.specs.declared.vis.VisShape.{VisShape}
-use Rattle.job_text.specs.declared.vis.VisShape.TheVariants as shapes
-use Rattle.job_text.specs.declared.vis.VisText.{VisText}
+use Rattle.line_forms.specs.Versions.{is_second}
+use Rattle.job_text.specs.Scopes.{scope_of}
+use Rattle.vis_text.specs.VisLines.{IsVis, shape_fault, shape_plan, vis_plan}
+use Rattle.vis_text.specs.declared.vis.VisShape.{VisShape}
+use Rattle.vis_text.specs.declared.vis.VisShape.TheVariants as shapes
+use Rattle.vis_text.specs.declared.vis.VisText.{VisText}
 use Rattle.job_text.specs.Plans.{PlanState}
 use Rattle.job_text.specs.Way.{Way}
 use Rattle.datagram_grammar.specs.Parameters.{Parameters}
-use Rattle.job_text.specs.declared.scope.Scope.{Scope}
+use Rattle.line_forms.specs.declared.scope.Scope.{Scope}
 use Rattle.node_script.specs.ScheduledCalls.{IsGiven}
 use Rattle.node_script.specs.ScriptInvariant.{IsWithin, AreWithin, MayBegin, MayCollect, AllMayCollect}
 

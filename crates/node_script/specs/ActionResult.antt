@@ -4,8 +4,8 @@ use Rattle.datagram_grammar.specs.Content.{Content}
 use Rattle.handler_rules.specs.declared.desk.Desk.{Desk}
 use Rattle.handler_rules.specs.Desks.{At, Stage, frame_of, leaving, start_of}
 use Rattle.handler_rules.specs.Runs.{IsSpelled, Outcome, replying}
-use Rattle.job_text.specs.declared.job.Action.{Action}
-use Rattle.job_text.specs.declared.job.ReplyAction.{ReplyAction}
+use Rattle.step_text.specs.declared.steps.Action.{Action}
+use Rattle.step_text.specs.declared.steps.ReplyAction.{ReplyAction}
 use Rattle.node_script.specs.Bodies.{act, replied}
 
 -- an action goes from any outcome so far to the next, wherever the run began

@@ -9,7 +9,7 @@ use Rattle.hsl_locks.specs.declared.answer.LockAnswer.{LockAnswer}
 use Rattle.hsl_locks.specs.declared.answer.LockAnswer.TheVariants as locking
 use Rattle.hsl_locks.specs.declared.answer.UnlockAnswer.{UnlockAnswer}
 use Rattle.hsl_locks.specs.declared.answer.UnlockAnswer.TheVariants as unlocking
-use Rattle.job_text.specs.Payloads.{hex_byte}
+use Rattle.text_lines.specs.HexBytes.{hex_byte}
 use Rattle.handler_rules.specs.declared.message.Which.{Which}
 use Rattle.handler_rules.specs.declared.message.Which.TheVariants as which
 use Rattle.handler_rules.specs.declared.rules.Forbidden.{Forbidden}
@@ -44,7 +44,8 @@ use Rattle.named_barrier.specs.declared.answer.BarrierAnswer.{BarrierAnswer}
 use Rattle.named_barrier.specs.declared.answer.BarrierAnswer.TheVariants as barrier
 use Rattle.job_text.specs.Vis.{Vis}
 use Rattle.job_text.specs.Vis.TheVariants as vis
-use Rattle.node_script.specs.Lines.{Word, Line}
+use Rattle.text_lines.specs.Lines.{Word}
+use Rattle.text_lines.specs.LineTexts.{Line}
 
 -- the word of the part of a call that is bad
 abbrev pub bad_word : Which → Word

@@ -12,14 +12,14 @@ use Rattle.handler_rules.specs.Runs.{writing, replying}
 use Rattle.collective_area.specs.Served.{collective_handler, stamped}
 use Rattle.gas_atomic.specs.BatchRequests.{batch_handler, block_handler}
 use Rattle.gas_atomic.specs.Served.{served}
-use Rattle.job_text.specs.declared.job.Operand.{Operand}
-use Rattle.job_text.specs.declared.job.Operand.TheVariants as operand
-use Rattle.job_text.specs.declared.job.Payload.{Payload}
-use Rattle.job_text.specs.declared.job.Payload.TheVariants as payload
-use Rattle.job_text.specs.declared.job.Action.{Action}
-use Rattle.job_text.specs.declared.job.Action.TheVariants as action
-use Rattle.job_text.specs.declared.job.ReplyAction.{ReplyAction}
-use Rattle.job_text.specs.declared.job.ReplyAction.TheVariants as reply
+use Rattle.line_forms.specs.declared.values.Operand.{Operand}
+use Rattle.line_forms.specs.declared.values.Operand.TheVariants as operand
+use Rattle.line_forms.specs.declared.values.Payload.{Payload}
+use Rattle.line_forms.specs.declared.values.Payload.TheVariants as payload
+use Rattle.step_text.specs.declared.steps.Action.{Action}
+use Rattle.step_text.specs.declared.steps.Action.TheVariants as action
+use Rattle.step_text.specs.declared.steps.ReplyAction.{ReplyAction}
+use Rattle.step_text.specs.declared.steps.ReplyAction.TheVariants as reply
 use Rattle.node_script.specs.Registration.{JobHandlers, body_for}
 
 -- ---- numbers

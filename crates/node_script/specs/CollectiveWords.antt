@@ -9,7 +9,8 @@ use Rattle.gas_collectives.specs.declared.answers.StartAnswer.TheVariants as sta
 use Rattle.gas_collectives.specs.declared.answers.StepAnswer.{StepAnswer}
 use Rattle.gas_collectives.specs.declared.answers.StepAnswer.TheVariants as stepped
 use Rattle.node_script.specs.AnswerWords.{forbidden_words}
-use Rattle.node_script.specs.Lines.{Word, Line}
+use Rattle.text_lines.specs.Lines.{Word}
+use Rattle.text_lines.specs.LineTexts.{Line}
 use Rattle.node_script.specs.declared.collective_texts.CollectiveAnswer.{CollectiveAnswer}
 use Rattle.node_script.specs.declared.collective_texts.CollectiveAnswer.TheVariants as answers
 

@@ -13,10 +13,10 @@ use Rattle.collective_area.specs.Served.{stamped}
 use Rattle.collective_area.proofs.Stamping.{lawful-stamped}
 use Rattle.gas_atomic.specs.Served.{served}
 use Rattle.gas_atomic.proofs.Lawful.{lawful-served}
-use Rattle.job_text.specs.declared.job.Action.{Action}
-use Rattle.job_text.specs.declared.job.Action.TheVariants as action
-use Rattle.job_text.specs.declared.job.ReplyAction.{ReplyAction}
-use Rattle.job_text.specs.declared.job.ReplyAction.TheVariants as reply
+use Rattle.step_text.specs.declared.steps.Action.{Action}
+use Rattle.step_text.specs.declared.steps.Action.TheVariants as action
+use Rattle.step_text.specs.declared.steps.ReplyAction.{ReplyAction}
+use Rattle.step_text.specs.declared.steps.ReplyAction.TheVariants as reply
 use Rattle.node_script.specs.Bodies.{act, acts, operand_at, payload_bytes, replied, replying_if, segment_at}
 use Rattle.node_script.specs.Bodies.{script_meaning, other_meaning, is_for_batches, is_for_collectives, writing_if}
 use Rattle.node_script.specs.Registration.{JobHandlers, body_for}

@@ -1,4 +1,3 @@
-pub mod Lines
 pub mod Registration
 pub mod Bodies
 pub mod AnswerWords

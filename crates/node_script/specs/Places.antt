@@ -4,7 +4,7 @@ use Rattle.std.specs.Prelude.{nat_lt, length, slice_get, option_and_then, option
 use Rattle.std.specs.List.{filter, fold}
 use Rattle.handler_rules.specs.declared.table.Entry.{Entry}
 use Rattle.handler_rules.specs.Registered.{entry_at}
-use Rattle.job_text.specs.declared.job.Action.{Action}
+use Rattle.step_text.specs.declared.steps.Action.{Action}
 use Rattle.job_text.specs.declared.job.HandlerText.{HandlerText}
 use Rattle.node_script.specs.Registration.{JobHandlers, Registry, body_for, register}
 

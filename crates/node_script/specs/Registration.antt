@@ -11,7 +11,7 @@ use Rattle.collective_area.specs.Served.{collective_handler}
 use Rattle.handler_rules.specs.declared.serves.Serves.TheVariants as serves
 use Rattle.gas_atomic.specs.Served.{batch_entry, block_entry}
 use Rattle.job_text.specs.Locks.{listed_by}
-use Rattle.job_text.specs.declared.job.Action.{Action}
+use Rattle.step_text.specs.declared.steps.Action.{Action}
 use Rattle.job_text.specs.declared.job.HandlerText.{HandlerText}
 use Rattle.job_text.specs.declared.job.Job.{Job}
 

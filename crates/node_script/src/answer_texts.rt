@@ -4,15 +4,15 @@
 ghost use Rattle.std.specs.Prelude.{◌≡◌, ◌≤◌, ◌∷◌, [], codes, decimal, length};
 ghost use Rattle.std.specs.Fmt.{signed_decimal};
 ghost use Rattle.gas_outside.specs.Buffered.{GathersAll, outbox};
-ghost use Rattle.node_script.specs.Lines.{ending};
+ghost use Rattle.text_lines.specs.LineTexts.{ending};
 ghost use Rattle.node_script.specs.AnswerWords.{asked_words, delivered_words, lock_words, unlock_words};
 
 use crate::answer_words::{bad_word, lock_fault_word, refusal_word, rule_word};
-use crate::line_text::{put_end, put_number, put_word};
 use am_core::{Asked, Delivered};
 use gas_outside::{BufferedSink, Sink, Wrote};
 use hsl_locks::{LockAnswer, UnlockAnswer};
 use itoa::Buffer;
+use text_lines::{put_end, put_number, put_word};
 
 /// The text of one word.
 #[inline(always)]

@@ -2,7 +2,7 @@
 
 ghost use Rattle.std.specs.Prelude.{◌≡◌, ◌≤◌, ◌∷◌, decimal, length};
 ghost use Rattle.gas_outside.specs.Buffered.{GathersAll, outbox};
-ghost use Rattle.node_script.specs.Lines.{ending, line_text};
+ghost use Rattle.text_lines.specs.LineTexts.{ending, line_text};
 ghost use Rattle.gas_endpoint.specs.EndpointState.{ForItsRecord};
 ghost use Rattle.node_script.specs.AnswerWords.{answer_words, local_words, sent_words, ticked_words, vis_words};
 ghost use Rattle.node_script.specs.AnswersTold.{HasNumber, NamesItsBytes, NamesWhatIs, TicksItsNumbers, sight_at};
@@ -20,7 +20,7 @@ use am_core::SlotRef;
 use endpoint_rules::{Answer, Local, Ticked};
 use gas_endpoint::Endpoint;
 use gas_outside::{BufferedSink, Sink, Wrote};
-use job_text::Vis;
+use gas_strided::Vis;
 
 /// The most bytes of a line that shows no bytes of a segment, and more.
 const LINE: usize = 128;

@@ -10,8 +10,8 @@ use crate::body_bytes::{keep, message_bytes};
 use crate::body_numbers::{sum_with, value_of, wrapping_sum};
 use crate::body_replies::do_reply;
 use handler_rules::{Cells, Desk};
-use job_text::Action;
 use raw_segment::Segment;
+use step_text::Action;
 
 /// Does an action.
 fn do_action(action: &Action, segment: &mut Segment, cells: &mut Cells, desk: &mut Desk<'_>)

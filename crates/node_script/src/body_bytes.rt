@@ -7,7 +7,7 @@ ghost use Rattle.handler_rules.specs.Runs.{IsPlaced};
 ghost use Rattle.node_script.specs.Bodies.{kept_write, message_bytes, overwritten_if, payload_bytes, range_bytes};
 
 use handler_rules::Desk;
-use job_text::Payload;
+use line_forms::Payload;
 use raw_segment::Segment;
 
 /// The payload of the message that the desk is for; of a Long the bytes at its place, of a Short none.

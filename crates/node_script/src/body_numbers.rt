@@ -6,7 +6,7 @@ ghost use Rattle.std.specs.List.{sum};
 ghost use Rattle.node_script.specs.Bodies.{operand_value};
 
 use handler_rules::Cells;
-use job_text::Operand;
+use line_forms::Operand;
 
 /// The most numbers that an action lists; a message has room for one fewer.
 pub(crate) const MOST: usize = 17;

@@ -10,8 +10,9 @@ ghost use Rattle.node_script.specs.Bodies.{operand_value};
 use crate::body_bytes::payload_bytes;
 use crate::body_numbers::values_of;
 use handler_rules::{Cells, Desk};
-use job_text::{Operand, ReplyAction};
+use line_forms::Operand;
 use raw_segment::Segment;
+use step_text::ReplyAction;
 
 /// Asks for a Short reply.
 fn reply_short(handler: u8, operands: &[Operand], cells: &Cells, desk: &mut Desk<'_>)

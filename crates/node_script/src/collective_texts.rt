@@ -4,7 +4,7 @@ ghost use Rattle.std.specs.Prelude.{◌≡◌, ◌≤◌, ◌∷◌, decimal, le
 ghost use Rattle.gas_outside.specs.Buffered.{GathersAll, outbox};
 ghost use Rattle.node_script.specs.CollectiveWords.{argument_word, collective_words, ended_words, started_words};
 ghost use Rattle.node_script.specs.CollectiveWords.{stepped_words};
-ghost use Rattle.node_script.specs.Lines.{ending, line_text};
+ghost use Rattle.text_lines.specs.LineTexts.{ending, line_text};
 
 use crate::answer_texts::{write_numbered, write_reason, write_word};
 use crate::answer_words::rule_word;

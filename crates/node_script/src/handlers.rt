@@ -12,10 +12,11 @@ use crate::body::do_all;
 use collective_area::{entry, serve as serve_collective};
 use gas_atomic::{BATCH_HANDLER, BLOCK_HANDLER, entries, serve};
 use handler_rules::{Cells, Desk, Entry, Handlers, Serves, Table};
-use job_text::{Action, HandlerText, HandlerTexts};
+use job_text::{HandlerText, HandlerTexts};
 use raw_segment::Segment;
 use std::alloc::{AllocError, Global};
 use std::marker::Model;
+use step_text::Action;
 
 /// The lowest index of a client's handler.
 const LOWEST: u8 = 128;

@@ -12,7 +12,7 @@
 //! - `write_answer` writes a line: a number, and the words of an answer (`answer_words`) by the numbers at the
 //!   endpoint's slots and its segment, for every record for which the endpoint stands; at a fault of the sink a prefix
 //!   of it; `write_vis` that of how a transfer of many pieces began (`vis_words`), `write_collective` that of a call of
-//!   collectives (`collective_words`). `write_line` writes any line.
+//!   collectives (`collective_words`).
 #![tactic(auto)]
 
 mod answer_texts;
@@ -25,8 +25,6 @@ mod body_replies;
 mod collective_texts;
 mod handlers;
 mod line;
-mod line_text;
-mod line_writer;
 mod script;
 mod shown;
 mod transfer_texts;
@@ -37,5 +35,4 @@ pub use body_numbers::value_of;
 pub use collective_texts::{CollectiveAnswer, write_collective};
 pub use handlers::ScriptHandlers;
 pub use line::call_of;
-pub use line_writer::write_line;
 pub use script::Script;

@@ -8,14 +8,15 @@ ghost use Rattle.node_script.specs.Callable.{IsCallable};
 ghost use Rattle.node_script.specs.Bodies.{operand_value};
 ghost use Rattle.node_script.specs.ScheduledCalls.{IsGiven, IsOnSegment, IsOnTransfers, IsOwn, given_from, meant_by};
 ghost use Rattle.node_script.specs.ScheduledCalls.{meant_long, meant_medium};
-ghost use Rattle.job_text.specs.Payloads.{IsPayload};
+ghost use Rattle.line_forms.specs.Payloads.{IsPayload};
 
 use crate::body_numbers::{value_of, values_of};
 use am_core::Payload;
+use call_text::{BatchText, LongText, MediumText, ScheduledCall};
 use endpoint_rules::Call;
 use gas_atomic::BATCH_HANDLER;
 use handler_rules::Cells;
-use job_text::{BatchText, LongText, MediumText, Operands, Payload as Given, ScheduledCall};
+use line_forms::{Operands, Payload as Given};
 
 /// A call, by the cells of its node. The arguments of a request are put into `args`.
 pub fn call_of<'a>(call: &'a ScheduledCall, cells: &Cells, args: &'a mut [i32; 17]) -> Call<'a>

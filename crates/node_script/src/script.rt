@@ -11,9 +11,10 @@ ghost use Rattle.node_script.specs.ScriptInvariant.{IsWithin, MayCollect};
 use crate::handlers::{ScriptHandlers, Services};
 use datagram_grammar::Settings;
 use handler_rules::Table;
-use job_text::{CollectArea, Job, NodeScript, NodeScripts, Schedule, SieveRule, TimedEvent};
+use job_text::{CollectArea, Job, NodeScript, NodeScripts, Schedule, SieveRule};
 use std::alloc::{AllocError, Global};
 use std::marker::Model;
+use step_text::TimedEvent;
 
 /// A job whose handlers are registered.
 #[derive(Drop)]

@@ -2,7 +2,7 @@
 
 ghost use Rattle.std.specs.Prelude.{◌≤◌, length};
 ghost use Rattle.gas_outside.specs.Buffered.{GathersAll, outbox};
-ghost use Rattle.node_script.specs.Lines.{ending};
+ghost use Rattle.text_lines.specs.LineTexts.{ending};
 ghost use Rattle.node_script.specs.AnswerWords.{barrier_words, begun_words, issued_words, notified_words, region_words};
 ghost use Rattle.node_script.specs.AnswerWords.{synced_words};
 

@@ -24,20 +24,20 @@ use Rattle.gas_atomic.specs.BatchRequests.{BatchRequest, batch_handler}
 use Rattle.gas_atomic.specs.Served.{after_batch, after_request, block_reply, change_of, changes_of, olds_of}
 use Rattle.gas_atomic.specs.Served.{request_for, served, word_in}
 use Rattle.gas_atomic.specs.Words.{applied_by}
-use Rattle.job_text.specs.Bodies.{IsAction, IsReply}
+use Rattle.step_text.specs.Bodies.{IsAction, IsReply}
 use Rattle.job_text.specs.JobText.{IsHandler}
-use Rattle.job_text.specs.Payloads.{IsBodyPayload}
-use Rattle.job_text.specs.Words.{IsOperand}
-use Rattle.job_text.specs.declared.operands.NumberPlace.TheVariants.{Body}
-use Rattle.job_text.specs.declared.job.Action.{Action}
-use Rattle.job_text.specs.declared.job.Action.TheVariants as action
+use Rattle.line_forms.specs.Payloads.{IsBodyPayload}
+use Rattle.line_forms.specs.Kinds.{IsOperand}
+use Rattle.line_forms.specs.declared.operands.NumberPlace.TheVariants.{Body}
+use Rattle.step_text.specs.declared.steps.Action.{Action}
+use Rattle.step_text.specs.declared.steps.Action.TheVariants as action
 use Rattle.job_text.specs.declared.job.HandlerText.{HandlerText}
-use Rattle.job_text.specs.declared.job.Operand.{Operand}
-use Rattle.job_text.specs.declared.job.Operand.TheVariants as operand
-use Rattle.job_text.specs.declared.job.Payload.{Payload}
-use Rattle.job_text.specs.declared.job.Payload.TheVariants as payload
-use Rattle.job_text.specs.declared.job.ReplyAction.{ReplyAction}
-use Rattle.job_text.specs.declared.job.ReplyAction.TheVariants as reply
+use Rattle.line_forms.specs.declared.values.Operand.{Operand}
+use Rattle.line_forms.specs.declared.values.Operand.TheVariants as operand
+use Rattle.line_forms.specs.declared.values.Payload.{Payload}
+use Rattle.line_forms.specs.declared.values.Payload.TheVariants as payload
+use Rattle.step_text.specs.declared.steps.ReplyAction.{ReplyAction}
+use Rattle.step_text.specs.declared.steps.ReplyAction.TheVariants as reply
 use Rattle.node_script.specs.Bodies.{operand_value, operand_at, with_cell, segment_at, placed_bytes}
 use Rattle.node_script.specs.Bodies.{range_bytes, payload_bytes, kept_write, writing_if, reply_content, replying_if}
 use Rattle.node_script.specs.Bodies.{act}

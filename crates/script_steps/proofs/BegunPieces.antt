@@ -19,11 +19,11 @@ use Rattle.gas_strided.specs.Plans.{PlanState}
 use Rattle.gas_strided.specs.declared.shapes.Piece.{Piece}
 use Rattle.gas_strided.specs.declared.shapes.Vis.{Vis}
 use Rattle.gas_strided.specs.declared.shapes.Vis.TheVariants as vis
-use Rattle.job_text.specs.Scripts.{IsStep}
-use Rattle.job_text.specs.declared.job.ScriptStep.{ScriptStep}
-use Rattle.job_text.specs.declared.job.ScriptStep.TheVariants as step
-use Rattle.job_text.specs.declared.vis.VisText.{VisText}
-use Rattle.job_text.proofs.VisLaws.{vis_from, vis_settings}
+use Rattle.step_text.specs.Scripts.{IsStep}
+use Rattle.step_text.specs.declared.steps.ScriptStep.{ScriptStep}
+use Rattle.step_text.specs.declared.steps.ScriptStep.TheVariants as step
+use Rattle.vis_text.specs.declared.vis.VisText.{VisText}
+use Rattle.step_text.proofs.VisLaws.{vis_from, vis_settings}
 use Rattle.node_caller.specs.Sites.{ThreadCall, node_in_the_end, node_then}
 use Rattle.std.specs.Prelude.{false, is_none, is_some}
 use Rattle.node_runs.specs.Actions.{FormMay, Part, step_part_of}

@@ -53,12 +53,12 @@ use Rattle.endpoint_rules.specs.declared.answer.Local.{Local as LocalAnswer}
 use Rattle.endpoint_rules.specs.declared.answer.Local.TheVariants as local
 use Rattle.endpoint_rules.specs.declared.answer.Region.TheVariants as region
 use Rattle.gas_atomic.specs.Asking.{batch_asking}
-use Rattle.job_text.specs.declared.job.ScheduledCall.{ScheduledCall}
-use Rattle.job_text.specs.declared.job.ScheduledCall.TheVariants as call
-use Rattle.job_text.specs.declared.job.ScriptStep.{ScriptStep}
-use Rattle.job_text.specs.declared.job.ScriptStep.TheVariants as step
-use Rattle.job_text.specs.declared.job.WaitingStep.{WaitingStep}
-use Rattle.job_text.specs.declared.job.WaitingStep.TheVariants as waiting
+use Rattle.call_text.specs.declared.scheduled.ScheduledCall.{ScheduledCall}
+use Rattle.call_text.specs.declared.scheduled.ScheduledCall.TheVariants as call
+use Rattle.step_text.specs.declared.steps.ScriptStep.{ScriptStep}
+use Rattle.step_text.specs.declared.steps.ScriptStep.TheVariants as step
+use Rattle.step_text.specs.declared.steps.WaitingStep.{WaitingStep}
+use Rattle.step_text.specs.declared.steps.WaitingStep.TheVariants as waiting
 use Rattle.node_script.specs.Bodies.{operand_value}
 use Rattle.node_script.specs.ScheduledCalls.{meant_by, given_from}
 use Rattle.node_runs.specs.Actions.{Form, Once, Again, Until, Twice, Looks, Several, calls_of, ended_by, begins}
@@ -66,7 +66,7 @@ use Rattle.collective_area.specs.declared.shape.Shape.{Shape}
 use Rattle.collective_steps.specs.Parts.{first_part, later_part}
 use Rattle.collective_steps.proofs.Calm.{first_calm, later_calm}
 use Rattle.gas_collectives.specs.CollectivesState.{CollectivesState}
-use Rattle.job_text.specs.declared.job.CollectiveText.{CollectiveText}
+use Rattle.step_text.specs.declared.steps.CollectiveText.{CollectiveText}
 use Rattle.node_runs.specs.Actions.{Part, StepContext, moves, next_calls, step_context, tried_step, scripts_of}
 use Rattle.node_runs.specs.Actions.{unless}
 use Rattle.node_runs.specs.Empty.{IsCalm}

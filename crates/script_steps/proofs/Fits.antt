@@ -10,17 +10,17 @@ use Rattle.put_get.specs.declared.operation.Handle.{Handle}
 use Rattle.endpoint_rules.specs.EndpointLocal.{EndpointLocal}
 use Rattle.endpoint_rules.specs.TransferCalls.{SyncHandle}
 use Rattle.endpoint_rules.specs.declared.answer.Answer.{Answer}
-use Rattle.job_text.specs.declared.job.ScriptStep.{ScriptStep}
-use Rattle.job_text.specs.declared.job.ScriptStep.TheVariants as step
-use Rattle.job_text.specs.declared.job.WaitingStep.{WaitingStep}
-use Rattle.job_text.specs.declared.job.WaitingStep.TheVariants as waiting
+use Rattle.step_text.specs.declared.steps.ScriptStep.{ScriptStep}
+use Rattle.step_text.specs.declared.steps.ScriptStep.TheVariants as step
+use Rattle.step_text.specs.declared.steps.WaitingStep.{WaitingStep}
+use Rattle.step_text.specs.declared.steps.WaitingStep.TheVariants as waiting
 use Rattle.collective_area.specs.declared.shape.Shape.{Shape}
 use Rattle.collective_steps.proofs.Fitting.{end_far, ends_fit, start_far, start_fits, step_far, step_fits}
 use Rattle.collective_steps.proofs.WholeFitting.{first_far, later_far, later_fits}
 use Rattle.collective_steps.specs.Parts.{first_part, later_part}
 use Rattle.gas_collectives.specs.CollectivesState.{CollectivesState}
-use Rattle.job_text.specs.declared.job.CollectiveText.{CollectiveText}
-use Rattle.job_text.specs.declared.job.CollectiveText.TheVariants as text
+use Rattle.step_text.specs.declared.steps.CollectiveText.{CollectiveText}
+use Rattle.step_text.specs.declared.steps.CollectiveText.TheVariants as text
 use Rattle.node_runs.specs.Actions.{ActionMay, Form, FormFar, FormMay, IfFar, ReadMay, Several, StepContext}
 use Rattle.node_runs.specs.Fitting.{CallFits, CollectivesFit, KeptFits}
 use Rattle.node_runs.specs.Scripts.{ThreadCall, TryContext}

@@ -20,7 +20,7 @@ use Rattle.endpoint_rules.specs.Sends.{sends}
 use Rattle.endpoint_rules.specs.declared.answer.Answer.{Answer}
 use Rattle.gas_endpoint.specs.EndpointState.{EndpointState, EndpointStands, ForItsRecord, NodeSteps, job_here}
 use Rattle.gas_endpoint.specs.Sends.{AreThatOf, NodeSends, sender_slot as endpoint_slot}
-use Rattle.job_text.specs.declared.job.ScriptStep.{ScriptStep}
+use Rattle.step_text.specs.declared.steps.ScriptStep.{ScriptStep}
 use Rattle.node_runs.specs.Actions.{Form, Once, Again, Until, Twice, Looks, Several, Progress, calls_of, ended_by}
 use Rattle.node_runs.specs.Actions.{begins, moves}
 use Rattle.node_runs.specs.Actions.{progress_after, tried_form}

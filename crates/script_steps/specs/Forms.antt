@@ -25,16 +25,16 @@ use Rattle.endpoint_rules.specs.declared.answer.Answer.{Answer}
 use Rattle.endpoint_rules.specs.declared.answer.Answer.TheVariants as answers
 use Rattle.endpoint_rules.specs.declared.answer.Begun.TheVariants as begun
 use Rattle.endpoint_rules.specs.declared.answer.Local.TheVariants as local
-use Rattle.job_text.specs.Calls.{IsCall}
-use Rattle.job_text.specs.Scripts.{IsStep}
-use Rattle.job_text.specs.declared.scope.Scope.{Scope}
-use Rattle.job_text.specs.declared.job.PutText.{PutText}
-use Rattle.job_text.specs.declared.job.ScheduledCall.{ScheduledCall}
-use Rattle.job_text.specs.declared.job.ScheduledCall.TheVariants as call
-use Rattle.job_text.specs.declared.job.ScriptStep.{ScriptStep}
-use Rattle.job_text.specs.declared.job.ScriptStep.TheVariants as step
-use Rattle.job_text.specs.declared.job.WaitingStep.{WaitingStep}
-use Rattle.job_text.specs.declared.job.WaitingStep.TheVariants as waiting
+use Rattle.call_text.specs.Calls.{IsCall}
+use Rattle.step_text.specs.Scripts.{IsStep}
+use Rattle.line_forms.specs.declared.scope.Scope.{Scope}
+use Rattle.step_text.specs.declared.steps.PutText.{PutText}
+use Rattle.call_text.specs.declared.scheduled.ScheduledCall.{ScheduledCall}
+use Rattle.call_text.specs.declared.scheduled.ScheduledCall.TheVariants as call
+use Rattle.step_text.specs.declared.steps.ScriptStep.{ScriptStep}
+use Rattle.step_text.specs.declared.steps.ScriptStep.TheVariants as step
+use Rattle.step_text.specs.declared.steps.WaitingStep.{WaitingStep}
+use Rattle.step_text.specs.declared.steps.WaitingStep.TheVariants as waiting
 use Rattle.node_script.specs.Bodies.{operand_value}
 use Rattle.node_script.specs.ScheduledCalls.{meant_by}
 use Rattle.collective_area.specs.declared.shape.Shape.{Shape}
@@ -43,8 +43,8 @@ use Rattle.collective_steps.specs.Parts.{end_part, first_part, later_part, start
 pub use Rattle.collective_steps.specs.Parts.{calls_of_all, site_of}
 use Rattle.gas_collectives.specs.CollectivesState.{CollectivesState}
 use Rattle.gas_collectives.specs.declared.answers.StepAnswer.TheVariants as steps
-use Rattle.job_text.specs.declared.job.CollectiveText.{CollectiveText}
-use Rattle.job_text.specs.declared.job.CollectiveText.TheVariants as text
+use Rattle.step_text.specs.declared.steps.CollectiveText.{CollectiveText}
+use Rattle.step_text.specs.declared.steps.CollectiveText.TheVariants as text
 use Rattle.gas_strided.specs.Beginning.{BeginCall, calls_made, vis_answer}
 use Rattle.gas_strided.specs.Plans.{PlanState}
 use Rattle.node_runs.specs.Actions.{Form, Once, Again, Until, Twice, Looks, Several, Part, StepContext, Reading}

@@ -5,7 +5,7 @@ use Rattle.std.specs.List.{AllByRecursion}
 use Rattle.datagram_grammar.specs.Parameters.{Parameters}
 use Rattle.handler_rules.specs.declared.table.Entry.{Entry}
 use Rattle.handler_rules.specs.Runs.{Meaning}
-use Rattle.job_text.specs.declared.job.ScriptStep.{ScriptStep}
+use Rattle.step_text.specs.declared.steps.ScriptStep.{ScriptStep}
 use Rattle.node_runs.specs.Actions.{OwnScripts, ActionsMay, IfFar, scripts_of}
 use Rattle.node_runs.specs.Empty.{IsCalm}
 use Rattle.node_runs.specs.Fitting.{CallFits, CollectivesFit, KeptFits}

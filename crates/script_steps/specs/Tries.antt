@@ -14,7 +14,7 @@ use Rattle.endpoint_rules.specs.EndpointRules.{OtherCall, RecordEvent, told}
 use Rattle.endpoint_rules.specs.Sends.{sends}
 use Rattle.endpoint_rules.specs.declared.answer.Answer.{Answer}
 use Rattle.gas_endpoint.specs.EndpointState.{EndpointState, EndpointStands, ForItsRecord, job_here}
-use Rattle.job_text.specs.declared.job.ScriptStep.{ScriptStep}
+use Rattle.step_text.specs.declared.steps.ScriptStep.{ScriptStep}
 use Rattle.collective_steps.specs.Tries.{AreOf}
 use Rattle.collective_steps.specs.declared.tries.PartTried.{PartTried}
 use Rattle.gas_collectives.specs.declared.answers.StepAnswer.TheVariants as steps

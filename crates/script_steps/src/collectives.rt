@@ -16,8 +16,8 @@ use endpoint_rules::Answer;
 use gas_collectives::{Collectives, StepAnswer};
 use gas_endpoint::Endpoint;
 use handler_rules::Handlers;
-use job_text::CollectiveText;
 use node_runs::ScriptAnswer;
+use step_text::CollectiveText;
 
 /// A whole collective.
 #[derive(Clone, Copy)]

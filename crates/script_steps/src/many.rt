@@ -8,9 +8,9 @@ use crate::trial::{Trial, Tried};
 use gas_endpoint::Endpoint;
 use gas_strided::{Plan, Vis};
 use handler_rules::Handlers;
-use job_text::VisText;
 use node_caller::AtEndpoint;
 use node_runs::ScriptAnswer;
+use vis_text::VisText;
 
 /// The pieces of a plan that are to be begun, from one on, and the register that gets their handle.
 #[derive(Clone, Copy)]

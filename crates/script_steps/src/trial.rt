@@ -2,8 +2,8 @@
 
 use am_core::SlotRef;
 use endpoint_rules::Answer;
-use job_text::ScriptStep;
 use node_runs::ScriptAnswer;
+use step_text::ScriptStep;
 
 /// A try of a step of a thread's script.
 #[derive(Clone, Copy)]

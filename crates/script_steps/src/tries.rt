@@ -13,7 +13,7 @@ use collective_steps::Start;
 use gas_collectives::Collectives;
 use gas_endpoint::Endpoint;
 use handler_rules::Handlers;
-use job_text::{ScriptStep, WaitingStep};
+use step_text::{ScriptStep, WaitingStep};
 
 /// The try of a step that scripts alone have, by how far the node's collectives are.
 fn try_scripted<H: Handlers>(

@@ -4,7 +4,7 @@ ghost use Rattle.std.specs.Prelude.{◌≡◌, ◌<◌, ℤ, List, None, Some};
 ghost use Rattle.endpoint_rules.specs.Called.{meant};
 ghost use Rattle.endpoint_rules.specs.declared.answer.Answer.{Answer};
 ghost use Rattle.gas_endpoint.specs.EndpointState.{ForItsRecord, MayBeCalled};
-ghost use Rattle.job_text.specs.declared.job.WaitingStep.{WaitingStep};
+ghost use Rattle.step_text.specs.declared.steps.WaitingStep.{WaitingStep};
 ghost use Rattle.node_runs.specs.Actions.{Again, Looks};
 ghost use Rattle.node_script.specs.Callable.{IsCallable};
 ghost use Rattle.script_steps.specs.Forms.{IsPlain, IsPut, IsSync, is_not_ready, is_sent, put_of, waiting_form};
@@ -16,10 +16,11 @@ use crate::trial::{Trial, Tried};
 use endpoint_rules::{Answer, Call};
 use gas_endpoint::Endpoint;
 use handler_rules::Handlers;
-use job_text::{Operand, PutText, WaitingStep};
+use line_forms::Operand;
 use node_runs::ScriptAnswer;
 use node_script::value_of;
 use put_get::Transfer;
+use step_text::{PutText, WaitingStep};
 
 /// The try of an `until`: it reads the cell.
 pub(crate) fn try_until<H: Handlers>(

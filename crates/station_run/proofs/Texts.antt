@@ -10,7 +10,7 @@ use Rattle.machine.specs.declared.entry.Entry.{Entry}
 use Rattle.endpoint_lock.specs.declared.ends.End.{End}
 use Rattle.endpoint_lock.specs.declared.ends.End.TheVariants.{Over, Stuck, LinkFault, WriteFault, JournalFull, NoMemory}
 use Rattle.endpoint_lock.specs.Facts.{texts}
-use Rattle.gasnet_trace.specs.Lines.{line_text, spell, Line}
+use Rattle.text_lines.specs.LineTexts.{line_text, spell, Line}
 use Rattle.gasnet_trace.specs.TraceText.{entry_line, end_line, entry_lines, head_lines, head_text}
 use Rattle.std.proofs.Common.{inl, inr}
 use Rattle.gas_outside.specs.Buffered.{Gathering, outbox}

@@ -16,7 +16,7 @@ use Rattle.endpoint_lock.specs.declared.ends.Ended.{Ended}
 use Rattle.endpoint_lock.specs.declared.recorder.Recorder.{Ghosts as RecorderGhosts}
 use Rattle.endpoint_lock.specs.Leaving.{StationLeaves}
 use Rattle.endpoint_lock.specs.StationState.{Opening, opened_with}
-use Rattle.gasnet_trace.specs.Lines.{Line, line_text, spell}
+use Rattle.text_lines.specs.LineTexts.{Line, line_text, spell}
 use Rattle.gasnet_trace.specs.TraceText.{trace_text, head_lines, head_text, entry_line}
 use Rattle.gasnet_trace.specs.declared.trace.Trace.{Trace}
 use Rattle.station_run.specs.declared.node.Node.{Node}

@@ -1,7 +1,7 @@
 -- Whether words are those of a command.
 use Rattle.std.proofs.Common.{◌≡◌, ℕ, ◌<◌, ◌≤◌, ◌^◌, List, [], ◌∷◌, length, ap, codes, ◌∙◌}
 use Rattle.std.specs.Prelude.{decimal}
-use Rattle.node_script.specs.Lines.{Word}
+use Rattle.text_lines.specs.Lines.{Word}
 use Rattle.top_call.specs.Commands.{Asks, AsksNothing}
 use Rattle.top_call.specs.declared.words.Command.{Command}
 use Rattle.top_call.specs.declared.words.Command.TheVariants as commands

@@ -4,7 +4,7 @@ use Rattle.std.proofs.Common.{get_or}
 use Rattle.std.specs.Prelude.{if◌then◌else◌, bytes_eq, decimal}
 use Rattle.std.specs.Str.Parse.{digits_value}
 use Rattle.std.proofs.lemmas.Fmt.{decimal_is_IsNumeral}
-use Rattle.node_script.specs.Lines.{Word}
+use Rattle.text_lines.specs.Lines.{Word}
 use Rattle.top_call.specs.Outsides.{Call, Course, Spawning, course_in, spawning_in, took_in}
 use Rattle.top_call.specs.Commands.{Asks, AsksNothing, IsAsked, IsCommand, code_of, command_words}
 use Rattle.top_call.specs.HowEnds.{EndMeans}

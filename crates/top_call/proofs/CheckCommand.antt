@@ -5,7 +5,7 @@ use Rattle.std.proofs.Common.{true≢false}
 use Rattle.std.specs.List.{Contains}
 use Rattle.gas_outside.specs.Buffered.{Outbox, GathersAll}
 use Rattle.gasnet_trace.specs.declared.output.Output.{Output}
-use Rattle.job_text.specs.declared.fault.JobWhy.{JobWhy}
+use Rattle.text_lines.specs.declared.why.LineWhy.{LineWhy}
 use Rattle.job_text.specs.declared.job.Job.{Job as JobState}
 use Rattle.launch_run.specs.CheckInputs.{InputText, IsUnread, TakesInput, TakesNone, traces_in}
 use Rattle.launch_run.specs.Statuses.{AreOver, IsFirstFailed, is_over}
@@ -147,7 +147,7 @@ check_means call end h = code_means call (CheckEnds (read_in call)) _ end (check
 
 -- a source that told an input doesn't give bytes that are none
 not_no_input : (bytes : List ℕ) (left : Option (List ℕ)) (job : JobState) (outputs : List Output) (line : ℕ)
-    (reason : JobWhy) → InputText job outputs bytes → TakesNone (Some bytes) left line reason → ⊥
+    (reason : LineWhy) → InputText job outputs bytes → TakesNone (Some bytes) left line reason → ⊥
 not_no_input bytes None job outputs line reason text none = none.read
 not_no_input bytes (Some rest) job outputs line reason text none = elim none.none [
   | inl long ↦
@@ -159,7 +159,7 @@ not_no_input bytes (Some rest) job outputs line reason text none = elim none.non
       bad.1.none job outputs (subst (InputText job outputs) same text)
 ]
 
-was_no_input : (source : Input) (left : Option (List ℕ)) (line : ℕ) (reason : JobWhy) → HoldsInput source
+was_no_input : (source : Input) (left : Option (List ℕ)) (line : ℕ) (reason : LineWhy) → HoldsInput source
     → TakesNone source.left left line reason → ⊥
 was_no_input source left line reason holds none =
     not_no_input holds.bytes left holds.job holds.outputs line reason holds.text

@@ -8,7 +8,7 @@ use Rattle.gas_outside.specs.declared.spawner.Spawner.{Ghosts as SpawnerGhosts}
 use Rattle.gas_outside.specs.declared.clock.Clock.{Ghosts as ClockGhosts}
 use Rattle.launch_run.specs.Children.{spawner_seen}
 use Rattle.node_call.specs.Seen.{devices_seen}
-use Rattle.node_script.specs.Lines.{Word}
+use Rattle.text_lines.specs.Lines.{Word}
 use Rattle.top_call.specs.Commands.{IsAsked, code_of}
 use Rattle.top_call.specs.HowEnds.{EndMeans}
 use Rattle.top_call.specs.Outsides.{Call, Course, Spawning, call_of, course_in, course_with, given_with, reading_over}

@@ -8,8 +8,8 @@ use Rattle.job_text.specs.JobText.{JobText}
 use Rattle.job_text.specs.JobReading.{limit, job_of}
 use Rattle.job_text.specs.Refusals.{IsNoMemory, IsBadLine, IsMeant}
 use Rattle.job_text.specs.Refusals as refusals
-use Rattle.job_text.specs.declared.fault.JobWhy.{JobWhy}
-use Rattle.job_text.specs.declared.fault.JobWhy.TheVariants.{Size}
+use Rattle.text_lines.specs.declared.why.LineWhy.{LineWhy}
+use Rattle.text_lines.specs.declared.why.LineWhy.TheVariants.{Size}
 use Rattle.job_text.specs.declared.fault.JobFault.{JobFault}
 use Rattle.job_text.specs.declared.fault.JobFault.TheVariants as faults
 use Rattle.top_call.specs.Outsides.{Input, Reading}
@@ -40,7 +40,7 @@ reads_text left left' bytes seen j same h text one = (
 )
 
 -- all bytes were read, and they are no job's text
-pub reads_bad : (left left' : Option (List ℕ)) (bytes seen : List ℕ) (fault : JobFault) (line : ℕ) (reason : JobWhy)
+pub reads_bad : (left left' : Option (List ℕ)) (bytes seen : List ℕ) (fault : JobFault) (line : ℕ) (reason : LineWhy)
     → seen ≡ bytes → fault ≡ faults.Bad line reason → (length bytes ≤ limit) × Consumes left left' bytes × IsAtEnd left'
     → IsNoMemory fault ⊎ IsBadLine seen fault → IsMeant seen fault
     → IsNoMemory fault ⊎ ((j : JobState) → JobText j seen → ⊥) → ReadsNoJob left left' line reason
@@ -68,7 +68,7 @@ pub reads_long : (left left' : Option (List ℕ))
 reads_long left left' h = record { bytes = h.0; read = h.2; none = inl (h.1, refl, refl) }
 
 -- a source that told a job's text doesn't give bytes that are no job
-not_no_job : (bytes : List ℕ) (l' : Option (List ℕ)) (j : JobState) (line : ℕ) (why : JobWhy) → JobText j bytes
+not_no_job : (bytes : List ℕ) (l' : Option (List ℕ)) (j : JobState) (line : ℕ) (why : LineWhy) → JobText j bytes
     → ReadsNoJob (Some bytes) l' line why → ⊥
 not_no_job bytes None j line why text r = r.read
 not_no_job bytes (Some ys) j line why text r = elim r.none [
@@ -79,7 +79,7 @@ not_no_job bytes (Some ys) j line why text r = elim r.none [
 ]
 
 -- so of a source that told a job's text before it was read
-pub was_no_job : (source : Input) (left : Option (List ℕ)) (line : ℕ) (reason : JobWhy) → HoldsJob source
+pub was_no_job : (source : Input) (left : Option (List ℕ)) (line : ℕ) (reason : LineWhy) → HoldsJob source
     → ReadsNoJob source.left left line reason → ⊥
 was_no_job source left line reason holds none =
     not_no_job holds.bytes left holds.job line reason holds.text

@@ -5,7 +5,7 @@ use Rattle.gas_outside.specs.declared.writing.Wrote.{Wrote}
 use Rattle.gas_outside.specs.declared.writing.Wrote.TheVariants as wrote
 use Rattle.gas_outside.proofs.Outboxes.{flushed, front_given, gathers_more}
 use Rattle.gas_outside.proofs.Outboxes.{gathers_none, gathers_then, rose_later}
-use Rattle.node_script.specs.Lines.{Line, spell, line_text}
+use Rattle.text_lines.specs.LineTexts.{Line, spell, line_text}
 use Rattle.drill_run.proofs.LinesWritten.{one_more}
 use Rattle.top_call.specs.Outsides.{Output, TakesBytes}
 use Rattle.top_call.specs.Commands.{status_line}

@@ -6,7 +6,7 @@ use Rattle.gas_outside.specs.Buffered.{Outbox, GathersFront}
 use Rattle.gas_outside.specs.Faults.{Rose}
 use Rattle.gas_outside.proofs.Outboxes.{gathers_first, rose_later}
 use Rattle.machine.specs.declared.entry.Entry.{Entry}
-use Rattle.node_script.specs.Lines.{Line, spell, line_text}
+use Rattle.text_lines.specs.LineTexts.{Line, spell, line_text}
 use Rattle.gas_endpoint.specs.EndpointState.{EndpointState}
 use Rattle.job_text.specs.declared.job.Job.{Job as JobState}
 use Rattle.endpoint_lock.specs.declared.ends.End.{End as StationEnd}

@@ -3,7 +3,7 @@ use Rattle.std.proofs.Common.{ℕ, List, refl, sym, subst, Bool, true, false}
 use Rattle.gas_outside.specs.Buffered.{Outbox, GathersAll}
 use Rattle.gas_outside.specs.declared.writing.Wrote.TheVariants as wrote
 use Rattle.gas_outside.proofs.Outboxes.{gathers_first}
-use Rattle.node_script.specs.Lines.{Line, spell, line_text}
+use Rattle.text_lines.specs.LineTexts.{Line, spell, line_text}
 use Rattle.job_text.specs.declared.job.Job.{Job as JobState}
 use Rattle.drill_run.specs.RunText.{is_violated}
 use Rattle.drill_run.specs.RunEnds.{EndsSaying}

@@ -2,7 +2,7 @@
 use Rattle.std.proofs.Common.{◌≡◌, ◌⊎◌, inl, inr, ℕ, List, Option, Some, None, refl, ap, subst, arith}
 use Rattle.std.specs.Prelude.{if◌then◌else◌, ◌==◌}
 use Rattle.std.specs.List.{Contains}
-use Rattle.job_text.specs.declared.fault.JobWhy.{JobWhy}
+use Rattle.text_lines.specs.declared.why.LineWhy.{LineWhy}
 use Rattle.top_call.specs.Outsides.{Call, took_in}
 use Rattle.top_call.specs.Commands.{code_of}
 use Rattle.top_call.specs.HowEnds.{EndsHow, EndMeans}
@@ -48,7 +48,7 @@ one_end end other is same =
     ]
 
 -- that of a bad job
-a_bad_job : (end : End) → code_of end ≡ 3 → (line : ℕ) × (reason : JobWhy) × (end ≡ ends.BadJob line reason)
+a_bad_job : (end : End) → code_of end ≡ 3 → (line : ℕ) × (reason : LineWhy) × (end ≡ ends.BadJob line reason)
 a_bad_job (ends.BadJob line reason) e = (line, reason, refl)
 a_bad_job ends.Done e = absurd (omega (arith, e))
 a_bad_job ends.Violations e = absurd (omega (arith, e))

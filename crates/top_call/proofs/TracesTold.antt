@@ -5,7 +5,7 @@ use Rattle.gas_outside.specs.declared.writing.Wrote.TheVariants as wrote
 use Rattle.gas_outside.proofs.Outboxes.{gathers_first}
 use Rattle.gasnet_trace.specs.declared.trace.Trace.{Trace}
 use Rattle.job_text.specs.declared.job.Job.{Job as JobState}
-use Rattle.node_script.specs.Lines.{spell, line_text}
+use Rattle.text_lines.specs.LineTexts.{spell, line_text}
 use Rattle.drill_run.proofs.LinesWritten.{one_more}
 use Rattle.launch_run.specs.StepLines.{is_violated, run_lines}
 use Rattle.launch_run.specs.Struck.{struck_traces}

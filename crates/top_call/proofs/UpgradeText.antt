@@ -8,13 +8,13 @@ use Rattle.datagram_grammar.specs.Parameters.{Parameters, credits_in_all, credit
 use Rattle.datagram_grammar.proofs.Keeping.{upgraded_range}
 use Rattle.datagram_grammar.proofs.Noted.{each_version}
 use Rattle.job_text.specs.declared.job.Job.{Job as JobState}
-use Rattle.job_text.specs.declared.job.TimedEvent.{TimedEvent}
+use Rattle.step_text.specs.declared.steps.TimedEvent.{TimedEvent}
 use Rattle.job_text.specs.Scopes.{scope_of}
 use Rattle.job_text.specs.JobText.{IsJob, JobText, Line, job_lines, job_text}
 use Rattle.job_text.proofs.Upgrading.{collect_upgraded, schedule_upgraded, scripts_upgraded}
 use Rattle.job_text.specs.JobText.{lines_with_scripts}
 use Rattle.job_text.specs.JobText.{schedule_lines, spell}
-use Rattle.node_script.specs.Lines.{Line as Words}
+use Rattle.text_lines.specs.LineTexts.{Line as Words}
 use Rattle.drill_run.specs.RunText.{is_violated, run_lines}
 use Rattle.upgrade_law.specs.Upgraded.{in_version}
 use Rattle.upgrade_law.proofs.Lines.{same_run}

@@ -2,7 +2,7 @@
 use Rattle.std.specs.Prelude.{◌≡◌, ◌⊎◌, List, [], ◌∷◌, Some, ℕ}
 use Rattle.std.specs.List.{Contains}
 use Rattle.gasnet_trace.specs.declared.output.Output.{Output}
-use Rattle.job_text.specs.declared.fault.JobWhy.{JobWhy}
+use Rattle.text_lines.specs.declared.why.LineWhy.{LineWhy}
 use Rattle.job_text.specs.declared.job.Job.{Job as JobState}
 use Rattle.launch_run.specs.CheckInputs.{InputText, TakesInput, TakesNone, traces_in}
 use Rattle.launch_run.specs.Statuses.{AreOver, IsFirstFailed}
@@ -37,7 +37,7 @@ pub record NamesChild (reading : Reading) (rank code : ℕ) (after : After) (sai
   pub alone : SaysAlone (ends.Child rank code) after said
 
 -- the bytes are no such input: the status line alone
-pub record RefusesInput (reading : Reading) (line : ℕ) (reason : JobWhy) (after : After) (said : List ℕ) : Type 0 where
+pub record RefusesInput (reading : Reading) (line : ℕ) (reason : LineWhy) (after : After) (said : List ℕ) : Type 0 where
   pub read : TakesNone reading.before.left reading.after.left line reason
   pub alone : SaysAlone (ends.BadJob line reason) after said
 

@@ -1,9 +1,10 @@
 -- The commands, and the words of their ends.
 use Rattle.std.specs.Prelude.{◌≡◌, ℕ, ◌<◌, ◌≤◌, ◌^◌, List, [], ◌∷◌, Bool, if◌then◌else◌, Option, Some, None, codes}
 use Rattle.std.specs.Prelude.{decimal}
-use Rattle.job_text.specs.declared.fault.JobWhy.{JobWhy}
-use Rattle.job_text.specs.declared.fault.JobWhy.TheVariants as why
-use Rattle.node_script.specs.Lines.{Word, Line}
+use Rattle.text_lines.specs.declared.why.LineWhy.{LineWhy}
+use Rattle.text_lines.specs.declared.why.LineWhy.TheVariants as why
+use Rattle.text_lines.specs.Lines.{Word}
+use Rattle.text_lines.specs.LineTexts.{Line}
 use Rattle.top_call.specs.declared.ending.End.{End}
 use Rattle.top_call.specs.declared.ending.End.TheVariants as ends
 use Rattle.top_call.specs.declared.words.Command.{Command}
@@ -62,7 +63,7 @@ code_of (ends.NotARun node entry) = 11
 code_of (ends.Child rank code) = 12
 
 -- the word of a reason why bytes are no job's text
-abbrev pub why_word : JobWhy → Word
+abbrev pub why_word : LineWhy → Word
 why_word why.Size = codes "size"
 why_word why.Text = codes "text"
 why_word why.Form = codes "form"

@@ -6,7 +6,7 @@ use Rattle.gas_outside.specs.declared.writing.Wrote.TheVariants as wrote
 use Rattle.gas_endpoint.specs.EndpointState.{EndpointState}
 use Rattle.gas_world.specs.WorldState.{WorldState}
 use Rattle.gasnet_trace.specs.declared.trace.Trace.{Trace}
-use Rattle.node_script.specs.Lines.{Line, spell}
+use Rattle.text_lines.specs.LineTexts.{Line, spell}
 use Rattle.job_text.specs.declared.job.Job.{Job as JobState}
 use Rattle.drill_run.specs.ScheduleRun.{StandsForRun}
 use Rattle.launch_run.specs.TracesRun.{AreNodesAfter}

@@ -6,8 +6,8 @@ use Rattle.job_text.specs.declared.job.Job.{Job as JobState}
 use Rattle.job_text.specs.JobText.{JobText}
 use Rattle.job_text.specs.Refusals as refusals
 use Rattle.job_text.specs.JobReading.{limit, job_of}
-use Rattle.job_text.specs.declared.fault.JobWhy.{JobWhy}
-use Rattle.job_text.specs.declared.fault.JobWhy.TheVariants as why
+use Rattle.text_lines.specs.declared.why.LineWhy.{LineWhy}
+use Rattle.text_lines.specs.declared.why.LineWhy.TheVariants as why
 use Rattle.top_call.specs.Outsides.{Input, Reading}
 use Rattle.top_call.specs.HowEnds.{After, EndsHow, SaysAlone}
 use Rattle.top_call.specs.declared.ending.End.TheVariants as ends
@@ -21,18 +21,18 @@ pub record ReadsJob (old new : Option (List ℕ)) (job : JobState) : Type 0 wher
   pub one : (other : JobState) → JobText other bytes → other ≡ job
 
 -- more bytes than a job's text has: line 0, for their size
-abbrev pub IsTooLong : List ℕ → (line : ℕ) → JobWhy → Type 0
+abbrev pub IsTooLong : List ℕ → (line : ℕ) → LineWhy → Type 0
 IsTooLong bytes line reason = (limit < length bytes) × (line ≡ 0) × (reason ≡ why.Size)
 
 -- all bytes of a source, which are no job's text: this line is the first bad one, this the first reason that applies
 -- to it, and what that means, apart from how a text is read
-abbrev pub IsBad : Option (List ℕ) → List ℕ → (line : ℕ) → JobWhy → Type 0
+abbrev pub IsBad : Option (List ℕ) → List ℕ → (line : ℕ) → LineWhy → Type 0
 IsBad new bytes line reason =
     IsAtEnd new × (job_of bytes ≡ Err (record { line = line; why = reason })) × refusals.Means bytes line reason
     × ((job : JobState) → JobText job bytes → ⊥)
 
 -- it was read past the limit; or to its end, and its bytes are no job's text, by this line and for this reason
-pub record ReadsNoJob (old new : Option (List ℕ)) (line : ℕ) (reason : JobWhy) : Type 0 where
+pub record ReadsNoJob (old new : Option (List ℕ)) (line : ℕ) (reason : LineWhy) : Type 0 where
   pub bytes : List ℕ
   pub read : Consumes old new bytes
   pub none : IsTooLong bytes line reason ⊎ IsBad new bytes line reason
@@ -42,7 +42,7 @@ abbrev pub GivesJob : Reading → JobState → Type 0
 GivesJob reading job = ReadsJob reading.before.left reading.after.left job
 
 -- its bytes are no job's text: the status line alone
-pub record RefusesJob (reading : Reading) (line : ℕ) (reason : JobWhy) (after : After) (said : List ℕ)
+pub record RefusesJob (reading : Reading) (line : ℕ) (reason : LineWhy) (after : After) (said : List ℕ)
     : Type 0 where
   pub read : ReadsNoJob reading.before.left reading.after.left line reason
   pub alone : SaysAlone (ends.BadJob line reason) after said

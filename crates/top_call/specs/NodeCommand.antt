@@ -3,7 +3,7 @@ use Rattle.std.specs.Prelude.{◌≡◌, ◌⊎◌, ℕ, nat_lt, List, [], ◌�
 use Rattle.std.specs.List.{Contains}
 use Rattle.gas_outside.specs.Faults.{Rose}
 use Rattle.machine.specs.declared.entry.Entry.{Entry}
-use Rattle.node_script.specs.Lines.{spell}
+use Rattle.text_lines.specs.LineTexts.{spell}
 use Rattle.job_text.specs.declared.job.Job.{Job as JobState}
 use Rattle.endpoint_lock.specs.declared.ends.End.{End as StationEnd}
 use Rattle.endpoint_lock.specs.declared.ends.End.TheVariants as stations

@@ -10,7 +10,7 @@ use Rattle.gas_outside.specs.declared.clock.Clock.{Ghosts as ClockGhosts}
 use Rattle.gas_outside.specs.Whole.{TakesUpTo}
 use Rattle.gas_outside.specs.declared.writing.Wrote.{Wrote}
 use Rattle.gas_outside.specs.declared.writing.Wrote.TheVariants as wrote
-use Rattle.node_script.specs.Lines.{Word}
+use Rattle.text_lines.specs.Lines.{Word}
 use Rattle.node_call.specs.Seen.{DevicesSeen, devices_seen}
 use Rattle.launch_run.specs.Children.{SpawnerSeen, spawner_seen}
 use Rattle.top_call.specs.declared.ending.Given.{Given}

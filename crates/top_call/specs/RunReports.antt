@@ -1,6 +1,6 @@
 -- What is said of a run: what commands share that run a job.
 use Rattle.std.specs.Prelude.{◌≡◌, List, ◌++◌, Bool, ℕ}
-use Rattle.node_script.specs.Lines.{Line}
+use Rattle.text_lines.specs.LineTexts.{Line}
 use Rattle.job_text.specs.declared.job.Job.{Job as JobState}
 use Rattle.drill_run.specs.RunText.{is_violated}
 use Rattle.drill_run.specs.RunLaws.{RunLaws}

@@ -1,7 +1,7 @@
 -- Exit statuses.
 use Rattle.std.specs.Prelude.{◌≡◌, ℕ, List}
 use Rattle.std.specs.List.{Contains}
-use Rattle.job_text.specs.declared.fault.JobWhy.{JobWhy}
+use Rattle.text_lines.specs.declared.why.LineWhy.{LineWhy}
 use Rattle.top_call.specs.Outsides.{Call}
 use Rattle.top_call.specs.HowEnds.{EndsHow, IsCutShort, TellsEnd}
 use Rattle.top_call.specs.declared.ending.End.TheVariants as ends
@@ -12,7 +12,7 @@ pub record CodeMeans (call : Call) (Ends : EndsHow) (codes : List ℕ) (code : �
   pub ok : code ≡ 0 → TellsEnd call Ends ends.Done
   pub violations : code ≡ 1 → TellsEnd call Ends ends.Violations
   pub usage : code ≡ 2 → TellsEnd call Ends ends.Usage
-  pub bad_job : code ≡ 3 → (line : ℕ) × (reason : JobWhy) × TellsEnd call Ends (ends.BadJob line reason)
+  pub bad_job : code ≡ 3 → (line : ℕ) × (reason : LineWhy) × TellsEnd call Ends (ends.BadJob line reason)
   pub read_fault : code ≡ 4 → TellsEnd call Ends ends.ReadFault
   pub write_fault : code ≡ 5 → IsCutShort call Ends
   pub link_fault : code ≡ 6 → TellsEnd call Ends ends.LinkFault

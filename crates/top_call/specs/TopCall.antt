@@ -1,6 +1,6 @@
 -- What each exit status of the top call says, command by command, and what a call leaves alone.
 use Rattle.std.specs.Prelude.{◌≡◌, ℕ, List}
-use Rattle.node_script.specs.Lines.{Word}
+use Rattle.text_lines.specs.Lines.{Word}
 use Rattle.top_call.specs.Outsides.{Call}
 use Rattle.top_call.specs.Commands.{Asks, AsksNothing}
 use Rattle.top_call.specs.WorldCommand.{WorldCompletes, WorldMeans}

@@ -3,7 +3,8 @@ use Rattle.std.specs.Prelude.{◌≡◌, ◌⊎◌, ℕ, List, [], Option, Some,
 use Rattle.gas_outside.specs.Buffered.{Outbox, Gathering, Gathers, GathersAll, GathersFront, Flushes, outbox}
 use Rattle.gas_outside.specs.declared.writing.Wrote.TheVariants as wrote
 use Rattle.gas_outside.specs.Faults.{Rose}
-use Rattle.node_script.specs.Lines.{Word, line_text}
+use Rattle.text_lines.specs.Lines.{Word}
+use Rattle.text_lines.specs.LineTexts.{line_text}
 use Rattle.job_text.specs.declared.job.Job.{Job as JobState}
 use Rattle.drill_run.specs.RunEnd.{RunEnd}
 use Rattle.drill_run.specs.RunEnd.TheVariants as runs

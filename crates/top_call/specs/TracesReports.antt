@@ -3,7 +3,7 @@
 use Rattle.std.specs.Prelude.{◌≡◌, ◌⊎◌, List, ◌++◌, Bool, true, false, ℕ}
 use Rattle.gasnet_trace.specs.declared.trace.Trace.{Trace}
 use Rattle.job_text.specs.declared.job.Job.{Job as JobState}
-use Rattle.node_script.specs.Lines.{Line}
+use Rattle.text_lines.specs.LineTexts.{Line}
 use Rattle.launch_run.specs.StepLines.{is_violated, run_lines}
 use Rattle.launch_run.specs.Struck.{struck_traces}
 use Rattle.launch_run.specs.TracesRun.{AreNoRun, RunOfTraces}

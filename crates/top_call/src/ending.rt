@@ -7,7 +7,7 @@ ghost use Rattle.top_call.specs.TopParts.{cut_short};
 
 use gas_endpoint::Endpoint;
 use gas_world::World;
-use job_text::JobWhy;
+use text_lines::LineWhy;
 
 /// How a command ends.
 #[derive(Clone, Copy)]
@@ -24,7 +24,7 @@ pub enum End {
         /// The first bad line, counted from 1; 0 where there are too many bytes.
         line: u32,
         /// The first reason that applies to it.
-        why: JobWhy,
+        why: LineWhy,
     },
     /// The source failed.
     ReadFault,
@@ -165,17 +165,17 @@ impl Ended {
 }
 
 /// The word of a reason why bytes are no job's text.
-pub fn why_word(why: JobWhy) -> &'static [u8]
+pub fn why_word(why: LineWhy) -> &'static [u8]
     ensures { result.now ≡ why_word why }
 {
     match why {
-        JobWhy::Size => b"size",
-        JobWhy::Text => b"text",
-        JobWhy::Form => b"form",
-        JobWhy::Value => b"value",
-        JobWhy::Entry => b"entry",
-        JobWhy::Count => b"count",
-        JobWhy::Early => b"early",
-        JobWhy::After => b"after",
+        LineWhy::Size => b"size",
+        LineWhy::Text => b"text",
+        LineWhy::Form => b"form",
+        LineWhy::Value => b"value",
+        LineWhy::Entry => b"entry",
+        LineWhy::Count => b"count",
+        LineWhy::Early => b"early",
+        LineWhy::After => b"after",
     }
 }

@@ -5,8 +5,9 @@ ghost use Rattle.top_call.specs.TopParts.{ReadsOrNot, ReadsTextOrNot};
 
 use crate::ending::End;
 use gas_outside::{ReadAll, Source, read_all};
-use job_text::{Job, JobFault, JobWhy, read_job};
+use job_text::{Job, JobFault, read_job};
 use std::alloc::Global;
+use text_lines::LineWhy;
 
 /// The most bytes of a job's text.
 const LIMIT: usize = 4_194_304;
@@ -33,7 +34,7 @@ pub fn text_from<S: Source>(alloc: Global, source: &mut S) -> Result<JobRead, En
         },
         ReadAll::TooLong => Err(End::BadJob {
             line: 0,
-            why: JobWhy::Size,
+            why: LineWhy::Size,
         }),
         ReadAll::Fault => Err(End::ReadFault),
         ReadAll::NoMemory => Err(End::NoMemory),

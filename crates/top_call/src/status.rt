@@ -2,7 +2,7 @@
 
 ghost use Rattle.std.specs.Prelude.{◌≡◌, ◌∷◌, [], codes, decimal};
 ghost use Rattle.gas_outside.specs.Buffered.{GathersAll, outbox};
-ghost use Rattle.node_script.specs.Lines.{line_text};
+ghost use Rattle.text_lines.specs.LineTexts.{line_text};
 ghost use Rattle.top_call.specs.Commands.{status_line, why_word};
 ghost use Rattle.top_call.specs.TopParts.{SaysEnd, SaysRun};
 
@@ -10,8 +10,7 @@ use crate::ending::{End, Ended, Given, why_word};
 use drill_run::RunEnd;
 use gas_outside::{BufferedSink, Sink, Wrote};
 use itoa::Buffer;
-use job_text::JobWhy;
-use node_script::write_line;
+use text_lines::{LineWhy, write_line};
 
 /// Writes a status line of a number and a name.
 fn write_named<K: Sink>(sink: &mut BufferedSink<K>, code: &[u8], name: &[u8]) -> Wrote
@@ -22,7 +21,7 @@ fn write_named<K: Sink>(sink: &mut BufferedSink<K>, code: &[u8], name: &[u8]) ->
 }
 
 /// Writes the status line of a bad job: the line, and the reason.
-fn write_bad_job<K: Sink>(sink: &mut BufferedSink<K>, line: u32, why: JobWhy) -> Wrote
+fn write_bad_job<K: Sink>(sink: &mut BufferedSink<K>, line: u32, why: LineWhy) -> Wrote
     ensures { GathersAll (outbox K.taken K.faults sink.old) (outbox K.taken K.faults sink.new)
         (line_text (codes "status" ∷ codes "3" ∷ codes "bad-job" ∷ decimal line
         ∷ why_word why ∷ [])) result }

@@ -6,8 +6,8 @@ use Rattle.raw_segment.specs.Image.{written_by}
 use Rattle.handler_rules.specs.Runs.{Frame, Start, Outcome, untouched}
 use Rattle.gas_atomic.specs.BatchRequests.{BatchRequest, batch_handler}
 use Rattle.gas_atomic.specs.Served.{after_batch, after_request, request_for, served}
-use Rattle.job_text.specs.declared.job.Action.{Action}
-use Rattle.job_text.specs.declared.job.Action.TheVariants as action
+use Rattle.step_text.specs.declared.steps.Action.{Action}
+use Rattle.step_text.specs.declared.steps.Action.TheVariants as action
 use Rattle.node_script.specs.Bodies.{act, acts, is_for_batches, operand_at, reply_content, replying_if, script_meaning}
 use Rattle.node_script.specs.Bodies.{is_for_collectives, other_meaning, segment_at}
 use Rattle.collective_area.specs.Served.{stamped}

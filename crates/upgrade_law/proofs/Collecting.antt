@@ -24,8 +24,8 @@ use Rattle.collective_laws.specs.Groups.{Group, GroupEvent, Start, Step, End, Ot
 use Rattle.collective_laws.specs.Groups.{asked_in, does_end, does_start, does_step, end_by, ended_group, group_does}
 use Rattle.collective_laws.specs.Groups.{result_pieces, started_group, step_from, step_goes, with_progress, write_event}
 use Rattle.collective_group.specs.CallsOf.{calls_behind, calls_from, calls_of, calls_of_end, calls_of_start, calls_of_step}
-use Rattle.job_text.specs.declared.job.CollectiveText.{CollectiveText}
-use Rattle.job_text.specs.declared.job.CollectiveText.TheVariants as text
+use Rattle.step_text.specs.declared.steps.CollectiveText.{CollectiveText}
+use Rattle.step_text.specs.declared.steps.CollectiveText.TheVariants as text
 use Rattle.node_script.specs.declared.collective_texts.CollectiveAnswer.TheVariants as answers
 use Rattle.world_run.specs.Schedules.{Nodes, collective_answer, collective_event}
 use Rattle.upgrade_law.specs.Respelled.{Versions, one_job, other_job, respell_world}

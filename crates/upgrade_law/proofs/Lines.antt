@@ -16,13 +16,13 @@ use Rattle.gas_world.proofs.Among.{AreAmong, both_among}
 use Rattle.job_text.specs.JobReading.{lines_of}
 use Rattle.job_text.specs.JobText.{IsJob}
 use Rattle.job_text.specs.declared.job.Job.{Job as JobState}
-use Rattle.job_text.specs.declared.job.ScheduledEvent.{ScheduledEvent}
-use Rattle.job_text.specs.declared.job.ScheduledEvent.TheVariants as scheduled
-use Rattle.job_text.specs.declared.job.TimedEvent.{TimedEvent}
+use Rattle.step_text.specs.declared.steps.ScheduledEvent.{ScheduledEvent}
+use Rattle.step_text.specs.declared.steps.ScheduledEvent.TheVariants as scheduled
+use Rattle.step_text.specs.declared.steps.TimedEvent.{TimedEvent}
 use Rattle.node_script.specs.AnswerWords.{Sight, sight_of, vis_words}
 use Rattle.node_script.specs.Bodies.{script_meaning}
 use Rattle.node_script.specs.LawfulBodies.{lawful-script}
-use Rattle.node_script.specs.Lines.{Line}
+use Rattle.text_lines.specs.LineTexts.{Line}
 use Rattle.node_script.specs.Registration.{handlers_of, registered}
 use Rattle.node_script.specs.ScheduledCalls.{meant_by}
 use Rattle.gas_strided.specs.Beginning.{calls_made}

@@ -16,8 +16,8 @@ use Rattle.collective_group.specs.GroupState.{GroupState}
 use Rattle.collective_group.specs.Standing.{Does, DoesOf, DoesStart, DoesStep, IsLeft}
 use Rattle.node_script.specs.declared.collective_texts.CollectiveAnswer.{CollectiveAnswer}
 use Rattle.node_script.specs.declared.collective_texts.CollectiveAnswer.TheVariants as answers
-use Rattle.job_text.specs.declared.job.CollectiveText.{CollectiveText}
-use Rattle.job_text.specs.declared.job.CollectiveText.TheVariants as text
+use Rattle.step_text.specs.declared.steps.CollectiveText.{CollectiveText}
+use Rattle.step_text.specs.declared.steps.CollectiveText.TheVariants as text
 use Rattle.world_run.specs.Schedules.{collective_answer, collective_event, nodes_of}
 use Rattle.world_run.specs.ScheduleRun.{CollectiveAsked, Collects}
 

@@ -17,8 +17,8 @@ use Rattle.gas_collectives.specs.declared.answers.StartAnswer.{StartAnswer}
 use Rattle.collective_laws.specs.Groups.{Group, StepGoes, Stops, GoesOn, asked_in, end_by, result_pieces, step_goes}
 use Rattle.collective_laws.specs.Groups.{with_progress, write_event}
 use Rattle.collective_group.specs.CallsOf.{calls_behind, calls_from, calls_of, calls_of_end, calls_of_start}
-use Rattle.job_text.specs.declared.job.CollectiveText.{CollectiveText}
-use Rattle.job_text.specs.declared.job.CollectiveText.TheVariants as text
+use Rattle.step_text.specs.declared.steps.CollectiveText.{CollectiveText}
+use Rattle.step_text.specs.declared.steps.CollectiveText.TheVariants as text
 use Rattle.world_run.specs.Schedules.{Nodes, collective_event}
 
 start_among : (job : WorldJob) (area : Area) (group : Group) (now node thread : ℕ) (shape : Shape) (from : ℕ)

@@ -8,7 +8,7 @@ use Rattle.gas_world.specs.Stands.{WorldStands}
 use Rattle.gas_world.proofs.Moving.{run_append, most_append}
 use Rattle.collective_group.specs.GroupState.{GroupState}
 use Rattle.collective_group.specs.Standing.{StandsFor}
-use Rattle.job_text.specs.declared.job.TimedEvent.{TimedEvent}
+use Rattle.step_text.specs.declared.steps.TimedEvent.{TimedEvent}
 use Rattle.world_run.specs.Schedules.{Nodes, line_events, nodes_after, schedule_events}
 use Rattle.world_run.specs.ScheduleRun.{StandsAfter}
 use Rattle.world_run.proofs.LinesRun.{line_runs}

@@ -11,7 +11,7 @@ use Rattle.collective_group.specs.Standing.{StandsFor}
 use Rattle.job_text.specs.JobReading.{lines_of}
 use Rattle.job_text.specs.declared.job.Job.{Job as JobState}
 use Rattle.node_script.specs.Bodies.{script_meaning}
-use Rattle.node_script.specs.Lines.{spell}
+use Rattle.text_lines.specs.LineTexts.{spell}
 use Rattle.node_script.specs.Registration.{handlers_of, registered}
 use Rattle.world_run.specs.LinesWritten.{OnDone, SaysLines, said_of}
 use Rattle.world_run.specs.RunText.{answer_lines, end_lines, run_lines, run_most, run_records}

@@ -4,9 +4,9 @@ use Rattle.plain_world.specs.World.{run}
 use Rattle.gas_world.specs.Settling.{WorldJob}
 use Rattle.gas_world.proofs.Moving.{run_append}
 use Rattle.collective_group.proofs.Calling.{runs_its_calls}
-use Rattle.job_text.specs.declared.job.ScheduledEvent.{ScheduledEvent}
-use Rattle.job_text.specs.declared.job.ScheduledEvent.TheVariants as scheduled
-use Rattle.job_text.specs.declared.job.TimedEvent.{TimedEvent}
+use Rattle.step_text.specs.declared.steps.ScheduledEvent.{ScheduledEvent}
+use Rattle.step_text.specs.declared.steps.ScheduledEvent.TheVariants as scheduled
+use Rattle.step_text.specs.declared.steps.TimedEvent.{TimedEvent}
 use Rattle.world_run.specs.Schedules.{Nodes, collective_event, line_events, line_group, nodes_after, nodes_behind}
 use Rattle.world_run.specs.Schedules.{schedule_events}
 

@@ -19,7 +19,7 @@ use Rattle.plain_world.specs.Headline.{Headline, after_first, Happens, IsRanAnsw
 use Rattle.endpoint_rules.specs.EndpointRules.{OtherCall, Records, RecordsEvent, at_the_opening, timed}
 use Rattle.gas_world.specs.WorldTold.{world_told}
 use Rattle.endpoint_rules.specs.declared.answer.Answer.{Answer}
-use Rattle.node_script.specs.Lines.{Line}
+use Rattle.text_lines.specs.LineTexts.{Line}
 use Rattle.job_text.specs.declared.job.Job.{Job as JobState}
 use Rattle.node_script.specs.AnswerWords.{Sight, sight_of, delivered_words}
 use Rattle.gas_world.specs.Settling.{WorldJob}
@@ -27,9 +27,9 @@ use Rattle.world_run.specs.Schedules.{Nodes, nodes_after, opening_nodes, world_j
 use Rattle.world_run.specs.Schedules.{schedule_events}
 use Rattle.world_run.proofs.LinesRun.{line_runs}
 use Rattle.job_text.specs.JobReading.{lines_of}
-use Rattle.job_text.specs.declared.job.ScheduledEvent.{ScheduledEvent}
-use Rattle.job_text.specs.declared.job.ScheduledEvent.TheVariants as scheduled
-use Rattle.job_text.specs.declared.job.TimedEvent.{TimedEvent}
+use Rattle.step_text.specs.declared.steps.ScheduledEvent.{ScheduledEvent}
+use Rattle.step_text.specs.declared.steps.ScheduledEvent.TheVariants as scheduled
+use Rattle.step_text.specs.declared.steps.TimedEvent.{TimedEvent}
 use Rattle.world_run.specs.RunText.{node_of_event, world_words, event_words, answer_lines, end_lines, run_events}
 use Rattle.world_run.specs.RunText.{run_records, run_most}
 use Rattle.world_run.specs.RunLaws.{records_at, IsOneEvent, LinesTell, TellsWords, RanToldOnce, ReturnedToldOnce}

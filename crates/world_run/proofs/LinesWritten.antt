@@ -6,7 +6,7 @@ use Rattle.gas_outside.specs.Buffered.{Outbox, Gathers, GathersAll}
 use Rattle.gas_outside.proofs.Outboxes.{gathers_none, gathers_more, gathers_first, gathers_then}
 use Rattle.gas_outside.specs.declared.writing.Wrote.{Wrote}
 use Rattle.gas_outside.specs.declared.writing.Wrote.TheVariants as wrote
-use Rattle.node_script.specs.Lines.{Line, spell, line_text}
+use Rattle.text_lines.specs.LineTexts.{Line, spell, line_text}
 use Rattle.world_run.specs.LinesWritten.{LinesUpTo, SaysLines, OnDone, said_of}
 use Rattle.world_run.specs.declared.said.Said.{Said}
 use Rattle.world_run.specs.declared.said.Said.TheVariants.{Done, Fault, NoMemory}

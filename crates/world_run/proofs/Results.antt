@@ -14,13 +14,13 @@ use Rattle.collective_laws.specs.Groups.{AreGroupEvents, Group, GroupEvent, OfEn
 use Rattle.collective_laws.specs.Groups.{opening_group}
 use Rattle.collective_laws.specs.CollectiveLaws.{CollectivesHold, EndsOk}
 use Rattle.job_text.specs.JobReading.{lines_of}
-use Rattle.job_text.specs.declared.job.CollectiveText.TheVariants as text
+use Rattle.step_text.specs.declared.steps.CollectiveText.TheVariants as text
 use Rattle.job_text.specs.declared.job.Job.{Job as JobState}
-use Rattle.job_text.specs.declared.job.ScheduledEvent.{ScheduledEvent}
-use Rattle.job_text.specs.declared.job.ScheduledEvent.TheVariants as scheduled
-use Rattle.job_text.specs.declared.job.TimedEvent.{TimedEvent}
+use Rattle.step_text.specs.declared.steps.ScheduledEvent.{ScheduledEvent}
+use Rattle.step_text.specs.declared.steps.ScheduledEvent.TheVariants as scheduled
+use Rattle.step_text.specs.declared.steps.TimedEvent.{TimedEvent}
 use Rattle.node_script.specs.CollectiveWords.{ended_words}
-use Rattle.node_script.specs.Lines.{Line}
+use Rattle.text_lines.specs.LineTexts.{Line}
 use Rattle.world_run.specs.RunLaws.{ResultsHold, TellsWords, run_steps, steps_at, steps_before}
 use Rattle.world_run.specs.RunText.{answer_lines, end_lines, line_words, run_most, run_records}
 use Rattle.world_run.specs.Schedules.{Nodes, line_events, line_group, nodes_after, nodes_of, opening_nodes, world_job}

@@ -15,9 +15,9 @@ use Rattle.world_run.specs.Schedules.{call_events}
 use Rattle.node_script.specs.ScheduledCalls.{meant_by}
 use Rattle.world_run.proofs.CallsAmong.{call_among}
 use Rattle.world_run.proofs.CollectivesAmong.{collective_among}
-use Rattle.job_text.specs.declared.job.ScheduledEvent.{ScheduledEvent}
-use Rattle.job_text.specs.declared.job.ScheduledEvent.TheVariants as scheduled
-use Rattle.job_text.specs.declared.job.TimedEvent.{TimedEvent}
+use Rattle.step_text.specs.declared.steps.ScheduledEvent.{ScheduledEvent}
+use Rattle.step_text.specs.declared.steps.ScheduledEvent.TheVariants as scheduled
+use Rattle.step_text.specs.declared.steps.TimedEvent.{TimedEvent}
 use Rattle.world_run.specs.RunText.{node_of_event}
 
 -- ---- one event

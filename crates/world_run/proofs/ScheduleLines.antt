@@ -16,9 +16,9 @@ use Rattle.world_run.specs.RunText.{event_words, words_at}
 use Rattle.world_run.specs.declared.schedule_line.Beginning.{Beginning}
 use Rattle.world_run.specs.declared.schedule_line.Line.{Line}
 use Rattle.world_run.specs.declared.schedule_line.Line.TheVariants as lines
-use Rattle.job_text.specs.declared.job.ScheduledEvent.{ScheduledEvent}
-use Rattle.job_text.specs.declared.job.ScheduledEvent.TheVariants as scheduled
-use Rattle.job_text.specs.declared.job.TimedEvent.{TimedEvent}
+use Rattle.step_text.specs.declared.steps.ScheduledEvent.{ScheduledEvent}
+use Rattle.step_text.specs.declared.steps.ScheduledEvent.TheVariants as scheduled
+use Rattle.step_text.specs.declared.steps.TimedEvent.{TimedEvent}
 
 -- a place that is there has a line
 pub timed_there : (es : List TimedEvent) (place : ℕ) → place < length es

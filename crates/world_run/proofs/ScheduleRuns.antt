@@ -14,7 +14,7 @@ use Rattle.gas_world.specs.declared.event.WorldAnswer.{WorldAnswer}
 use Rattle.gas_world.specs.declared.event.WorldAnswer.TheVariants as answers
 use Rattle.node_script.specs.AnswerWords.{sight_of, vis_words}
 use Rattle.node_script.specs.Bodies.{script_meaning}
-use Rattle.node_script.specs.Lines.{Line, spell, line_text}
+use Rattle.text_lines.specs.LineTexts.{Line, spell, line_text}
 use Rattle.node_script.specs.Registration.{JobHandlers}
 use Rattle.gas_world.specs.Settling.{WorldJob, Moves, settle_events}
 use Rattle.gas_strided.specs.Beginning.{BeginCall}
@@ -27,9 +27,9 @@ use Rattle.node_script.specs.declared.collective_texts.CollectiveAnswer.{Collect
 use Rattle.world_run.specs.Schedules.{Nodes, scheduled_event, line_events, line_group, schedule_events, begin_answer}
 use Rattle.world_run.specs.Schedules.{begin_asked, begin_events, collective_answer}
 use Rattle.world_run.specs.declared.schedule_line.Beginning.{Beginning}
-use Rattle.job_text.specs.declared.job.ScheduledEvent.{ScheduledEvent}
-use Rattle.job_text.specs.declared.job.ScheduledEvent.TheVariants as scheduled
-use Rattle.job_text.specs.declared.job.TimedEvent.{TimedEvent}
+use Rattle.step_text.specs.declared.steps.ScheduledEvent.{ScheduledEvent}
+use Rattle.step_text.specs.declared.steps.ScheduledEvent.TheVariants as scheduled
+use Rattle.step_text.specs.declared.steps.TimedEvent.{TimedEvent}
 use Rattle.world_run.specs.RunText.{node_of_event, world_words, event_words, words_at, line_words, answer_lines}
 use Rattle.world_run.specs.ScheduleRun.{StandsAfter, RunStage, Plan, begin_plan, event_plan, settle_plan}
 use Rattle.world_run.specs.ScheduleRun.{planned, RunsPlan, RunsLine, NodesStage, CollectiveAsked, Collects, is_lacking}

@@ -2,7 +2,7 @@
 use Rattle.std.specs.Prelude.{◌≡◌, List, Bool}
 use Rattle.gas_outside.specs.Buffered.{Outbox, Gathers, GathersFront}
 use Rattle.gas_world.specs.WorldState.{WorldState}
-use Rattle.node_script.specs.Lines.{Line, spell}
+use Rattle.text_lines.specs.LineTexts.{Line, spell}
 use Rattle.job_text.specs.declared.job.Job.{Job as JobState}
 use Rattle.world_run.specs.LinesWritten.{LinesUpTo}
 use Rattle.world_run.specs.RunText.{is_violated, run_lines}

@@ -15,15 +15,15 @@ use Rattle.atomic_laws.specs.AtomicLaws.{AtomicsHold}
 use Rattle.strided_laws.specs.StridedLaws.{StridedHolds}
 use Rattle.job_text.specs.declared.job.Job.{Job as JobState}
 use Rattle.node_script.specs.Bodies.{script_meaning}
-use Rattle.node_script.specs.Lines.{Line}
+use Rattle.text_lines.specs.LineTexts.{Line}
 use Rattle.node_script.specs.Registration.{handlers_of, registered}
 use Rattle.world_run.specs.Schedules.{Nodes, collective_event, line_events, nodes_after, opening_nodes, scheduled_event}
 use Rattle.world_run.specs.Schedules.{world_job}
 use Rattle.job_text.specs.JobReading.{lines_of}
-use Rattle.job_text.specs.declared.job.CollectiveText.TheVariants as text
-use Rattle.job_text.specs.declared.job.ScheduledEvent.{ScheduledEvent}
-use Rattle.job_text.specs.declared.job.ScheduledEvent.TheVariants as scheduled
-use Rattle.job_text.specs.declared.job.TimedEvent.{TimedEvent}
+use Rattle.step_text.specs.declared.steps.CollectiveText.TheVariants as text
+use Rattle.step_text.specs.declared.steps.ScheduledEvent.{ScheduledEvent}
+use Rattle.step_text.specs.declared.steps.ScheduledEvent.TheVariants as scheduled
+use Rattle.step_text.specs.declared.steps.TimedEvent.{TimedEvent}
 use Rattle.world_run.specs.RunText.{event_words, run_events, run_lines, run_most}
 
 -- ---- what the lines tell

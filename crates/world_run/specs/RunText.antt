@@ -17,7 +17,8 @@ use Rattle.endpoint_rules.specs.EndpointRules.{OtherCall, Records, RecordsEvent,
 use Rattle.gas_world.specs.WorldTold.{world_told}
 use Rattle.gas_world.specs.declared.event.WorldAnswer.{WorldAnswer}
 use Rattle.gas_world.specs.declared.event.WorldAnswer.TheVariants as answers
-use Rattle.node_script.specs.Lines.{Word, Line}
+use Rattle.text_lines.specs.Lines.{Word}
+use Rattle.text_lines.specs.LineTexts.{Line}
 use Rattle.job_text.specs.declared.job.Job.{Job as JobState}
 use Rattle.node_script.specs.AnswerWords.{Sight, sight_of, answer_words, lock_fault_word, rule_word, vis_words}
 use Rattle.gas_world.specs.Settling.{WorldJob}
@@ -25,9 +26,9 @@ use Rattle.world_run.specs.Schedules.{world_job, scheduled_event, schedule_event
 use Rattle.world_run.specs.Schedules.{Nodes, begin_asked, begin_answer, collective_answer, nodes_after, opening_nodes}
 use Rattle.node_script.specs.CollectiveWords.{collective_words}
 use Rattle.job_text.specs.JobReading.{lines_of}
-use Rattle.job_text.specs.declared.job.ScheduledEvent.{ScheduledEvent}
-use Rattle.job_text.specs.declared.job.ScheduledEvent.TheVariants as scheduled
-use Rattle.job_text.specs.declared.job.TimedEvent.{TimedEvent}
+use Rattle.step_text.specs.declared.steps.ScheduledEvent.{ScheduledEvent}
+use Rattle.step_text.specs.declared.steps.ScheduledEvent.TheVariants as scheduled
+use Rattle.step_text.specs.declared.steps.TimedEvent.{TimedEvent}
 
 -- ---- answers
 

@@ -7,9 +7,9 @@ use Rattle.endpoint_rules.specs.EndpointRules.{Records}
 use Rattle.gas_world.specs.Aims.{MayFall}
 use Rattle.gas_world.specs.Events.{event_of}
 use Rattle.world_run.specs.Schedules.{scheduled_event}
-use Rattle.job_text.specs.declared.job.TimedEvent.{TimedEvent}
+use Rattle.step_text.specs.declared.steps.TimedEvent.{TimedEvent}
 use Rattle.node_script.specs.ScriptInvariant.{MayBegin}
-use Rattle.job_text.specs.declared.job.ScheduledEvent.TheVariants as scheduled
+use Rattle.step_text.specs.declared.steps.ScheduledEvent.TheVariants as scheduled
 use Rattle.world_run.specs.declared.schedule_line.Line.{Line}
 use Rattle.world_run.specs.declared.schedule_line.Line.TheVariants as lines
 

@@ -16,7 +16,7 @@ use Rattle.gas_world.specs.declared.event.WorldAnswer.TheVariants as answers
 use Rattle.node_script.specs.AnswerWords.{sight_of, vis_words}
 use Rattle.node_script.specs.AnswersTold.{NamesWhatIs}
 use Rattle.node_script.specs.Bodies.{script_meaning}
-use Rattle.node_script.specs.Lines.{Line, line_text, spell}
+use Rattle.text_lines.specs.LineTexts.{Line, line_text, spell}
 use Rattle.job_text.specs.declared.job.Job.{Job as JobState}
 use Rattle.node_script.specs.Registration.{handlers_of, registered}
 use Rattle.gas_world.specs.Settling.{WorldJob, settle_events}
@@ -28,11 +28,11 @@ use Rattle.node_script.specs.declared.collective_texts.CollectiveAnswer.TheVaria
 use Rattle.gas_collectives.specs.declared.answers.StartAnswer.TheVariants as started
 use Rattle.gas_collectives.specs.declared.answers.StepAnswer.TheVariants as stepped
 use Rattle.gas_collectives.specs.declared.answers.EndAnswer.TheVariants as ended
-use Rattle.job_text.specs.declared.job.CollectiveText.{CollectiveText}
+use Rattle.step_text.specs.declared.steps.CollectiveText.{CollectiveText}
 use Rattle.world_run.specs.Schedules.{Nodes, begin_answer, begin_events, collective_answer, collective_event}
 use Rattle.world_run.specs.Schedules.{line_events, nodes_after, nodes_of, schedule_events}
 use Rattle.world_run.specs.declared.nodes.Nodes.{Nodes as KeptNodes}
-use Rattle.job_text.specs.declared.job.TimedEvent.{TimedEvent}
+use Rattle.step_text.specs.declared.steps.TimedEvent.{TimedEvent}
 use Rattle.world_run.specs.RunText.{world_words, event_words, line_words, answer_lines, any_violation, lines_of_node}
 use Rattle.world_run.specs.RunText.{end_lines, run_records, run_most}
 use Rattle.world_run.specs.LinesWritten.{SaysLines, OnDone}

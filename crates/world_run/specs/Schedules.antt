@@ -13,19 +13,19 @@ use Rattle.gas_strided.specs.declared.shapes.Vis.{Vis}
 use Rattle.node_caller.specs.Sites.{ThreadCall}
 use Rattle.job_text.specs.CollectAreas.{area_of}
 use Rattle.job_text.specs.declared.job.CollectArea.{CollectArea}
-use Rattle.job_text.specs.declared.job.CollectiveText.{CollectiveText}
-use Rattle.job_text.specs.declared.job.CollectiveText.TheVariants as text
+use Rattle.step_text.specs.declared.steps.CollectiveText.{CollectiveText}
+use Rattle.step_text.specs.declared.steps.CollectiveText.TheVariants as text
 use Rattle.job_text.specs.declared.job.Job.{Job as JobState}
 use Rattle.node_script.specs.declared.collective_texts.CollectiveAnswer.{CollectiveAnswer}
 use Rattle.node_script.specs.declared.collective_texts.CollectiveAnswer.TheVariants as answers
 use Rattle.node_script.specs.Registration.{handlers_of, registered}
 use Rattle.node_script.specs.Bodies.{script_meaning}
 use Rattle.node_script.specs.ScheduledCalls.{meant_by}
-use Rattle.job_text.specs.declared.job.ScheduledCall.{ScheduledCall}
-use Rattle.job_text.specs.declared.job.ScheduledEvent.{ScheduledEvent}
-use Rattle.job_text.specs.declared.job.ScheduledEvent.TheVariants as scheduled
-use Rattle.job_text.specs.declared.job.TimedEvent.{TimedEvent}
-use Rattle.job_text.specs.declared.vis.VisText.{VisText}
+use Rattle.call_text.specs.declared.scheduled.ScheduledCall.{ScheduledCall}
+use Rattle.step_text.specs.declared.steps.ScheduledEvent.{ScheduledEvent}
+use Rattle.step_text.specs.declared.steps.ScheduledEvent.TheVariants as scheduled
+use Rattle.step_text.specs.declared.steps.TimedEvent.{TimedEvent}
+use Rattle.vis_text.specs.declared.vis.VisText.{VisText}
 
 -- a job's text, as a world of nodes runs it: its settings, and what its nodes do
 abbrev pub world_job : JobState → WorldJob

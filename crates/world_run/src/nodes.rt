@@ -16,9 +16,9 @@ use collective_group::idle_nodes;
 use gas_collectives::{Collectives, EndAnswer, StartAnswer, StepAnswer};
 use gas_world::World;
 use handler_rules::Handlers;
-use job_text::CollectiveText;
 use node_script::{CollectiveAnswer, Script};
 use std::alloc::{AllocError, Global};
+use step_text::CollectiveText;
 use world_caller::AtNode;
 
 /// The nodes of a run.

@@ -2,7 +2,7 @@
 
 ghost use Rattle.std.specs.Prelude.{◌≡◌, ◌<◌, ◌∷◌, [], codes, decimal, map};
 ghost use Rattle.gas_outside.specs.Buffered.{GathersAll, outbox};
-ghost use Rattle.node_script.specs.Lines.{line_text};
+ghost use Rattle.text_lines.specs.LineTexts.{line_text};
 ghost use Rattle.world_run.specs.RunText.{node_line};
 ghost use Rattle.world_run.specs.ScheduleRun.{WritesText, answer_text, node_text, nodes_text};
 ghost use Rattle.world_run.specs.ScheduleRun.{TellsWhatIs, TellsViolation};
@@ -11,7 +11,8 @@ use crate::violations::write_violations;
 use gas_outside::{BufferedSink, Sink, Wrote};
 use gas_world::{World, WorldAnswer};
 use itoa::Buffer;
-use node_script::{write_answer, write_line};
+use node_script::write_answer;
+use text_lines::write_line;
 
 /// Writes the line of a number and a word.
 pub fn write_numbered<K: Sink>(sink: &mut BufferedSink<K>, number: u64, word: &[u8]) -> Wrote

@@ -11,7 +11,7 @@ ghost use Rattle.node_script.specs.Bodies.{script_meaning};
 ghost use Rattle.job_text.specs.JobText.{IsJob};
 ghost use Rattle.node_script.specs.Registration.{handlers_of, registered};
 ghost use Rattle.job_text.specs.JobReading.{lines_of};
-ghost use Rattle.job_text.specs.declared.job.TimedEvent.{TimedEvent};
+ghost use Rattle.step_text.specs.declared.steps.TimedEvent.{TimedEvent};
 ghost use Rattle.world_run.specs.RunText.{node_of_event, run_lines};
 ghost use Rattle.node_script.specs.ScriptInvariant.{MayBegin};
 ghost use Rattle.world_run.specs.Schedules.{begin_answer, begin_asked, begin_events, opening_nodes};
@@ -22,7 +22,7 @@ ghost use Rattle.world_run.specs.ScheduleRun.{RunsByScript, RunsLine, RunsLines,
 ghost use Rattle.world_run.specs.ScheduleRun.{is_lacking, kept, nodes_stage};
 ghost use Rattle.collective_group.specs.GroupState.{IsGroup};
 ghost use Rattle.collective_group.specs.Standing.{StandsFor};
-ghost use Rattle.job_text.specs.declared.job.ScheduledEvent.TheVariants.{Collective};
+ghost use Rattle.step_text.specs.declared.steps.ScheduledEvent.TheVariants.{Collective};
 ghost use Rattle.world_run.specs.LinesWritten.{SaysLines, OnDone};
 ghost use Rattle.world_run.specs.RunEnds.{RunEnds};
 

@@ -8,8 +8,9 @@ ghost use Rattle.world_run.specs.ScheduleLine.{HasItsArea, IsLine, IsLineOf, May
 ghost use Rattle.job_text.specs.JobReading.{lines_of};
 
 use gas_world::{World, WorldEvent};
-use job_text::{CollectiveText, ScheduledEvent, TimedEvent, VisText};
 use node_script::{Script, call_of};
+use step_text::{CollectiveText, ScheduledEvent, TimedEvent};
+use vis_text::VisText;
 
 /// A transfer of many pieces that a thread of a node is to begin.
 #[derive(Clone, Copy)]

@@ -2,13 +2,14 @@
 
 ghost use Rattle.std.specs.Prelude.{◌≡◌, ◌≤◌, ◌∷◌, [], codes, decimal, map, length};
 ghost use Rattle.gas_outside.specs.Buffered.{GathersAll, outbox};
-ghost use Rattle.node_script.specs.Lines.{line_text, spell};
+ghost use Rattle.text_lines.specs.LineTexts.{line_text, spell};
 ghost use Rattle.world_run.specs.RunText.{violation_line, fault_word};
 
 use gas_outside::{BufferedSink, Sink, Wrote};
 use handler_rules::{Context, Fault, Log, Violation};
 use itoa::Buffer;
-use node_script::{lock_fault_word, rule_word, write_line};
+use node_script::{lock_fault_word, rule_word};
+use text_lines::write_line;
 
 /// The most violations that a log keeps.
 const KEPT: usize = 64;

@@ -3,7 +3,7 @@ use Rattle.std.proofs.Common.{List, drop}
 use Rattle.gas_outside.specs.Buffered.{GathersUpTo, outbox}
 use Rattle.gasnet_trace.specs.declared.trace.Trace.{Trace}
 use Rattle.job_text.specs.declared.job.Job.{Job as JobState}
-use Rattle.node_script.specs.Lines.{spell}
+use Rattle.text_lines.specs.LineTexts.{spell}
 use Rattle.check_run.specs.Merging.{AreReports}
 use Rattle.check_run.specs.StepLines.{ends_from}
 use Rattle.check_run.specs.TracesRun.{AreNodesAfter}

@@ -2,7 +2,7 @@
 use Rattle.std.proofs.Common.{ℕ, ◌+◌, sym, subst, ap, ◌∙◌}
 use Rattle.std.proofs.lemmas.Result.{err_from_is_err_and}
 use Rattle.check_run.specs.CheckInputs.{IsBadInput, lines_in}
-use Rattle.job_text.specs.declared.fault.JobWhy.TheVariants as why
+use Rattle.text_lines.specs.declared.why.LineWhy.TheVariants as why
 use Rattle.check_run.proofs.Inputs.{bad_behind_all, begins_within, behind_refused, front_refused, is_input}
 use Rattle.check_run.proofs.input.input_of.Goals as goal
 

@@ -2,7 +2,7 @@
 use Rattle.std.proofs.Common.{ℕ, List, ◌∷◌, decimal, subst, ◌∙◌}
 use Rattle.gas_outside.specs.Buffered.{Gathers, GathersAll, GathersFront, outbox}
 use Rattle.node_script.specs.AnswersTold.{sight_at}
-use Rattle.node_script.specs.Lines.{line_text}
+use Rattle.text_lines.specs.LineTexts.{line_text}
 use Rattle.check_run.specs.StepLines.{script_words}
 use Rattle.check_run.proofs.StepText.{rank_cut, space_cut, step_said}
 use Rattle.check_run.proofs.steps.write_step.Goals as goal

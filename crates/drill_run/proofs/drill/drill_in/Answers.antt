@@ -1,7 +1,7 @@
 use Rattle.std.proofs.Common.{List, ◌∷◌, ◌++◌, subst, ◌∙◌}
 use Rattle.datagram_grammar.specs.Parameters.{Parameters}
 use Rattle.gas_outside.specs.Buffered.{GathersAll, outbox}
-use Rattle.node_script.specs.Lines.{Line, spell}
+use Rattle.text_lines.specs.LineTexts.{Line, spell}
 use Rattle.world_run.specs.RunText.{end_lines, run_most, run_records}
 use Rattle.world_run.proofs.LinesWritten.{no_lines_yet, on_done}
 use Rattle.drill_run.specs.Counting.{count_in}

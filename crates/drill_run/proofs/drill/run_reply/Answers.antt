@@ -2,7 +2,7 @@ use Rattle.std.proofs.Common.{◌<◌, sym, subst}
 use Rattle.datagram_grammar.specs.Parameters.{Parameters}
 use Rattle.drill_run.specs.Drilling.{job_by, drill_stage}
 use Rattle.drill_run.specs.Rounds.{delivered_number}
-use Rattle.job_text.specs.declared.job.ScheduledEvent.TheVariants as scheduled
+use Rattle.step_text.specs.declared.steps.ScheduledEvent.TheVariants as scheduled
 use Rattle.drill_run.proofs.Drilled.{delivery_counts}
 use Rattle.drill_run.proofs.OnOk.{on_ok}
 use Rattle.drill_run.proofs.drill.run_reply.Goals as goal

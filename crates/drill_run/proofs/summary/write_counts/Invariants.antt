@@ -1,5 +1,5 @@
 use Rattle.gas_outside.specs.Buffered.{GathersUpTo, outbox}
-use Rattle.node_script.specs.Lines.{spell}
+use Rattle.text_lines.specs.LineTexts.{spell}
 use Rattle.drill_run.specs.Counting.{count_in}
 use Rattle.drill_run.specs.Summary.{count_lines}
 use Rattle.drill_run.proofs.SummaryText.{lines_from}

@@ -1,5 +1,5 @@
 use Rattle.gas_outside.proofs.Outboxes.{past_done, past_fault}
-use Rattle.job_text.specs.Forms.{Strides, bundle_text}
+use Rattle.line_forms.specs.Forms.{Strides, bundle_text}
 use Rattle.job_print.proofs.Pieces.{next_text}
 use Rattle.job_print.proofs.forms.write_levels.Goals as goal
 

@@ -1,7 +1,7 @@
 use Rattle.std.proofs.Common.{refl, pos}
 use Rattle.gas_outside.proofs.Outboxes.{past_done, past_fault}
-use Rattle.job_text.specs.Words.{operand_word}
-use Rattle.job_text.specs.declared.job.Operand.TheVariants as operand
+use Rattle.line_forms.specs.Kinds.{operand_word}
+use Rattle.line_forms.specs.declared.values.Operand.TheVariants as operand
 use Rattle.job_print.proofs.Pieces.{next_spaced}
 use Rattle.job_print.proofs.forms.write_operands.Goals as goal
 

@@ -1,7 +1,7 @@
 use Rattle.std.proofs.Common.{◌∷◌, drop}
 use Rattle.std.specs.List.{flat_map}
 use Rattle.gas_outside.specs.Buffered.{GathersUpTo, outbox}
-use Rattle.job_text.specs.Words.{operand_word}
+use Rattle.line_forms.specs.Kinds.{operand_word}
 use Rattle.job_print.proofs.forms.write_operands.Given as goal
 
 -- the words so far went in

@@ -1,7 +1,7 @@
 use Rattle.std.proofs.Common.{drop}
 use Rattle.std.specs.List.{flat_map}
 use Rattle.gas_outside.specs.Buffered.{GathersUpTo, outbox}
-use Rattle.job_text.specs.Forms.{Operations, bundle_text}
+use Rattle.line_forms.specs.Forms.{Operations, bundle_text}
 use Rattle.job_print.proofs.forms.write_ops.Given as goal
 
 -- the operations so far went in

@@ -2,7 +2,7 @@ use Rattle.std.proofs.Common.{drop, map}
 use Rattle.gas_outside.specs.Buffered.{GathersUpTo, outbox}
 use Rattle.job_text.specs.JobText.{spell}
 use Rattle.datagram_grammar.specs.Parameters.{Parameters}
-use Rattle.job_text.specs.Events.{timed_text}
+use Rattle.step_text.specs.Events.{timed_text}
 use Rattle.job_print.proofs.schedules.write_events.Given as goal
 
 -- the lines so far went in

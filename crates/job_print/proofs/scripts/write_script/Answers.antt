@@ -1,6 +1,6 @@
 use Rattle.std.proofs.Common.{refl, map}
 use Rattle.gas_outside.proofs.Outboxes.{nothing_yet, past_done, past_fault, past_last}
-use Rattle.job_text.specs.Scripts.{step_text}
+use Rattle.step_text.specs.Scripts.{step_text}
 use Rattle.job_text.specs.JobText.{script_line}
 use Rattle.job_print.proofs.Pieces.{section_parts}
 use Rattle.job_print.proofs.scripts.write_script.Goals as goal

@@ -1,6 +1,6 @@
 use Rattle.std.proofs.Common.{refl}
 use Rattle.gas_outside.proofs.Outboxes.{past_done, past_fault}
-use Rattle.job_text.specs.Scripts.{step_text}
+use Rattle.step_text.specs.Scripts.{step_text}
 use Rattle.job_print.proofs.Pieces.{next_line}
 use Rattle.job_print.proofs.scripts.write_steps.Goals as goal
 

@@ -1,7 +1,7 @@
 use Rattle.std.proofs.Common.{drop, map}
 use Rattle.gas_outside.specs.Buffered.{GathersUpTo, outbox}
 use Rattle.job_text.specs.JobText.{spell}
-use Rattle.job_text.specs.Scripts.{step_text}
+use Rattle.step_text.specs.Scripts.{step_text}
 use Rattle.job_print.proofs.scripts.write_steps.Given as goal
 
 -- the lines so far went in

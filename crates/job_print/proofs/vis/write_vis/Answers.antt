@@ -1,8 +1,8 @@
 use Rattle.std.proofs.Common.{◌∙◌, ℕ, List, ap, subst, sym}
 use Rattle.gas_outside.specs.Buffered.{GathersAll, outbox}
-use Rattle.job_text.specs.Forms.{entry_text, none_text}
-use Rattle.job_text.specs.VisLines.{entry_by}
-use Rattle.job_text.specs.declared.vis.VisShape.{VisShape}
+use Rattle.line_forms.specs.Forms.{entry_text, none_text}
+use Rattle.vis_text.specs.VisLines.{entry_by}
+use Rattle.vis_text.specs.declared.vis.VisShape.{VisShape}
 use Rattle.job_print.proofs.Pieces.{indexed_parts, strided_parts}
 use Rattle.job_print.proofs.vis.write_vis.Goals as goal
 

@@ -3,8 +3,8 @@ use Rattle.std.proofs.lemmas.Bool.{le-leb, lt-leb}
 use Rattle.job_text.specs.Places.{AtHandlers, AtBody}
 use Rattle.job_text.specs.JobReading.{BadLine, Front, read, with_action, with_body, with_handler}
 use Rattle.job_text.specs.Reading.{FailsAt}
-use Rattle.job_text.specs.declared.fault.JobWhy.TheVariants.{Count}
-use Rattle.job_text.specs.declared.job.Action.{Action}
+use Rattle.text_lines.specs.declared.why.LineWhy.TheVariants.{Count}
+use Rattle.step_text.specs.declared.steps.Action.{Action}
 use Rattle.job_text.specs.declared.job.HandlerText.{HandlerText}
 use Rattle.job_text.proofs.LineRuns.{read_on, read_full, told_ok, line_fails}
 use Rattle.job_text.proofs.handler_lines.body_at.Goals as goal

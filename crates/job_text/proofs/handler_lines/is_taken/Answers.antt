@@ -1,7 +1,7 @@
 use Rattle.std.proofs.Common.{rules, tests, sym, ◌∙◌, ◌==◌}
 use Rattle.std.proofs.lemmas.Iterator.{YieldsList-from_slice}
 use Rattle.std.proofs.lemmas.Iterator.Search.{any_from_yields_List}
-use Rattle.job_text.proofs.Fronts.{list_any_map}
+use Rattle.text_lines.proofs.Fronts.{list_any_map}
 use Rattle.job_text.proofs.handler_lines.is_taken.Goals as goal
 
 pub returns : goal.returns

@@ -1,7 +1,7 @@
 use Rattle.std.proofs.Common.{◌∙◌, sym, ap, List}
 use Rattle.job_text.specs.JobReading.{handler_why}
 use Rattle.job_text.specs.declared.job.HandlerText.{HandlerText}
-use Rattle.job_text.specs.declared.scope.Scope.{Scope}
+use Rattle.line_forms.specs.declared.scope.Scope.{Scope}
 use Rattle.job_text.proofs.HandlerRuns.{told_by, room_for}
 use Rattle.job_text.proofs.PairLines.{handler_read, handler_full, handler_bad}
 use Rattle.job_text.proofs.handler_lines.next_header.Goals as goal

@@ -1,7 +1,7 @@
 use Rattle.std.proofs.Common.{◌∙◌, ◌-◌, sym, arith, length, length-append}
 use Rattle.std.proofs.lemmas.Result.{err_from_is_err_and}
-use Rattle.job_text.specs.Forms.{U8}
-use Rattle.job_text.proofs.Runs.{parts_more, parts_fail, parts_done, more_is}
+use Rattle.line_forms.specs.Forms.{U8}
+use Rattle.line_forms.proofs.Runs.{parts_more, parts_fail, parts_done, more_is}
 use Rattle.job_text.proofs.locks.locks_at.Goals as goal
 
 pub returns-in_err-lock : goal.returns-in_err-lock

@@ -1,6 +1,6 @@
 use Rattle.std.proofs.Common.{◌≡◌, ◌-◌, ◌≤◌, length}
-use Rattle.job_text.specs.Forms.{U8, parts_at}
-use Rattle.job_text.proofs.Runs.{with_front}
+use Rattle.line_forms.specs.Forms.{U8, parts_at}
+use Rattle.line_forms.proofs.Runs.{with_front}
 use Rattle.job_text.proofs.locks.locks_at.Given as goal
 
 abbrev pub invariant-loop-rest : goal.invariant-loop-rest

@@ -4,10 +4,10 @@ use Rattle.job_text.specs.Places.{AtSchedule, AtDone}
 use Rattle.job_text.specs.JobReading.{BadLine, Front, amounts_of, is_full, with_line, read}
 use Rattle.job_text.specs.PlanPieces.{scripts_pieces}
 use Rattle.job_text.specs.Reading.{FailsAt}
-use Rattle.job_text.specs.declared.fault.JobWhy.TheVariants.{Count}
+use Rattle.text_lines.specs.declared.why.LineWhy.TheVariants.{Count}
 use Rattle.job_text.specs.declared.job.Job.{Job}
-use Rattle.job_text.specs.declared.scope.Scope.{Scope}
-use Rattle.job_text.specs.declared.job.TimedEvent.{TimedEvent}
+use Rattle.line_forms.specs.declared.scope.Scope.{Scope}
+use Rattle.step_text.specs.declared.steps.TimedEvent.{TimedEvent}
 use Rattle.job_text.specs.declared.schedules.Amounts.{Amounts}
 use Rattle.job_text.proofs.HandlerRuns.{amounts_more, let_in, kept_out, few_full}
 use Rattle.job_text.proofs.LineRuns.{read_on, read_full, told_ok, line_fails}

@@ -1,12 +1,13 @@
 use Rattle.std.proofs.Common.{◌≡◌, ◌∙◌, ◌+◌, ◌∷◌, [], ◌++◌, sym, ap, subst, arith, length-append, List, Result}
 use Rattle.std.proofs.Common.{Bool, true}
 use Rattle.job_text.specs.Places.{AtScripts, section_fits}
-use Rattle.job_text.specs.JobReading.{BadLine, Front, begun_script, behind_scripts, behind_section, section_why}
+use Rattle.job_text.specs.JobReading.{BadLine, Front, begun_script, behind_scripts, behind_section}
+use Rattle.job_text.specs.JobReading.{section_why}
 use Rattle.job_text.specs.JobReading.{with_steps, read}
 use Rattle.job_text.specs.Reading.{FailsAt}
 use Rattle.job_text.specs.declared.job.NodeScript.{NodeScript}
 use Rattle.job_text.specs.declared.job.Job.{Job}
-use Rattle.job_text.specs.declared.scope.Scope.{Scope}
+use Rattle.line_forms.specs.declared.scope.Scope.{Scope}
 use Rattle.job_text.specs.declared.sections.Section.{Section}
 use Rattle.job_text.proofs.HandlerRuns.{other_section, script_there, script_new}
 use Rattle.job_text.proofs.JobLaws.{all_more}

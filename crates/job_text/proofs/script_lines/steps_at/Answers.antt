@@ -1,12 +1,13 @@
 use Rattle.std.proofs.Common.{◌∙◌, ◌≡◌, ◌+◌, refl, sym, ap, subst, arith, length, length-append, List, Result}
 use Rattle.std.proofs.Common.{true, false}
 use Rattle.job_text.specs.Places.{AtScripts, AtSteps}
-use Rattle.job_text.specs.JobReading.{BadLine, Front, is_full_script, read, with_script, with_step, with_steps}
+use Rattle.job_text.specs.JobReading.{BadLine, Front, is_full_script, read, with_script, with_step}
+use Rattle.job_text.specs.JobReading.{with_steps}
 use Rattle.job_text.specs.PlanPieces.{scripts_pieces}
 use Rattle.job_text.specs.StepPieces.{steps_pieces}
 use Rattle.job_text.specs.Reading.{FailsAt}
-use Rattle.job_text.specs.declared.fault.JobWhy.TheVariants.{Count}
-use Rattle.job_text.specs.declared.job.ScriptStep.{ScriptStep}
+use Rattle.text_lines.specs.declared.why.LineWhy.TheVariants.{Count}
+use Rattle.step_text.specs.declared.steps.ScriptStep.{ScriptStep}
 use Rattle.job_text.specs.declared.job.NodeScript.{NodeScript}
 use Rattle.job_text.proofs.HandlerRuns.{few_steps}
 use Rattle.job_text.proofs.PlanPieces.{steps_more}

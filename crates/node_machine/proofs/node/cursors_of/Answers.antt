@@ -1,7 +1,7 @@
 -- One thread more.
 use Rattle.std.proofs.Common.{List, None, ap, ◌∙◌}
 use Rattle.job_text.specs.declared.job.NodeScript.{NodeScript}
-use Rattle.job_text.specs.declared.job.ScriptStep.{ScriptStep}
+use Rattle.step_text.specs.declared.steps.ScriptStep.{ScriptStep}
 use Rattle.node_machine.specs.NodeState.{steps_of_thread}
 use Rattle.node_runs.specs.Actions.{Progress}
 use Rattle.node_machine.proofs.Opening.{first_push}

@@ -1,7 +1,7 @@
 -- A turn of a thread.
 use Rattle.std.proofs.Common.{◌<◌, refl, subst, sym, ◌++◌, option_copied, option_to_list}
 use Rattle.datagram_grammar.specs.Parameters.{Parameters}
-use Rattle.job_text.specs.declared.job.ScriptStep.{ScriptStep}
+use Rattle.step_text.specs.declared.steps.ScriptStep.{ScriptStep}
 use Rattle.node_runs.specs.Actions.{Progress}
 use Rattle.node_machine.specs.Cursors.{progress_of}
 use Rattle.node_machine.specs.Kept.{CanBeSaid}

@@ -5,7 +5,7 @@ use Rattle.handler_rules.specs.declared.desk.Desk.{Desk}
 use Rattle.handler_rules.specs.Desks.{At, Stage, arrival_at, frame_of, stage, start_of}
 use Rattle.handler_rules.specs.Runs.{Frame, IsPlaced, Outcome, Start, untouched}
 use Rattle.handler_rules.proofs.Laws.{leaving-untouched}
-use Rattle.job_text.specs.declared.job.Action.{Action}
+use Rattle.step_text.specs.declared.steps.Action.{Action}
 use Rattle.node_script.specs.Bodies.{act, acts}
 use Rattle.node_script.proofs.body.do_all.Goals as goal
 

@@ -1,7 +1,7 @@
 use Rattle.std.proofs.Common.{[], arith, decimal}
 use Rattle.std.proofs.lemmas.Fmt.{length-decimal-le}
 use Rattle.gas_outside.proofs.Outboxes.{gathers_first, gathers_more, gathers_then}
-use Rattle.node_script.proofs.LineTexts.{line_parts}
+use Rattle.text_lines.proofs.LineTexts.{line_parts}
 use Rattle.node_script.proofs.collective_texts.write_collective.Goals as goal
 
 pub returns-in-Fault : goal.returns-in-Fault

@@ -1,6 +1,6 @@
 -- The try of a step.
 use Rattle.std.proofs.Common.{ap, sym, ◌∙◌}
-use Rattle.job_text.specs.declared.job.ScriptStep.TheVariants as step
+use Rattle.step_text.specs.declared.steps.ScriptStep.TheVariants as step
 use Rattle.script_steps.proofs.BegunPieces.{may_begin}
 use Rattle.script_steps.proofs.Attempts.{call_attempted, found_attempted, kept_there, vis_attempted}
 use Rattle.script_steps.proofs.tries.attempt.Goals as goal

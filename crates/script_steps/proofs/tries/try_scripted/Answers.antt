@@ -1,6 +1,6 @@
 -- The try of a step that scripts alone have.
 use Rattle.std.proofs.Common.{sym, subst}
-use Rattle.job_text.specs.declared.job.WaitingStep.{WaitingStep}
+use Rattle.step_text.specs.declared.steps.WaitingStep.{WaitingStep}
 use Rattle.script_steps.specs.Forms.{waiting_in}
 use Rattle.script_steps.specs.Tries.{TriesFound}
 use Rattle.script_steps.proofs.Attempts.{kept_there, plain_found, plain_step}

@@ -1,7 +1,7 @@
 -- The try of a step that scripts alone have.
 use Rattle.std.proofs.Common.{sym, ap, ◌∙◌, subst}
-use Rattle.job_text.specs.declared.job.WaitingStep.{WaitingStep}
-use Rattle.job_text.specs.declared.job.WaitingStep.TheVariants as waiting
+use Rattle.step_text.specs.declared.steps.WaitingStep.{WaitingStep}
+use Rattle.step_text.specs.declared.steps.WaitingStep.TheVariants as waiting
 use Rattle.script_steps.specs.Forms.{waiting_form}
 use Rattle.script_steps.specs.Tries.{TriesForm, read_as}
 use Rattle.script_steps.proofs.Forming.{tries_alike}

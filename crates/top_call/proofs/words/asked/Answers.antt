@@ -1,6 +1,6 @@
 use Rattle.std.proofs.Common.{◌≡◌, List, [], ◌∷◌, length, map, get_or, refl, sym, ap, subst, ◌∙◌, arith, string_bytes}
 use Rattle.std.proofs.lemmas.List.{length-map}
-use Rattle.node_script.specs.Lines.{Word}
+use Rattle.text_lines.specs.Lines.{Word}
 use Rattle.top_call.specs.Commands.{IsAsked}
 use Rattle.top_call.proofs.AskedWords.{other_count}
 use Rattle.top_call.proofs.words.asked.Goals as goal

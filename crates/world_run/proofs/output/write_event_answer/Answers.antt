@@ -2,7 +2,7 @@ use Rattle.std.proofs.Common.{ℕ, subst, ◌∷◌, decimal}
 use Rattle.datagram_grammar.specs.Parameters.{Parameters}
 use Rattle.gas_outside.specs.Buffered.{GathersAll, outbox}
 use Rattle.node_script.specs.AnswerWords.{sight_of, answer_words}
-use Rattle.node_script.specs.Lines.{line_text}
+use Rattle.text_lines.specs.LineTexts.{line_text}
 use Rattle.world_run.proofs.output.write_event_answer.Goals as goal
 
 pub write_answer-requires : goal.write_answer-requires

@@ -4,7 +4,7 @@ use Rattle.gas_outside.specs.Buffered.{GathersAll, outbox}
 use Rattle.gas_outside.proofs.Outboxes.{nothing_yet, past_done, past_fault, past_last}
 use Rattle.handler_rules.specs.LogState.{Logged}
 use Rattle.node_record.specs.Held.{held}
-use Rattle.node_script.specs.Lines.{spell}
+use Rattle.text_lines.specs.LineTexts.{spell}
 use Rattle.world_run.specs.RunText.{violation_line}
 use Rattle.world_run.proofs.Newest.{few_kept}
 use Rattle.world_run.proofs.output.write_node.Goals as goal

@@ -2,7 +2,7 @@ use Rattle.std.proofs.Common.{◌≡◌, ℕ, suc, ◌+◌, ◌-◌, ◌<◌, �
 use Rattle.datagram_grammar.specs.Parameters.{Parameters}
 use Rattle.std.proofs.lemmas.List.Concat.{flat_map-append}
 use Rattle.endpoint_rules.specs.EndpointRules.{Records}
-use Rattle.node_script.specs.Lines.{spell, line_text}
+use Rattle.text_lines.specs.LineTexts.{spell, line_text}
 use Rattle.world_run.specs.RunText.{lines_of_node, node_lines}
 use Rattle.gas_outside.proofs.Outboxes.{nothing_yet, past_done, past_fault, all_gathered}
 use Rattle.world_run.proofs.output.write_nodes.Goals as goal

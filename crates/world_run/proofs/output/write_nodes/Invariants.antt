@@ -2,7 +2,7 @@ use Rattle.std.proofs.Common.{ℕ, ◌-◌}
 use Rattle.gas_outside.specs.Buffered.{GathersUpTo, outbox}
 use Rattle.endpoint_rules.specs.EndpointRules.{Records}
 use Rattle.gas_world.specs.Stands.{WorldStands}
-use Rattle.node_script.specs.Lines.{spell}
+use Rattle.text_lines.specs.LineTexts.{spell}
 use Rattle.world_run.specs.RunText.{node_lines}
 use Rattle.world_run.proofs.output.write_nodes.Given as goal
 

@@ -1,6 +1,6 @@
 use Rattle.std.proofs.Common.{◌≡◌, Option, Some, subst}
 use Rattle.endpoint_rules.specs.EndpointRules.{Records}
-use Rattle.job_text.specs.declared.job.TimedEvent.{TimedEvent}
+use Rattle.step_text.specs.declared.steps.TimedEvent.{TimedEvent}
 use Rattle.world_run.specs.declared.schedule_line.Line.{Line}
 use Rattle.world_run.specs.ScheduleLine.{IsLine, IsLineOf}
 use Rattle.world_run.proofs.schedule_line.line_at.Goals as goal

@@ -1,6 +1,6 @@
 use Rattle.std.proofs.Common.{map, sym, ap, ◌∙◌}
 use Rattle.gas_outside.proofs.Outboxes.{past_done, past_fault}
-use Rattle.node_script.specs.Lines.{spell}
+use Rattle.text_lines.specs.LineTexts.{spell}
 use Rattle.world_run.specs.RunText.{violation_line}
 use Rattle.world_run.proofs.Newest.{left_some}
 use Rattle.world_run.proofs.violations.write_violations.Goals as goal

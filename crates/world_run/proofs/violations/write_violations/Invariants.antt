@@ -1,6 +1,6 @@
 use Rattle.std.proofs.Common.{◌≤◌, length, map}
 use Rattle.gas_outside.specs.Buffered.{GathersUpTo, outbox}
-use Rattle.node_script.specs.Lines.{spell}
+use Rattle.text_lines.specs.LineTexts.{spell}
 use Rattle.world_run.specs.RunText.{violation_line}
 use Rattle.world_run.proofs.Newest.{left}
 use Rattle.world_run.proofs.violations.write_violations.Given as goal

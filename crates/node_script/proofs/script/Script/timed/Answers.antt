@@ -5,7 +5,7 @@ use Rattle.job_text.specs.declared.job.Job.{Job as JobState}
 use Rattle.node_script.specs.ScriptInvariant.{IsWithin, AreWithin, MayCollect, AllMayCollect}
 use Rattle.job_text.specs.JobReading.{lines_of}
 use Rattle.job_text.specs.declared.job.CollectArea.{CollectArea}
-use Rattle.job_text.specs.declared.job.TimedEvent.{TimedEvent}
+use Rattle.step_text.specs.declared.steps.TimedEvent.{TimedEvent}
 use Rattle.node_script.proofs.script.Script.timed.Goals as goal
 
 -- a line of lines whose calls are within is within

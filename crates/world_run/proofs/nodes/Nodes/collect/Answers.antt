@@ -1,7 +1,7 @@
 use Rattle.std.proofs.Common.{sym, subst}
 use Rattle.gas_world.specs.Events.{job_in}
 use Rattle.handler_rules.specs.Runs.{Meaning}
-use Rattle.job_text.specs.declared.job.CollectiveText.{CollectiveText}
+use Rattle.step_text.specs.declared.steps.CollectiveText.{CollectiveText}
 use Rattle.node_script.specs.declared.collective_texts.CollectiveAnswer.TheVariants as answers
 use Rattle.world_run.specs.ScheduleRun.{Collects, kept}
 use Rattle.world_run.proofs.Collecting.{asks, end_collects, start_collects, step_collects}

@@ -1,0 +1,5 @@
+pub mod PayloadLaws
+pub mod WordLaws
+pub mod FormLaws
+pub mod FirstBytes
+pub mod Runs

@@ -1,0 +1,5 @@
+pub mod Payloads
+pub mod Forms
+pub mod Kinds
+pub mod FormTests
+pub mod Versions

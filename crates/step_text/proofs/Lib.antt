@@ -1,0 +1,5 @@
+pub mod CollectiveLaws
+pub mod VisLaws
+pub mod EventLaws
+pub mod BodyLaws
+pub mod ScriptLaws

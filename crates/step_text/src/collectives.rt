@@ -1,0 +1,101 @@
+//! Reading calls of collectives.
+
+ghost use Rattle.std.specs.Prelude.{◌≡◌, false};
+ghost use Rattle.step_text.specs.CollectiveLines.{collective_at, collective_form, collective_rows};
+ghost use Rattle.step_text.specs.CollectiveLines.{start_row};
+ghost use Rattle.line_forms.specs.Forms.{named_at, none_at, row_at};
+ghost use Rattle.text_lines.specs.Found.{Finds};
+ghost use Rattle.line_forms.specs.FormTests.{named_form};
+ghost use Rattle.step_text.specs.Scripts.{coll_row};
+
+use crate::steps::{CollectiveText, WaitingStep};
+use collective_area::Shape;
+use line_forms::{Scope, collective_kind_at, number_at, short_at};
+use text_lines::{Other, is_name, name_of, words_left};
+
+/// The start that the words of a line say behind its name, and the bytes after them.
+fn start_at(bytes: &[u8]) -> Result<(CollectiveText, &[u8]), Other>
+    ensures { Finds (λ x. (x.0, x.1.now)) result (row_at none_at start_row bytes.now) }
+{
+    let (kind, rest) = collective_kind_at(bytes)?;
+    let (root, rest) = short_at(rest, 65_535)?;
+    let (from, rest) = number_at(rest, 0, u64::MAX)?;
+    let (len, rest) = number_at(rest, 0, u64::MAX)?;
+    let shape = Shape { kind, root, len };
+    Ok((CollectiveText::Start { shape, from }, rest))
+}
+
+/// The whole collective that the words of a line say behind its name, and the bytes after them.
+pub fn coll_at(bytes: &[u8]) -> Result<(WaitingStep, &[u8]), Other>
+    ensures { Finds (λ x. (x.0, x.1.now)) result (row_at none_at coll_row bytes.now) }
+{
+    let (kind, rest) = collective_kind_at(bytes)?;
+    let (root, rest) = short_at(rest, 65_535)?;
+    let (from, rest) = number_at(rest, 0, u64::MAX)?;
+    let (len, rest) = number_at(rest, 0, u64::MAX)?;
+    let (dest, rest) = number_at(rest, 0, u64::MAX)?;
+    let shape = Shape { kind, root, len };
+    Ok((WaitingStep::Collective { shape, from, dest }, rest))
+}
+
+/// The call that a line says, by its name and the bytes after it.
+#[tactic(auto, unfolding(crate::specs::CollectiveLines::collective_rows))]
+fn named_collective_at<'a>(name: &[u8], rest: &'a [u8]) -> Result<(CollectiveText, &'a [u8]), Other>
+    ensures { Finds (λ x. (x.0, x.1.now)) result
+        (named_at none_at collective_rows name.now rest.now) }
+{
+    if is_name(name, b"coll-start") {
+        return start_at(rest);
+    }
+    if is_name(name, b"coll-step") {
+        return Ok((CollectiveText::Step, rest));
+    }
+    if is_name(name, b"coll-try") {
+        let (dest, rest) = number_at(rest, 0, u64::MAX)?;
+        return Ok((CollectiveText::Try { dest }, rest));
+    }
+    Err(Other)
+}
+
+/// The call that a line says, and the bytes after it.
+#[tactic(auto, unfolding(crate::specs::CollectiveLines::collective_at))]
+pub fn collective_at<'a>(
+    scope: &Scope,
+    bytes: &'a [u8],
+) -> Result<(CollectiveText, &'a [u8]), Other>
+    ensures { Finds (λ x. (x.0, x.1.now)) result (collective_at scope.now bytes.now) }
+{
+    let (name, rest) = name_of(bytes);
+    let (call, rest) = named_collective_at(name, rest)?;
+    if !scope.collect {
+        return Err(Other);
+    }
+    Ok((call, rest))
+}
+
+/// Whether the words after a name are a form of such a line.
+#[tactic(auto, unfolding(crate::specs::CollectiveLines::collective_rows))]
+fn named_collective_form(name: &[u8], rest: &[u8]) -> bool
+    ensures { result ≡ named_form (λ b. false) collective_rows name.now rest.now }
+{
+    let count = words_left(rest);
+    if is_name(name, b"coll-start") {
+        return count == 4;
+    }
+    if is_name(name, b"coll-step") {
+        return count == 0;
+    }
+    if is_name(name, b"coll-try") {
+        return count == 1;
+    }
+    false
+}
+
+/// Whether bytes have the form of a line that is a call of collectives.
+#[tactic(auto, unfolding(crate::specs::CollectiveLines::collective_form))]
+pub fn collective_form(scope: &Scope, bytes: &[u8]) -> bool
+    ensures { result ≡ collective_form scope.now bytes.now }
+{
+    let (name, rest) = name_of(bytes);
+    named_collective_form(name, rest) && scope.collect
+}

@@ -1,0 +1,11 @@
+pub mod Fronts
+pub mod Decimals
+pub mod Takes
+pub mod Integers
+pub mod WordRuns
+pub mod BytePairs
+pub mod ByteLaws
+pub mod WholeNumbers
+pub mod Names
+pub mod Seams
+pub mod LineTexts
