@@ -10,13 +10,13 @@ even : {settings : Parameters} → AreInRange settings → settings.pairs ≡ []
     → credits_in_all settings ≡ settings.nodes * (settings.nodes - 1) * settings.credits
 even {settings} range none = even_sum settings none
 
-pub returns-then-sum-gt65536 : goal.returns-then-sum-gt65536
-returns-then-sum-gt65536 c = λ range.
+pub returns-then-sum-gt-MAX_CREDITS : goal.returns-then-sum-gt-MAX_CREDITS
+returns-then-sum-gt-MAX_CREDITS c = λ range.
     let total = even range refl in
     let product : c.from.result * c.from-2.result * c.from-3.result
     ≡ c.args.nodes * (c.args.nodes - 1) * c.args.credits =
     rw (c.from.ensures, c.from-2.ensures, c.from-3.ensures) refl in
-    omega (arith, total, product, c.if-sum-gt65536.true, range.credits_in_all)
+    omega (arith, total, product, c.if-sum-gt-MAX_CREDITS.true, range.credits_in_all)
 
 -- what was asked is within the limits
 asked : goal.After-no_places → Parameters

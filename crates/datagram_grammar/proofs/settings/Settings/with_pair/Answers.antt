@@ -61,12 +61,12 @@ overflow_sub-sum c =
     }) none in
     omega (arith, total, c.from.ensures, c.from-2.ensures)
 
-pub returns-then-sum-gt65536 : goal.returns-then-sum-gt65536
-returns-then-sum-gt65536 c = λ range.
+pub returns-then-sum-gt-MAX_CREDITS : goal.returns-then-sum-gt-MAX_CREDITS
+returns-then-sum-gt-MAX_CREDITS c = λ range.
     let pair = pair_of c.args.from c.args.to c.args.credits in
     let takes = takes_of c.self.inside c.args.self.now pair c.self.view_is range in
     let total = sum_added c.self.inside pair c.self.invariant takes.is takes.none in
-    omega (arith, total, takes.sum, c.from.ensures, c.from-2.ensures, c.if-sum-gt65536.true)
+    omega (arith, total, takes.sum, c.from.ensures, c.from-2.ensures, c.if-sum-gt-MAX_CREDITS.true)
 
 -- what was asked is taken, and the sum is that of the settings then
 record Taken (inside : Inside) (pair : PairCredits) (sum : ℕ) : Type 0 where
@@ -93,7 +93,7 @@ taken c =
         is = good;
         none = none;
         few = few_places c.self.inside c.self.invariant c.if-self-ge-PLACES.false;
-        sum = omega (arith, total, c.from.ensures, c.from-2.ensures, c.if-sum-gt65536.false);
+        sum = omega (arith, total, c.from.ensures, c.from-2.ensures, c.if-sum-gt-MAX_CREDITS.false);
       };
       total = omega (arith, total, c.from.ensures, c.from-2.ensures);
     }
