@@ -143,7 +143,8 @@ fn run_put(
     ensures table { world.new.table ≡ world.old.table }
     ensures few { (most : ℕ) → AreAtMost most counts.old → AreAtMost (most + 2) counts.new }
     ensures runs { OnOk result (CountsLines (job_by script.now world.old)
-        (deed_lines now Deed.Put round) (drill_stage world.old counts.old) (drill_stage world.new counts.new)) }
+        (deed_lines now Deed.Put round) (drill_stage world.old counts.old)
+        (drill_stage world.new counts.new)) }
 {
     let tried = WorldEvent::Call {
         node: round.from,
@@ -247,7 +248,8 @@ fn run_round(
     ensures table { world.new.table ≡ world.old.table }
     ensures few { (most : ℕ) → AreAtMost most counts.old → AreAtMost (most + 2) counts.new }
     ensures runs { OnOk result (CountsLines (job_by script.now world.old)
-        (round_lines now round) (drill_stage world.old counts.old) (drill_stage world.new counts.new)) }
+        (round_lines now round) (drill_stage world.old counts.old)
+        (drill_stage world.new counts.new)) }
 {
     match round.deed {
         Deed::Short => run_short(world, counts, script, now, round),

@@ -81,7 +81,8 @@ impl Barrier {
         ensures answer { ForItsBarrierRecord self.old (λ nodes me kept.
             result ≡ notify_answer kept id flags) }
         ensures stands { ForItsBarrierRecord self.old (λ nodes me kept.
-            BarrierStands nodes me self.new (notify_after kept id flags (notify_answer kept id flags))) }
+            BarrierStands nodes me self.new
+            (notify_after kept id flags (notify_answer kept id flags))) }
         ensures nodes { self.new.nodes ≡ self.old.nodes }
     {
         if flags > 3 {

@@ -75,7 +75,8 @@ fn run_event<K: Sink>(
     ensures table { world.new.table ≡ world.old.table }
     ensures runs { RunsByScript script.now
         (event_plan at.number (timed at.now (event_of event.now)))
-        (run_stage K.taken K.faults world.old sink.old) (run_stage K.taken K.faults world.new sink.new)
+        (run_stage K.taken K.faults world.old sink.old)
+        (run_stage K.taken K.faults world.new sink.new)
         result }
 {
     match world.step(script.handlers(), at.now, event) {
@@ -137,7 +138,8 @@ fn run_vis<K: Sink>(
     ensures runs { RunsByScript script.now
         (begin_plan at.number at.now begin.now.node
         (begin_asked begin.now.thread begin.now.vis.now))
-        (run_stage K.taken K.faults world.old sink.old) (run_stage K.taken K.faults world.new sink.new)
+        (run_stage K.taken K.faults world.old sink.old)
+        (run_stage K.taken K.faults world.new sink.new)
         result }
 {
     match begin_pieces(world, script.handlers(), at.now, begin) {
@@ -157,7 +159,8 @@ fn run_settle<K: Sink>(
     ensures settings { world.new.settings ≡ world.old.settings }
     ensures table { world.new.table ≡ world.old.table }
     ensures runs { RunsByScript script.now (settle_plan at.number at.now rounds)
-        (run_stage K.taken K.faults world.old sink.old) (run_stage K.taken K.faults world.new sink.new)
+        (run_stage K.taken K.faults world.old sink.old)
+        (run_stage K.taken K.faults world.new sink.new)
         result }
 {
     match world.settle(script.handlers(), at.now, rounds) {
