@@ -30,6 +30,7 @@ mod child_ends;
 mod drain;
 mod feed;
 mod hosts;
+mod kept_file;
 mod link_fault;
 mod link_socket;
 mod output;
