@@ -1,5 +1,5 @@
 -- How children ended, and the files that are kept of them.
-use Rattle.std.specs.Prelude.{ℕ, List, [], ◌∷◌, ◌++◌, Option, Some, None, codes, decimal, fold, ◌==◌, ℤ, if◌then◌else◌}
+use Rattle.std.specs.Prelude.{ℕ, List, ◌++◌, Option, Some, None, codes, decimal, fold, ◌==◌, ℤ, if◌then◌else◌}
 use Rattle.real_outside.specs.declared.child_ends.ChildEnd.{ChildEnd}
 
 -- how the last child of this rank ended, by all ends in order

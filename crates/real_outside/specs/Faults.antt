@@ -1,5 +1,5 @@
 -- Why a link failed, by the system's error.
-use Rattle.std.specs.Prelude.{ℤ, Option, Some, None}
+use Rattle.std.specs.Prelude.{ℤ, pos, Option, Some, None}
 use Rattle.std.specs.IoError.{error_kind, raw_os_error}
 use Rattle.std.specs.declared.io.Error.{Error}
 use Rattle.std.specs.declared.io.ErrorKind.{ErrorKind}
@@ -7,7 +7,6 @@ use Rattle.std.specs.declared.io.ErrorKind.TheVariants.{BrokenPipe}
 use Rattle.std.specs.declared.net.socket_addr.SocketAddr.{SocketAddr}
 use Rattle.real_outside.specs.declared.link_fault.LinkFault.{LinkFault}
 use Rattle.real_outside.specs.declared.link_fault.LinkFault.TheVariants as fault
-use Rattle.std.specs.Prelude.{pos}
 
 -- the socket couldn't be bound to its own address, if it has one, by the error of this number
 abbrev pub bind_fault : Option SocketAddr → Option ℤ → LinkFault
