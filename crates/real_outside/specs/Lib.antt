@@ -1,3 +1,6 @@
 pub mod Addresses
 pub mod Children
+pub mod Ends
+pub mod Faults
 pub mod Losses
+pub mod Waits

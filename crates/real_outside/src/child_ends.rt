@@ -1,5 +1,8 @@
 //! How the children of a spawner ended.
 
+ghost use Rattle.std.specs.Prelude.{◌≡◌};
+ghost use Rattle.real_outside.specs.Ends.{last_end};
+
 use std::alloc::Global;
 use std::cell::RefCell;
 use std::process::ExitStatus;
@@ -32,8 +35,7 @@ impl ChildEnds {
     /// How the last child of a rank ended, where that was kept.
     pub fn of(&self, rank: u16) -> Option<ChildEnd> {
         let ends = self.ends.try_borrow().ok()?;
-        let (_, end) = ends.iter().rev().find(|kept| kept.0 == rank)?;
-        Some(*end)
+        last_end(&ends, rank)
     }
 
     /// Keeps how the child of a rank ended. Where memory runs out it is left out.
@@ -42,4 +44,17 @@ impl ChildEnds {
             let _ = ends.push((rank, end));
         }
     }
+}
+
+/// How the last child of a rank ended, by all ends in order.
+fn last_end(ends: &[(u16, ChildEnd)], rank: u16) -> Option<ChildEnd>
+    ensures { result ≡ last_end rank ends.now }
+{
+    let mut last = None;
+    for end in ends {
+        if end.0 == rank {
+            last = Some(end.1);
+        }
+    }
+    last
 }

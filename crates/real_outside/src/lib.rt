@@ -18,8 +18,12 @@
 //! - Of a child: `child_command` [`program`, `words`] is the program with the words `node RANK PORT`; `feed` wrote all the
 //!   input, unless the reader was gone (`Feeds`); `drain` read all that the pipe tells (`DrainsAll`); what was drained is
 //!   appended, with the exit status that the system told (`HandsOn`).
+//! - What is decided or told has definitions: what a thread does before a turn (`rest_before`), which events say that
+//!   nobody reads (`TellUnread`), why a link failed (`bind_fault`, `call_fault`), which child's end is the last of its
+//!   rank (`last_end`), which start failed first (`first_unstarted`), and where a file is kept (`kept_path`).
 //!
-//! `ChildEnds` keeps how the children of a spawner ended; nothing is proved of it.
+//! `ChildEnds` keeps how the children of a spawner ended, and `LinkSocket` a link's socket and fault; no clause says
+//! what their cells have.
 //!
 //! What the link, the clock and the spawner do with the system is tested in `outside_tests`, and the waiter by the nodes
 //! of the program that `tools/rows` runs.
@@ -30,6 +34,7 @@ mod child_ends;
 mod drain;
 mod feed;
 mod hosts;
+mod kept_file;
 mod link_fault;
 mod link_socket;
 mod output;

@@ -1,5 +1,9 @@
 //! Why a link failed.
 
+ghost use Rattle.std.specs.Prelude.{◌≡◌};
+ghost use Rattle.std.specs.IoError.{error_kind, raw_os_error};
+ghost use Rattle.real_outside.specs.Faults.{bind_fault, call_fault};
+
 use std::io;
 use std::io::ErrorKind;
 use std::net::SocketAddr;
@@ -19,7 +23,9 @@ pub enum LinkFault {
 
 impl LinkFault {
     /// Why the socket couldn't be bound to its own address, if it has one.
-    pub(crate) fn of_bind(own: Option<SocketAddr>, error: &io::Error) -> LinkFault {
+    pub(crate) fn of_bind(own: Option<SocketAddr>, error: &io::Error) -> LinkFault
+        ensures { result ≡ bind_fault own (raw_os_error error.now) }
+    {
         match (own, error.raw_os_error()) {
             (Some(address), Some(code)) => LinkFault::Bind(address, code),
             (_, Some(code)) => LinkFault::Other(code),
@@ -28,7 +34,9 @@ impl LinkFault {
     }
 
     /// Why a datagram couldn't be sent or received.
-    pub(crate) fn of_call(error: &io::Error) -> LinkFault {
+    pub(crate) fn of_call(error: &io::Error) -> LinkFault
+        ensures { result ≡ call_fault (error_kind error.now) (raw_os_error error.now) }
+    {
         match error.raw_os_error() {
             Some(code) => LinkFault::Other(code),
             None if error.kind() == ErrorKind::BrokenPipe => LinkFault::Unread,

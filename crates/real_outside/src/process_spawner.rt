@@ -5,11 +5,13 @@ ghost use Rattle.std.specs.Process.{child_status};
 ghost use Rattle.gas_outside.specs.Faults.{Rose};
 ghost use Rattle.gas_outside.specs.Spawner.{AppendsOutput};
 ghost use Rattle.real_outside.specs.Children.{EndedWith, HandsOn};
+ghost use Rattle.real_outside.specs.Ends.{first_unstarted};
 
 use crate::child_command::child_command;
 use crate::child_ends::{ChildEnd, ChildEnds};
 use crate::drain::{Drained, drain};
 use crate::feed::feed;
+use crate::kept_file::kept_path;
 use gas_outside::{Finished, Spawner, Started};
 use std::alloc::Global;
 use std::io::ErrorKind;
@@ -112,6 +114,15 @@ impl<'a, R: Processes> ProcessSpawner<'a, R> {
             .position(|running| running.rank == rank)
     }
 
+    /// Takes the child of a rank out of those that run. None where there is none.
+    fn take_child(&mut self, rank: u16) -> Option<Running<R::Started>>
+        ensures of_rank { IfSome result (λ child. child.rank ≡ rank) }
+        ensures same_faults { self.new.faults ≡ self.old.faults }
+    {
+        let place = self.place(rank)?;
+        Some(self.children.swap_remove(place))
+    }
+
     /// Starts the program.
     fn spawn(&self, rank: u16, port: u16) -> io::Result<Child<R::Started>> {
         child_command(self.alloc, self.program.as_str(), rank, port)?.spawn(&self.rt)
@@ -157,6 +168,16 @@ impl<R: Processes<Started = SystemProcess> + Threads> ProcessSpawner<'_, R> {
         let output = thread::spawn(&self.rt, move || drain(alloc, from))?;
         feed(&mut into, input)?;
         Ok(output)
+    }
+}
+
+/// The first child that couldn't be started, with the system's number of the error, once the one of this rank couldn't.
+fn first_unstarted(before: Option<(u16, i32)>, rank: u16, code: Option<i32>) -> Option<(u16, i32)>
+    ensures { result ≡ first_unstarted before rank code }
+{
+    match (before, code) {
+        (None, Some(code)) => Some((rank, code)),
+        (before, _) => before,
     }
 }
 
@@ -230,9 +251,9 @@ impl<R: Processes<Started = SystemProcess> + Files + Threads> ProcessSpawner<'_,
     /// Keeps the files of a child.
     fn keep(&self, folder: &str, rank: u16, output: &[u8], status: ExitStatus) -> io::Result<()> {
         fs::create_dir_all(&self.rt, folder)?;
-        let path = format!(in self.alloc; "{folder}/{rank}.out")?;
+        let path = kept_path(self.alloc, folder, rank, "out")?;
         fs::write(&self.rt, path.as_str(), output)?;
-        let path = format!(in self.alloc; "{folder}/{rank}.end")?;
+        let path = kept_path(self.alloc, folder, rank, "end")?;
         let text = format!(in self.alloc; "{status}\n")?;
         fs::write(&self.rt, path.as_str(), text.as_bytes())
     }
@@ -250,10 +271,7 @@ impl<R: Processes<Started = SystemProcess> + Files + Threads> Spawner for Proces
     fn start(&mut self, rank: u16, port: u16, input: &[u8]) -> Started {
         if let Err(error) = self.try_start(rank, port, input) {
             self.ends.keep(rank, ChildEnd::Unstarted);
-            self.unstarted = match (self.unstarted, error.raw_os_error()) {
-                (None, Some(code)) => Some((rank, code)),
-                (before, _) => before,
-            };
+            self.unstarted = first_unstarted(self.unstarted, rank, error.raw_os_error());
             self.faults = self.faults.saturating_add(1);
             return Started::Failed;
         }
@@ -263,11 +281,8 @@ impl<R: Processes<Started = SystemProcess> + Files + Threads> Spawner for Proces
     /// Waits until the child's output was read to its end, and then for its exit status. Where that fails the child is
     /// ended, if the system does so.
     fn finish(&mut self, rank: u16, into: &mut Vec<u8>) -> Finished {
-        let end = match self.place(rank) {
-            Some(place) => {
-                let running = self.children.swap_remove(place);
-                self.end(running, into)
-            }
+        let end = match self.take_child(rank) {
+            Some(running) => self.end(running, into),
             None => Finished::Failed,
         };
         if end == Finished::Failed {

@@ -1,5 +1,9 @@
 //! A waiter that watches a link's socket, and whether standard output is still read.
 
+ghost use Rattle.std.specs.Prelude.{◌≡◌};
+ghost use Rattle.mio.specs.Events.{items};
+ghost use Rattle.real_outside.specs.Waits.{TellUnread, rest_before};
+
 use crate::link_socket::LinkSocket;
 use gas_outside::Waiter;
 use mio::unix::SourceFd;
@@ -24,6 +28,39 @@ const STDOUT: i32 = 1;
 
 /// Of so many turns that weren't quiet one looks at the events, without a pause.
 const LOOK: u64 = 1_024;
+
+/// What a thread does before a turn.
+#[derive(Clone, Copy)]
+enum Rest {
+    /// It begins at once.
+    Go,
+    /// It looks at the events, without a pause.
+    Look,
+    /// It pauses.
+    Pause,
+}
+
+/// What a thread does before a turn, after one that was quiet or not; `busy` counts those before it that weren't.
+fn rest_before(quiet: bool, busy: u64) -> Rest
+    ensures { result ≡ rest_before quiet busy }
+{
+    if quiet {
+        Rest::Pause
+    } else if busy % LOOK == LOOK - 1 {
+        Rest::Look
+    } else {
+        Rest::Go
+    }
+}
+
+/// Whether the events tell that nobody reads standard output any more.
+fn tells_unread(events: &Events) -> bool
+    ensures { TellUnread (items events.now) result }
+{
+    events
+        .iter()
+        .any(|event| event.token() == OUTPUT && event.is_write_closed())
+}
 
 /// A waiter that, after a quiet turn, pauses until a datagram waits at a link's socket, and about a millisecond at most.
 ///
@@ -73,10 +110,7 @@ impl<'a, R: Net + Clock> SocketWaiter<'a, R> {
         match &mut *watch {
             Some(Watch { poll, events }) => {
                 poll.poll(events, Some(Duration::from_millis(pause)))?;
-                if events
-                    .iter()
-                    .any(|event| event.token() == OUTPUT && event.is_write_closed())
-                {
+                if tells_unread(events) {
                     self.socket.orphan();
                 }
                 Ok(())
@@ -106,14 +140,21 @@ impl<'a, R: Net + Clock> SocketWaiter<'a, R> {
 impl<R: Net + Clock> Waiter for SocketWaiter<'_, R> {
     /// Pauses after a quiet turn.
     fn before_turn(&self, _thread: u16, quiet: bool) {
-        if !quiet {
-            if self.busy.fetch_add(1, Ordering::SeqCst) % LOOK == LOOK - 1 {
+        let busy = if quiet {
+            0
+        } else {
+            self.busy.fetch_add(1, Ordering::SeqCst)
+        };
+        match rest_before(quiet, busy) {
+            Rest::Go => {}
+            Rest::Look => {
                 let _ = self.wait(0);
             }
-            return;
-        }
-        if self.wait(PAUSE).is_err() {
-            thread::sleep(&self.rt, Duration::from_millis(PAUSE));
+            Rest::Pause => {
+                if self.wait(PAUSE).is_err() {
+                    thread::sleep(&self.rt, Duration::from_millis(PAUSE));
+                }
+            }
         }
     }
 }
