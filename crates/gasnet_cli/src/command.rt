@@ -2,13 +2,14 @@
 
 use crate::again::read_again;
 use crate::ports::{FreePorts, free_ports};
-use crate::telling::{tell, tell_filled};
-use crate::watched::{MOST_INPUT, Seen};
+use run_report::{
+    MOST_INPUT, Ran, Seen, StandardError, command_name, is_node, lacks_port, last_line,
+    needs_input, port_word, ports_line, tell_made,
+};
 use std::alloc::Global;
 use std::io::Eprint;
 use std::net::Net;
 use std::rt::{Clock, Files};
-use user_text::fill;
 
 /// A command, and what is kept of its run.
 #[derive(Drop)]
@@ -26,14 +27,6 @@ pub struct Command {
     pub ports: Option<FreePorts>,
 }
 
-/// Whether the words are those of a launch without a port.
-fn lacks_port(words: &[String]) -> bool {
-    match words {
-        [word] => word.as_str() == "launch",
-        _ => false,
-    }
-}
-
 impl Command {
     /// The command of these words, before its run. A launch without a port gets one that is free,
     /// which is told.
@@ -43,6 +36,7 @@ impl Command {
         words: Vec<String>,
         steps: bool,
     ) -> Command {
+        let (steps, lacks) = (steps && !is_node(&words), lacks_port(&words));
         let mut command = Command {
             words,
             input: Seen::new(alloc),
@@ -50,10 +44,7 @@ impl Command {
             steps,
             ports: None,
         };
-        if command.is_node() {
-            command.steps = false;
-        }
-        if lacks_port(&command.words) {
+        if lacks {
             command.take_ports(rt, alloc);
         }
         command
@@ -61,47 +52,28 @@ impl Command {
 
     /// Takes ports that are free, and tells the first.
     fn take_ports<R: Eprint + Net + Clock + AllocGlobal>(&mut self, rt: &R, alloc: Global) {
-        let Some(ports) = free_ports(rt) else {
-            tell(
-                rt,
-                "gasnet_cli: no 257 ports in a row are free; expected launch PORT\n",
-            );
-            return;
-        };
-        if let Ok(word) = fill(alloc, "%", &[], &[u64::from(ports.port)]) {
-            tell_filled(rt, "gasnet_cli: launch @\n", &[word.as_str()], &[]);
+        self.ports = free_ports(rt);
+        let port = self.ports.as_ref().map(|ports| ports.port);
+        tell_made(&mut StandardError::new(rt), &ports_line(alloc, port));
+        if let Some(Ok(word)) = port.map(|port| port_word(alloc, port)) {
             let _ = self.words.push(word);
         }
-        self.ports = Some(ports);
     }
 
-    /// The name of the command, empty where there are no words.
-    pub fn name(&self) -> &str {
-        match self.words.first() {
-            Some(name) => name.as_str(),
-            None => "",
+    /// What is kept of its run.
+    pub fn ran(&self) -> Ran<'_> {
+        Ran {
+            words: &self.words,
+            steps: self.steps,
+            input: &self.input,
+            output: &self.output,
         }
-    }
-
-    /// Whether it is that of one node.
-    pub fn is_node(&self) -> bool {
-        self.name() == "node"
-    }
-
-    /// Whether what was read is needed to tell of the run: each step, what nodes tell, or why words
-    /// or a job are refused.
-    fn needs_input(&self) -> bool {
-        let (name, status) = (self.name(), self.output.last_line());
-        self.steps
-            || name == "check"
-            || name == "launch"
-            || status.starts_with("status 2 ")
-            || status.starts_with("status 3 ")
     }
 
     /// Reads the front of the input again, where it wasn't kept and is needed to tell of the run.
     pub fn read_input_again<R: Files + AllocGlobal>(&mut self, rt: &R) {
-        if !self.input.keeps && self.needs_input() {
+        let (name, line) = (command_name(&self.words), last_line(&self.output.bytes));
+        if !self.input.keeps && needs_input(self.steps, name, line) {
             self.input.bytes = read_again(rt, MOST_INPUT);
         }
     }

@@ -12,8 +12,7 @@
 //! keeps ([`settings`]). Where it sets them wrongly no command runs: the exit status is 2.
 //!
 //! Standard error has what a person is told: why words, a job or the environment are refused, why a
-//! link or a launch failed, which nodes of it failed ([`ends`]) and what their threads wait for
-//! ([`findings`]), help, each step beside its answer, what a long command is at, and how many
+//! link or a launch failed, which nodes of it failed and what their threads wait for, help, each step beside its answer, what a long command is at, and how many
 //! datagrams a node dropped.
 //!
 //! What is proved of it stands on `run_streams` of `top_call`, which `run` calls with the words of
@@ -21,49 +20,54 @@
 //! port is made with the words of one that was free. `main` itself promises nothing.
 #![tactic(auto)]
 
+mod after;
 mod again;
 mod command;
-mod counted;
-mod ends;
-mod findings;
 mod notes;
 mod ports;
 mod progress;
+mod replays;
 mod run;
 mod settings;
-mod telling;
-mod unsent;
-mod watched;
 
+use crate::after::{Outcome, after};
 use crate::again::is_file;
 use crate::command::Command;
-use crate::counted::CountedSpawner;
-use crate::ends::tell_ends;
-use crate::findings::tell_findings;
 use crate::notes::StandardNotes;
 use crate::progress::shown_progress;
 use crate::run::{Behind, run};
-use crate::settings::{Refusal, Settings};
-use crate::telling::{Causes, tell_dropped, tell_end, tell_help};
+use crate::settings::settings;
 use real_outside::{ChildEnds, LinkSocket, ProcessSpawner, SocketWaiter, SystemClock, UdpLink};
-use sealed_link::{Dropped, SealedLink};
+use run_report::{
+    CountedSpawner, Refusal, SettingsTold, StandardError, fault_line, is_node, tell_made,
+};
+use sealed_link::{Dropped, Key, SealedLink};
 use std::alloc::AllocError;
 use std::env;
 use std::io::IsTerminal;
 use std::process::ExitCode;
 use top_call::words_of;
+use user_text::help_for;
 
 /// Ends the program before any command, for what the environment sets.
 fn refuse(rt: &HostRuntime, why: Refusal) -> ExitCode {
-    let _ = eprintln!(rt; "gasnet_cli: {}", why.text());
-    let (code, line) = match why {
-        Refusal::NoMemory => (8, "status 8 no-memory"),
-        _ => (2, "status 2 usage"),
-    };
+    tell_made(
+        &mut StandardError::new(rt),
+        &fault_line(rt.alloc(), why.text()),
+    );
+    let line = why.line();
     match println!(rt; "{line}") {
-        Ok(()) => ExitCode::from(code),
+        Ok(()) => ExitCode::from(why.code()),
         Err(_) => ExitCode::from(5),
     }
+}
+
+/// Tells the help that the words ask for. False where they ask for none.
+fn tell_help(rt: &HostRuntime, words: &[String]) -> bool {
+    let help = help_for(rt.alloc(), words);
+    let is_help = matches!(&help, Ok(text) if !text.is_empty());
+    tell_made(&mut StandardError::new(rt), &help);
+    is_help
 }
 
 /// The spawner of the program that `launch` starts. How its children end is kept there.
@@ -88,20 +92,20 @@ fn main(rt: HostRuntime) -> ExitCode {
         return refuse(&rt, Refusal::NoMemory);
     };
     let is_help = tell_help(&rt, &words);
-    let settings = match Settings::read(&rt) {
-        Ok(settings) => settings,
+    let (hosts, told) = match settings(&rt) {
+        Ok(told) => told,
         Err(why) => return refuse(&rt, why),
     };
-    let Settings {
-        hosts,
-        key,
+    let SettingsTold {
+        secret,
         agent,
         folder,
         steps,
-    } = settings;
+    } = told;
     let mut command = Command::new(&rt, rt.alloc(), words, steps);
     command.input.keeps = !is_file(&rt);
-    let Ok(progress) = shown_progress(&rt, !command.is_node() && rt.stderr().is_terminal()) else {
+    let is_shown = !is_node(&command.words) && rt.stderr().is_terminal();
+    let Ok(progress) = shown_progress(&rt, is_shown) else {
         return refuse(&rt, Refusal::NoMemory);
     };
     let socket = LinkSocket::new();
@@ -109,15 +113,15 @@ fn main(rt: HostRuntime) -> ExitCode {
     let link = UdpLink::new(rt, &socket, &hosts);
     let ends = ChildEnds::new(rt.alloc());
     let behind = Behind {
-        spawner: CountedSpawner::new(rt.alloc(), spawner(rt, agent, folder, &ends), &progress),
+        spawner: CountedSpawner::new(rt.alloc(), spawner(rt, agent, folder, &ends), &*progress),
         clock: SystemClock::new(rt),
         waiter: SocketWaiter::new(rt, rt.alloc(), &socket),
         progress: &progress,
     };
     let mut notes = StandardNotes::new(&rt);
-    let (status, spawner) = match key {
+    let (status, spawner) = match secret {
         None => run(&rt, &mut command, link, behind, &mut notes),
-        Some(key) => match SealedLink::new(rt.alloc(), link, key, &unsealed) {
+        Some(secret) => match SealedLink::new(rt.alloc(), link, Key::new(secret), &unsealed) {
             Ok(link) => run(&rt, &mut command, link, behind, &mut notes),
             Err(AllocError) => {
                 drop(behind);
@@ -126,15 +130,20 @@ fn main(rt: HostRuntime) -> ExitCode {
         },
     };
     progress.end(&rt);
-    tell_dropped(&rt, &socket, &unsealed);
     let (spawner, kept) = spawner.into_parts();
     command.read_input_again(&rt);
-    tell_findings(&rt, &command, &kept);
-    tell_ends(&rt, &ends);
-    let start = spawner.unstarted();
+    let outcome = Outcome {
+        is_help,
+        kept,
+        ends: &ends,
+        start: spawner.unstarted(),
+        socket: &socket,
+        unsealed: &unsealed,
+    };
     drop(spawner);
-    if !is_help {
-        tell_end(&rt, &command, Causes::new(socket.fault(), start));
-    }
+    tell_made(
+        &mut StandardError::new(&rt),
+        &after(rt.alloc(), &command, outcome),
+    );
     status
 }

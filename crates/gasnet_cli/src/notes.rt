@@ -1,5 +1,6 @@
-//! What standard error tells of a run.
+//! What standard error tells of a run while it goes on.
 
+use run_report::{StandardError, refused_line, tell_made};
 use std::io::Eprint;
 use top_call::Notes;
 
@@ -16,8 +17,9 @@ impl<'a, H: Eprint> StandardNotes<'a, H> {
     }
 }
 
-impl<H: Eprint> Notes for StandardNotes<'_, H> {
+impl<H: Eprint + AllocGlobal> Notes for StandardNotes<'_, H> {
     fn struck(&mut self, rank: u16, turns: usize) {
-        let _ = eprintln!(self.rt; "gasnet: node {rank} refused what {turns} of its turns got");
+        let line = refused_line(self.rt.alloc(), rank, turns);
+        tell_made(&mut StandardError::new(self.rt), &line);
     }
 }

@@ -1,6 +1,6 @@
 //! What a command is at.
 
-use crate::telling::{tell, tell_filled};
+use run_report::{Counted, Counts, StandardError, Tells, is_shown_at, progress_line, tell_made};
 use std::alloc::AllocError;
 use std::io::Eprint;
 use std::rt::Clock;
@@ -12,9 +12,6 @@ use std::time::Duration;
 
 /// The milliseconds between two looks.
 const LOOK: u64 = 100;
-
-/// The looks before anything is shown.
-const BEFORE: u64 = 20;
 
 /// The looks of a second.
 const SECOND: u64 = 10;
@@ -31,8 +28,30 @@ pub struct Progress {
     over: AtomicU64,
 }
 
+impl Counts for Progress {
+    fn count_read(&self, bytes: usize) {
+        self.read.fetch_add(bytes as u64, Ordering::SeqCst);
+    }
+
+    /// Lines are counted only where they are shown.
+    fn count_written(&self, bytes: &[u8]) {
+        if self.is_shown {
+            let lines = bytes.iter().filter(|byte| **byte == b'\n').count();
+            self.lines.fetch_add(lines as u64, Ordering::SeqCst);
+        }
+    }
+
+    fn count_started(&self) {
+        self.started.fetch_add(1, Ordering::SeqCst);
+    }
+
+    fn count_ended(&self) {
+        self.ended.fetch_add(1, Ordering::SeqCst);
+    }
+}
+
 impl Progress {
-    /// Nothing yet. Lines are counted only where it is shown.
+    /// Nothing yet.
     pub fn new(is_shown: bool) -> Progress {
         Progress {
             is_shown,
@@ -45,61 +64,30 @@ impl Progress {
         }
     }
 
-    /// So many bytes more were read.
-    pub fn count_read(&self, bytes: usize) {
-        if let Ok(bytes) = u64::try_from(bytes) {
-            self.read.fetch_add(bytes, Ordering::SeqCst);
+    /// What was counted.
+    fn counted(&self) -> Counted {
+        Counted {
+            read: self.read.load(Ordering::SeqCst),
+            lines: self.lines.load(Ordering::SeqCst),
+            started: self.started.load(Ordering::SeqCst),
+            ended: self.ended.load(Ordering::SeqCst),
         }
-    }
-
-    /// These bytes were written.
-    pub fn count_written(&self, bytes: &[u8]) {
-        if !self.is_shown {
-            return;
-        }
-        let lines = bytes.iter().filter(|byte| **byte == b'\n').count();
-        if let Ok(lines) = u64::try_from(lines) {
-            self.lines.fetch_add(lines, Ordering::SeqCst);
-        }
-    }
-
-    /// One more node was started.
-    pub fn count_started(&self) {
-        self.started.fetch_add(1, Ordering::SeqCst);
-    }
-
-    /// One more node has ended.
-    pub fn count_ended(&self) {
-        self.ended.fetch_add(1, Ordering::SeqCst);
-    }
-
-    /// Shows the line of so many seconds.
-    fn show_line<R: Eprint + AllocGlobal>(&self, rt: &R, seconds: u64) {
-        let read = self.read.load(Ordering::SeqCst);
-        let lines = self.lines.load(Ordering::SeqCst);
-        let started = self.started.load(Ordering::SeqCst);
-        let ended = self.ended.load(Ordering::SeqCst);
-        let told = if started == 0 {
-            "\rgasnet_cli: % s, read % bytes, wrote % lines\x1b[K"
-        } else {
-            "\rgasnet_cli: % s, read % bytes, wrote % lines, % nodes started, % finished\x1b[K"
-        };
-        tell_filled(rt, told, &[], &[seconds, read, lines, started, ended]);
     }
 
     /// Shows on a terminal what the command is at, each second from the second one on, until it is
     /// over.
     pub fn show<R: Eprint + Clock + AllocGlobal>(&self, rt: &R) {
+        let mut person = StandardError::new(rt);
         for look in 1..u64::MAX {
             thread::sleep(rt, Duration::from_millis(LOOK));
             if self.over.load(Ordering::SeqCst) != 0 {
                 return;
             }
-            if look < BEFORE || look % SECOND != 0 {
-                continue;
+            if is_shown_at(look) {
+                self.shown.store(1, Ordering::SeqCst);
+                let line = progress_line(rt.alloc(), look / SECOND, self.counted());
+                tell_made(&mut person, &line);
             }
-            self.shown.store(1, Ordering::SeqCst);
-            self.show_line(rt, look / SECOND);
         }
     }
 
@@ -108,7 +96,7 @@ impl Progress {
         self.over.store(1, Ordering::SeqCst);
         if self.shown.load(Ordering::SeqCst) != 0 {
             thread::sleep(rt, Duration::from_millis(LOOK));
-            tell(rt, "\r\x1b[K");
+            let _ = StandardError::new(rt).tell("\r\x1b[K");
         }
     }
 }

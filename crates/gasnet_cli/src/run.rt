@@ -2,8 +2,8 @@
 
 use crate::command::Command;
 use crate::progress::Progress;
-use crate::watched::{WatchedReader, WatchedWriter};
 use gas_outside::{Clock, Link, Spawner, Waiter};
+use run_report::{WatchedReader, WatchedWriter};
 use std::io;
 use std::io::{Input, Print};
 use std::process::ExitCode;

@@ -1,0 +1,16 @@
+pub mod Ends
+pub mod Status
+pub mod Command
+pub mod Findings
+pub mod Unsent
+pub mod Report
+pub mod Messages
+pub mod Causes
+pub mod Telling
+pub mod Ran
+pub mod Seen
+pub mod Counted
+pub mod Settings
+pub mod Environment
+pub mod Progress
+pub mod Ports

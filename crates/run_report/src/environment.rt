@@ -1,0 +1,119 @@
+//! What the environment sets for a run of the program.
+
+ghost use Rattle.std.specs.Prelude.{◌≡◌, Bool, IfOk, List, ℕ, Ok, Option, Result, String, codes, string_bytes};
+ghost use Rattle.std.specs.Global.{Global};
+ghost use Rattle.run_report.specs.Environment.{IsHosts, IsHostsFile, IsKey, IsSecret, IsSetOne};
+ghost use Rattle.run_report.specs.declared.settings.Refusal.{Refusal};
+
+use crate::settings::{Refusal, is_one, secret_of};
+
+/// The environment of the program: variables, and the files that they name.
+pub trait Environment {
+    /// What a variable was found to hold.
+    ghost sets: { Self → List ℕ → Result (Option (String Global)) Refusal → Type 0 };
+    /// What a file of hosts was found to have.
+    ghost lists: { Self → List ℕ → Result (String Global) Refusal → Type 0 };
+    /// What a file of a key was found to have.
+    ghost guards: { Self → List ℕ → Result (String Global) Refusal → Type 0 };
+
+    /// What a variable holds, if it is set.
+    fn value(&self, name: &str) -> Result<Option<String>, Refusal>
+        ensures { sets self.now name.now result };
+
+    /// The text of a file of hosts.
+    fn hosts_text(&self, path: &str) -> Result<String, Refusal>
+        ensures { lists self.now path.now result };
+
+    /// The text of the file of a key, which no other than its owner may use, without spaces at its
+    /// ends.
+    fn key_text(&self, path: &str) -> Result<String, Refusal>
+        ensures { guards self.now path.now result };
+}
+
+/// What the environment sets beside the hosts.
+#[derive(Drop)]
+pub struct SettingsTold {
+    /// The bytes of the key of the job, by `GASNET_KEY_FILE`.
+    pub secret: Option<[u8; 32]>,
+    /// The program that `launch` starts for each node in place of itself, by `GASNET_AGENT`.
+    pub agent: Option<String>,
+    /// The folder where `launch` keeps the files of its nodes, by `GASNET_KEEP`.
+    pub folder: Option<String>,
+    /// Whether each step is told beside its answer, by `GASNET_STEPS`.
+    pub steps: bool,
+}
+
+/// The text of the hosts by `GASNET_HOSTS_FILE`.
+fn hosts_by_file<E: Environment>(from: &E) -> Result<Option<String>, Refusal>
+    ensures { IfOk result (IsHostsFile (E.sets from.now) (E.lists from.now)) }
+{
+    match from.value("GASNET_HOSTS_FILE")? {
+        Some(path) => Ok(Some(from.hosts_text(path.as_str())?)),
+        None => Ok(None),
+    }
+}
+
+/// The text of the hosts of the nodes by `GASNET_HOSTS`, else by `GASNET_HOSTS_FILE`, if one is set.
+///
+/// # Errors
+///
+/// A `Refusal` where one of these can't be used.
+pub fn hosts_told<E: Environment>(from: &E) -> Result<Option<String>, Refusal>
+    ensures { IfOk result (IsHosts (E.sets from.now) (E.lists from.now)) }
+{
+    match from.value("GASNET_HOSTS")? {
+        Some(text) => Ok(Some(text)),
+        None => hosts_by_file(from),
+    }
+}
+
+/// The bytes of the key in a file.
+fn secret_in<E: Environment>(from: &E, path: &str) -> Result<[u8; 32], Refusal>
+    ensures { IfOk result (IsKey (E.guards from.now) path.now) }
+{
+    let text = from.key_text(path)?;
+    let secret = secret_of(text.as_str())?;
+    Ok(secret)
+}
+
+/// The bytes of the key in the file that `GASNET_KEY_FILE` names.
+fn secret_told<E: Environment>(from: &E) -> Result<Option<[u8; 32]>, Refusal>
+    ensures { IfOk result (IsSecret (E.sets from.now) (E.guards from.now)) }
+{
+    match from.value("GASNET_KEY_FILE")? {
+        Some(path) => Ok(Some(secret_in(from, path.as_str())?)),
+        None => Ok(None),
+    }
+}
+
+/// Whether `GASNET_STEPS` is 1.
+fn steps_told<E: Environment>(from: &E) -> Result<bool, Refusal>
+    ensures { IfOk result (IsSetOne (E.sets from.now)) }
+{
+    let value = from.value("GASNET_STEPS")?;
+    Ok(is_one(&value))
+}
+
+/// What the environment sets beside the hosts.
+///
+/// # Errors
+///
+/// A `Refusal` for the first variable that can't be used, in the order of the fields.
+pub fn settings_told<E: Environment>(from: &E) -> Result<SettingsTold, Refusal>
+    ensures secret { IfOk result (λ told. IsSecret (E.sets from.now) (E.guards from.now)
+        told.secret) }
+    ensures agent { IfOk result (λ told. E.sets from.now (codes "GASNET_AGENT") (Ok told.agent)) }
+    ensures folder { IfOk result (λ told. E.sets from.now (codes "GASNET_KEEP") (Ok told.folder)) }
+    ensures steps { IfOk result (λ told. IsSetOne (E.sets from.now) told.steps) }
+{
+    let secret = secret_told(from)?;
+    let agent = from.value("GASNET_AGENT")?;
+    let folder = from.value("GASNET_KEEP")?;
+    let steps = steps_told(from)?;
+    Ok(SettingsTold {
+        secret,
+        agent,
+        folder,
+        steps,
+    })
+}
