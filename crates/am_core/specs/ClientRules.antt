@@ -28,6 +28,7 @@ use Rattle.node_record.specs.Behaviour.{Behaviour, Asking, Ask, Category, Short,
 use Rattle.am_core.specs.Kept.{Local, segment_of}
 use Rattle.am_core.specs.Library.{is_library, library_refusal, run_answer}
 use Rattle.am_core.specs.HandlerRuns.{handlers_of, run_request, run_reply, listed_for}
+use Rattle.datagram_grammar.specs.declared.limits.TheConstants.{MAX_PAYLOAD}
 
 -- ---- requests
 
@@ -124,7 +125,7 @@ abbrev pub asking_faults : Parameters → (table : List (Option Entry)) → Aski
 asking_faults settings table asking =
     (not (is_for_requests (entry_at table asking.handler)), which.Handler)
     ∷ (nat_lt 16 (length asking.args), which.Count)
-    ∷ (has_payload asking.category && nat_lt 8192 (payload_len asking.payload), which.Payload)
+    ∷ (has_payload asking.category && nat_lt MAX_PAYLOAD (payload_len asking.payload), which.Payload)
     ∷ (has_payload asking.category && passes_source settings.segment asking.payload, which.Source)
     ∷ (has_place asking.category && nat_lt settings.segment (asking.offset + payload_len asking.payload), which.Offset)
     ∷ []
@@ -142,7 +143,7 @@ asking_fault settings table asking = first_bad (asking_faults settings table ask
 pub record IsFine (segment : ℕ) (asking : Asking) : Type 0 where
   pub handler : 128 ≤ asking.handler
   pub few : length asking.args ≤ 16
-  pub small : has_payload asking.category ≡ true → payload_len asking.payload ≤ 8192
+  pub small : has_payload asking.category ≡ true → payload_len asking.payload ≤ MAX_PAYLOAD
   pub source : has_payload asking.category ≡ true → passes_source segment asking.payload ≡ false
   pub inside : has_place asking.category ≡ true → asking.offset + payload_len asking.payload ≤ segment
 

@@ -20,6 +20,7 @@ use Rattle.node_record.specs.declared.answer.Delivered.{Delivered}
 use Rattle.node_record.specs.declared.answer.Delivered.TheVariants as delivered
 use Rattle.node_record.specs.declared.answer.Why.{Why}
 use Rattle.node_record.specs.declared.answer.Why.TheVariants as why
+use Rattle.datagram_grammar.specs.declared.limits.TheConstants.{MAX_PAYLOAD}
 pub use Rattle.am_core.specs.declared.library.Fetch.{Fetch}
 pub use Rattle.am_core.specs.declared.library.Fill.{Fill}
 
@@ -76,7 +77,7 @@ pub data Work : Type 0 where
 -- 1 to 8,192 bytes from the offset on, inside a segment of that length
 pub record IsChunk (segment offset len : ℕ) : Type 0 where
   pub some : 1 ≤ len
-  pub few : len ≤ 8192
+  pub few : len ≤ MAX_PAYLOAD
   pub inside : offset + len ≤ segment
 
 -- its ranges are inside the segments, and its note is one among the nodes
@@ -148,7 +149,7 @@ is_beyond most (negsuc number) = true
 abbrev pub is_no_fetch : (segment : ℕ) → List ℤ → Bool
 is_no_fetch segment args =
     not (length args == 5)
-    || (is_beyond 8192 (argument args 2)
+    || (is_beyond MAX_PAYLOAD (argument args 2)
     || (nat_lt segment ((fetch_said args).remote + (fetch_said args).len)
     || nat_lt segment ((fetch_said args).local + (fetch_said args).len)))
 
@@ -156,7 +157,7 @@ is_no_fetch segment args =
 abbrev pub is_no_fill : (segment : ℕ) → List ℤ → Bool
 is_no_fill segment args =
     not (length args == 4)
-    || (is_beyond 8192 (argument args 2)
+    || (is_beyond MAX_PAYLOAD (argument args 2)
     || (is_beyond 255 (argument args 3)
     || nat_lt segment ((fill_said args).remote + (fill_said args).len)))
 

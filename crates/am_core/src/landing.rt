@@ -10,6 +10,7 @@ ghost use Rattle.am_core.specs.HandlerRuns.{landing, place_of, shown_payload};
 ghost use Rattle.am_core.specs.ClientRules.{IsFine, passes_source, payload_in};
 ghost use Rattle.am_core.specs.AskedFor.{asking_of, content_asked, content_with, payload_from};
 ghost use Rattle.am_core.specs.Landed.{IsLanded, content_at};
+ghost use Rattle.datagram_grammar.specs.declared.limits.TheConstants.{MAX_DATAGRAM};
 
 use crate::asking::{Asking, Category, Payload};
 use datagram_grammar::{Kind, View};
@@ -60,10 +61,10 @@ pub fn payload_of<'a>(segment: &'a Segment, payload: &Payload<'a>) -> &'a [u8]
 /// the front of the buffer. Tells how many bytes stand there for the handler.
 pub fn lend_own(segment: &mut Segment, buffer: &mut [u8], asking: &Asking<'_>) -> usize
     requires fine { IsFine (length segment.old) (asking_of asking.now) }
-    requires room { length buffer.old ≡ 8296 }
+    requires room { length buffer.old ≡ MAX_DATAGRAM }
     ensures landed { IsLanded (content_asked segment.old asking.now) segment.old segment.new
         buffer.new result }
-    ensures room { length buffer.new ≡ 8296 }
+    ensures room { length buffer.new ≡ MAX_DATAGRAM }
 {
     match asking.category {
         Category::Short => 0,

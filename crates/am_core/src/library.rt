@@ -90,7 +90,7 @@ pub(crate) struct Fill {
 
 /// The arguments of a get.
 pub(crate) fn fetch_arguments(local: u64, remote: u64, len: u64) -> [i32; 5]
-    requires { len ≤ 8192 }
+    requires { len ≤ MAX_PAYLOAD }
     ensures { result ≡ fetch_arguments local remote len }
 {
     [
@@ -104,7 +104,7 @@ pub(crate) fn fetch_arguments(local: u64, remote: u64, len: u64) -> [i32; 5]
 
 /// The arguments of a memset.
 pub(crate) fn fill_arguments(remote: u64, len: u64, byte: u8) -> [i32; 4]
-    requires { len ≤ 8192 }
+    requires { len ≤ MAX_PAYLOAD }
     ensures { result ≡ fill_arguments remote len byte }
 {
     [
@@ -146,7 +146,7 @@ fn passes(segment: u64, offset: u64, len: u64) -> bool
 pub(crate) fn read_fetch(args: &[i32], segment: u64) -> Option<Fetch>
     ensures refused { is_none result ≡ is_no_fetch segment args.now }
     ensures found { IfSome result (λ fetch. fetch ≡ fetch_said args.now) }
-    ensures few { IfSome result (λ fetch. fetch.len ≤ 8192) }
+    ensures few { IfSome result (λ fetch. fetch.len ≤ MAX_PAYLOAD) }
 {
     if args.len() != 5 {
         return None;

@@ -176,7 +176,7 @@ impl Core {
         requires other { asking.now.to ≢ self.old.me }
         requires handler { 1 ≤ asking.now.handler }
         requires count { length asking.now.args.now ≤ 16 }
-        requires payload { length payload.now ≤ 8192 }
+        requires payload { length payload.now ≤ MAX_PAYLOAD }
         ensures { Claims self.old
             (record {
               now = now;
@@ -217,7 +217,7 @@ impl Core {
         requires other { asking.now.to ≢ self.old.me }
         requires handler { 1 ≤ asking.now.handler }
         requires count { length asking.now.args.now ≤ 16 }
-        requires payload { len ≤ 8192 }
+        requires payload { len ≤ MAX_PAYLOAD }
         requires source { offset + len ≤ length self.old.segment }
         ensures { Claims self.old
             (record {

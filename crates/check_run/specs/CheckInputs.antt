@@ -27,12 +27,13 @@ use Rattle.text_lines.specs.declared.why.LineWhy.TheVariants as why
 use Rattle.job_text.specs.declared.job.Job.{Job as JobState}
 use Rattle.check_run.specs.declared.input.InputFault.{InputFault}
 use Rattle.check_run.specs.declared.input.InputFault.TheVariants as faults
+use Rattle.gas_outside.specs.declared.spawner.TheConstants.{MAX_OUTPUT}
 
 -- ---- the text
 
 -- the most bytes of an input
 abbrev pub input_limit : ℕ
-input_limit = 67108864
+input_limit = MAX_OUTPUT
 
 -- the node of this rank of the job, as that whose output is wanted
 abbrev pub wanted_of : JobState → (rank : ℕ) → Wanted

@@ -5,6 +5,7 @@ ghost use Rattle.gasnet_trace.specs.OutputReading.{IsNear};
 ghost use Rattle.check_run.specs.CheckInputs.{IsInput, IsRefused, IsUnread, TakesInput};
 ghost use Rattle.check_run.specs.CheckInputs.{ReadsOutputs, OutputsOf, fault_behind};
 ghost use Rattle.check_run.specs.CheckInputs.{lines_in, wanted_of, why_of};
+ghost use Rattle.gas_outside.specs.declared.spawner.TheConstants.{MAX_OUTPUT};
 
 use gas_outside::{MAX_OUTPUT, ReadAll, Source, read_all};
 use gasnet_trace::{Output, TraceFault, TraceWhy, Wanted, read_output};
@@ -73,8 +74,8 @@ fn lines_in(bytes: &[u8]) -> usize
 
 /// The fault of an output behind these bytes.
 fn fault_behind(before: &[u8], fault: TraceFault) -> InputFault
-    requires few { length before.now ≤ 67108864 }
-    requires near { IsNear 67108864 fault }
+    requires few { length before.now ≤ MAX_OUTPUT }
+    requires near { IsNear MAX_OUTPUT fault }
     ensures { result ≡ fault_behind before.now fault }
 {
     match fault {
@@ -105,7 +106,7 @@ fn outputs_from(
     bytes: &[u8],
     from: usize,
 ) -> Result<(Vec<Output>, usize), InputFault>
-    requires few { length bytes.now ≤ 67108864 }
+    requires few { length bytes.now ≤ MAX_OUTPUT }
     requires from { from ≤ length bytes.now }
     ensures { ReadsOutputs (record { job = job.now; bytes = bytes.now; from = from }) result }
 {
@@ -127,7 +128,7 @@ fn outputs_from(
 
 /// The input that the bytes are.
 pub fn input_of(alloc: Global, bytes: &[u8]) -> Result<CheckInput, InputFault>
-    requires { length bytes.now ≤ 67108864 }
+    requires { length bytes.now ≤ MAX_OUTPUT }
     ensures { MatchResult result (λ input. IsInput bytes.now input.job input.outputs.items)
         (IsRefused bytes.now) }
 {

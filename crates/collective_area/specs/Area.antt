@@ -4,6 +4,7 @@ use Rattle.std.specs.List.{AllByRecursion}
 use Rattle.std.specs.Int.{w64, from_le_bytes}
 use Rattle.raw_segment.specs.Bytes.{part}
 use Rattle.raw_segment.specs.Image.{Write}
+use Rattle.datagram_grammar.specs.declared.limits.TheConstants.{MAX_PAYLOAD}
 
 -- how many nodes there are, where the area begins in each segment, and the room for data of each part
 pub record Area : Type 0 where
@@ -28,7 +29,7 @@ pub record IsArea (segment : ℕ) (area : Area) : Type 0 where
   pub base : area.base % 8 ≡ 0
   pub room : area.room % 8 ≡ 0
   pub some_room : 1 ≤ area.room
-  pub small : area.room ≤ 8192
+  pub small : area.room ≤ MAX_PAYLOAD
   pub inside : area_end area ≤ segment
 
 -- ---- what stands in a part

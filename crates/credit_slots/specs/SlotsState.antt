@@ -7,6 +7,7 @@ use Rattle.std.proofs.Math.ListN.{replicate}
 use Rattle.lists.specs.Update.{update}
 use Rattle.credit_slots.specs.declared.NoClaim.{NoClaim}
 use Rattle.credit_slots.specs.declared.NoClaim.TheVariants.{Exhausted, NotYet}
+use Rattle.slot_table.specs.declared.TheConstants.{BUFFER_BYTES}
 pub use Rattle.slot_table.specs.TableState.{counts_of, SlotState, Vacant, Opened, Sealed, is_vacant, is_taken, IsOpened}
 pub use Rattle.slot_table.specs.TableState.{number_of, opened_bytes, message_number, message_of, refill, with_written}
 pub use Rattle.slot_table.specs.TableState.{sealed, sent_again, Claim}
@@ -101,7 +102,7 @@ pub record CanClaim (peer : PeerState) (last slot : ℕ) : Type 0 where
 -- the node's numbers are given as far as this claim's, and its slot is opened with it, with some buffer
 pub record OpensAt (old : SlotsState) (to : ℕ) (claim : Claim) (new : SlotsState) : Type 0 where
   pub buffer : List ℕ
-  pub whole : length buffer ≡ 8296
+  pub whole : length buffer ≡ BUFFER_BYTES
   pub opened : new ≡ with_opened old to claim buffer
 
 -- the lowest vacant slot of the peer is opened with the peer's next number, with some buffer, and nothing else changes
@@ -109,7 +110,7 @@ pub record Claims (old : SlotsState) (to : ℕ) (claim : Claim) (new : SlotsStat
   pub lowest : IfSome (slice_get old.peers to)
       (λ peer. CanClaim peer old.last claim.slot × (claim.number ≡ peer.given + 1))
   pub buffer : List ℕ
-  pub whole : length buffer ≡ 8296
+  pub whole : length buffer ≡ BUFFER_BYTES
   pub opened : new ≡ with_opened old to claim buffer
 
 -- the numbers given to a node so far, if there is such a node

@@ -6,6 +6,7 @@ ghost use Rattle.std.proofs.Math.ListN.{replicate};
 ghost use Rattle.std.specs.Bool.{OnTrue, OnFalse};
 ghost use Rattle.credit_slots.specs.Ring.{IsBefore};
 ghost use Rattle.credit_slots.specs.Order.{due_view, listed_at, head_of, IsOrder, IsSpot};
+ghost use Rattle.slot_table.specs.declared.TheConstants.{MAX_SLOTS};
 
 use std::alloc::{AllocError, Global};
 use std::marker::Model;
@@ -120,7 +121,7 @@ impl Order {
 
     /// No place is listed, of `places`.
     pub(crate) fn new(alloc: Global, places: usize) -> Result<Order, AllocError>
-        requires { places ≤ 65536 }
+        requires { places ≤ MAX_SLOTS }
         ensures { IfOk result (λ o. o ≡ replicate (places + 1) None) }
     {
         let due = Due {

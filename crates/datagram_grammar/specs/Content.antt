@@ -11,6 +11,7 @@ use Rattle.datagram_grammar.specs.declared.kind.Kind.{Kind}
 use Rattle.datagram_grammar.specs.declared.kind.Kind.TheVariants.{ShortRequest, MediumRequest, LongRequest, ShortReply}
 use Rattle.datagram_grammar.specs.declared.kind.Kind.TheVariants.{MediumReply, LongReply, Ack}
 use Rattle.datagram_grammar.specs.declared.content.Address.{Address}
+use Rattle.datagram_grammar.specs.declared.limits.TheConstants.{MAX_PAYLOAD}
 
 -- ---- kinds
 
@@ -166,7 +167,7 @@ pub record IsWellFormed (message : Message) : Type 0 where
   pub count : length message.args ≤ 16
   pub ack_args : is_ack (code message.kind) ≡ true → length message.args ≡ 0
   pub long_offset : is_long (code message.kind) ≡ false → message.offset ≡ 0
-  pub payload_length : length message.payload ≤ 8192
+  pub payload_length : length message.payload ≤ MAX_PAYLOAD
   pub bare_payload : is_bare (code message.kind) ≡ true → length message.payload ≡ 0
 
 -- the ranges that the fields' types have, but for the arguments
@@ -199,7 +200,7 @@ pub record IsMessage (message : Message) : Type 0 where
   pub offset : message.offset < 2 ^ 64
   pub long_offset : is_long (code message.kind) ≡ false → message.offset ≡ 0
   pub payload : (i : ℕ) → slice_index message.payload i < 2 ^ 8
-  pub payload_length : length message.payload ≤ 8192
+  pub payload_length : length message.payload ≤ MAX_PAYLOAD
   pub bare_payload : is_bare (code message.kind) ≡ true → length message.payload ≡ 0
 
 -- ---- the spelling

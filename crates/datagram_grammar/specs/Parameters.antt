@@ -4,6 +4,7 @@ use Rattle.std.specs.Prelude.{length, Option, None, Some, unwrap_or}
 use Rattle.lists.specs.Sums.{sum_below}
 use Rattle.datagram_grammar.specs.declared.pairs.PairCredits.{PairCredits}
 use Rattle.datagram_grammar.specs.Content.{is_version}
+use Rattle.datagram_grammar.specs.declared.limits.TheConstants.{MAX_CREDITS}
 
 -- the version of the datagrams, the job's number, its nodes, the credits of each ordered pair of nodes that has none of
 -- its own, the pairs that have, in the order in which they were set, the threads of each node, the bytes of each
@@ -74,7 +75,7 @@ pub record AreInRange (asked : Parameters) : Type 0 where
   pub credits : asked.credits ≤ 32
   pub pairs : ArePairs asked.nodes asked.pairs
   pub few_pairs : length asked.pairs ≤ 64
-  pub credits_in_all : credits_in_all asked ≤ 65536
+  pub credits_in_all : credits_in_all asked ≤ MAX_CREDITS
   pub some_thread : 1 ≤ asked.threads
   pub threads : asked.threads ≤ 16
   pub pages : asked.segment % 4096 ≡ 0

@@ -6,6 +6,7 @@ ghost use Rattle.datagram_grammar.specs.Reading.{outgoing_message};
 ghost use Rattle.datagram_grammar.specs.Content.{Content, IsWellAddressed, addressed};
 ghost use Rattle.datagram_grammar.specs.Content.{short_request, medium_request, long_request};
 ghost use Rattle.datagram_grammar.specs.Content.{short_reply, medium_reply, long_reply, ack};
+ghost use Rattle.datagram_grammar.specs.declared.limits.TheConstants.{MAX_DATAGRAM, MAX_PAYLOAD};
 
 use crate::kind::Kind;
 use crate::outgoing::Outgoing;
@@ -71,7 +72,7 @@ pub fn medium_request<'a>(
     requires address { IsWellAddressed address }
     requires handler { 1 ≤ handler }
     requires count { length args.now ≤ 16 }
-    requires payload { length payload.now ≤ 8192 }
+    requires payload { length payload.now ≤ MAX_PAYLOAD }
     ensures value { let content = medium_request handler args.now payload.now in
         outgoing_message result ≡ addressed address content }
     ensures formed { IsWellFormed (outgoing_message result) }
@@ -94,7 +95,7 @@ pub fn long_request<'a>(
     requires address { IsWellAddressed address }
     requires handler { 1 ≤ handler }
     requires count { length args.now ≤ 16 }
-    requires payload { length payload.now ≤ 8192 }
+    requires payload { length payload.now ≤ MAX_PAYLOAD }
     ensures value { let content = long_request handler args.now offset payload.now in
         outgoing_message result ≡ addressed address content }
     ensures formed { IsWellFormed (outgoing_message result) }
@@ -128,7 +129,7 @@ pub fn medium_reply<'a>(
     requires address { IsWellAddressed address }
     requires handler { 1 ≤ handler }
     requires count { length args.now ≤ 16 }
-    requires payload { length payload.now ≤ 8192 }
+    requires payload { length payload.now ≤ MAX_PAYLOAD }
     ensures value { let content = medium_reply handler args.now payload.now in
         outgoing_message result ≡ addressed address content }
     ensures formed { IsWellFormed (outgoing_message result) }
@@ -151,7 +152,7 @@ pub fn long_reply<'a>(
     requires address { IsWellAddressed address }
     requires handler { 1 ≤ handler }
     requires count { length args.now ≤ 16 }
-    requires payload { length payload.now ≤ 8192 }
+    requires payload { length payload.now ≤ MAX_PAYLOAD }
     ensures value { let content = long_reply handler args.now offset payload.now in
         outgoing_message result ≡ addressed address content }
     ensures formed { IsWellFormed (outgoing_message result) }
@@ -178,13 +179,13 @@ pub fn ack<'a>(address: Address) -> Outgoing<'a>
 /// The parts must be well formed, as they are where they were made here. The rest of the buffer is unchanged.
 pub fn spell(parts: &Outgoing<'_>, buffer: &mut [u8]) -> usize
     requires formed { IsWellFormed (outgoing_message parts.now) }
-    requires room { length buffer.old ≡ 8296 }
+    requires room { length buffer.old ≡ MAX_DATAGRAM }
     ensures message { IsMessage (outgoing_message parts.now) }
     ensures len { result ≡ length (spelling (outgoing_message parts.now)) }
     ensures some { 1 ≤ result }
-    ensures fits { result ≤ 8296 }
+    ensures fits { result ≤ MAX_DATAGRAM }
     ensures written { buffer.new ≡ spelling (outgoing_message parts.now) ++ drop result buffer.old }
-    ensures room { length buffer.new ≡ 8296 }
+    ensures room { length buffer.new ≡ MAX_DATAGRAM }
 {
     write_whole(parts, buffer)
 }

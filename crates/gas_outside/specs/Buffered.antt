@@ -6,6 +6,7 @@ use Rattle.gas_outside.specs.declared.sink.Put.{Put}
 use Rattle.gas_outside.specs.declared.sink.Put.TheVariants as put
 use Rattle.gas_outside.specs.declared.writing.Wrote.{Wrote}
 use Rattle.gas_outside.specs.declared.writing.Wrote.TheVariants as wrote
+use Rattle.gas_outside.specs.declared.buffered.TheConstants.{CAPACITY}
 
 -- a sink that gathers: the sink behind it, the bytes that wait to go there, and how many more there is room for
 pub record Gathering (K : Type 0) : Type 0 where
@@ -71,5 +72,5 @@ HasRoom wrote.Fault count room = ⊤
 -- the part of the buffer that waits; an empty one stands at the buffer's beginning
 pub record IsInBuffer (start end : ℕ) : Type 0 where
   pub order : start ≤ end
-  pub room : end ≤ 8192
+  pub room : end ≤ CAPACITY
   pub empty : start ≡ end → end ≡ 0

@@ -12,6 +12,7 @@ use Rattle.gas_outside.specs.declared.spawner.Finished.{Finished}
 use Rattle.gas_outside.specs.declared.spawner.Finished.TheVariants as finished
 use Rattle.gas_outside.specs.declared.spawn_call.SpawnCall.{SpawnCall}
 use Rattle.gas_outside.specs.declared.spawn_call.SpawnCall.TheVariants as call
+use Rattle.gas_outside.specs.declared.spawner.TheConstants.{MAX_OUTPUT}
 
 -- a spawner in memory: the output and the exit status of each rank's child, what it tells, the numbers of the calls
 -- that are to fail, the calls so far, and the faults
@@ -87,7 +88,7 @@ StartsNext rank start old started.Failed new = new ≡ call_failed old
 abbrev pub can_end : ℕ → SpawnerState → Bool
 can_end rank state =
     not (is_listed state.fail state.calls) && is_pending rank state.told.calls
-    && nat_le (length (output_of state.children rank)) 67108864
+    && nat_le (length (output_of state.children rank)) MAX_OUTPUT
 
 -- the end of the child of a rank, by what stands in the vector before and after: the child's output is appended;
 -- `Failed` exactly where it can't end, and `NoMemory` for want of memory

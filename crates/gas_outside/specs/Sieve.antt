@@ -8,6 +8,7 @@ use Rattle.gas_outside.specs.declared.link.LinkAnswer.{LinkAnswer}
 use Rattle.gas_outside.specs.declared.link.LinkAnswer.TheVariants as answer
 use Rattle.gas_outside.specs.declared.sieve_rule.SieveRule.{SieveRule}
 use Rattle.gas_outside.specs.declared.sieve_rule.SieveRule.TheVariants as rule
+use Rattle.gas_outside.specs.declared.link.TheConstants.{MAX_DATAGRAM}
 
 -- a sieve: the link behind it, its three numbers, the number of the datagram that was handed to it last, and the
 -- datagram that it holds back, with its node
@@ -34,7 +35,7 @@ rule_for sieve number len =
     then rule.Lose
     else (if divides sieve.repeat number
     then rule.Repeat
-    else (if divides sieve.swap number && nat_le len 8296 then rule.HoldBack else rule.Pass))
+    else (if divides sieve.swap number && nat_le len MAX_DATAGRAM then rule.HoldBack else rule.Pass))
 
 -- what is to be done: the datagram itself is sent as often as it is `own`, then the `freed` one that was held back, and
 -- then this one is held back

@@ -7,6 +7,7 @@ use Rattle.gas_outside.specs.declared.spawner.Started.{Started}
 use Rattle.gas_outside.specs.declared.spawner.Started.TheVariants as started
 use Rattle.gas_outside.specs.declared.spawner.Finished.{Finished}
 use Rattle.gas_outside.specs.declared.spawner.Finished.TheVariants as finished
+use Rattle.gas_outside.specs.declared.spawner.TheConstants.{MAX_OUTPUT}
 
 -- a start or a finish that is told
 pub data ToldCall : Type 0 where
@@ -72,7 +73,7 @@ appended before after = drop (length before) after
 -- the output was appended, and is within the limit; else nothing was
 abbrev pub AppendsOutput : Finished → (before after : List ℕ) → Type 0
 AppendsOutput (finished.Ended status) before after =
-    (take (length before) after ≡ before) × (length (appended before after) ≤ 67108864)
+    (take (length before) after ≡ before) × (length (appended before after) ≤ MAX_OUTPUT)
 AppendsOutput finished.Failed before after = after ≡ before
 AppendsOutput finished.NoMemory before after = after ≡ before
 

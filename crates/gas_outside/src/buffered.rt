@@ -30,13 +30,14 @@ pub struct BufferedSink<K: Sink> {
 impl<K: Sink> Model for BufferedSink<K> {
     ghost use Rattle.std.specs.Prelude.{◌≤◌, ◌-◌, take, drop};
     ghost use Rattle.gas_outside.specs.Buffered.{Gathering, IsInBuffer};
+    ghost use Rattle.gas_outside.specs.declared.buffered.TheConstants.{CAPACITY};
 
     ghost Value = { Gathering K };
 
     ghost view = { λ s. record {
       inner = s.inner;
       pending = drop s.start (take s.end s.buffer);
-      room = 8192 - s.end;
+      room = CAPACITY - s.end;
     } };
 
     ghost invariant = { λ s. IsInBuffer s.start s.end };
@@ -63,7 +64,7 @@ impl<K: Sink> BufferedSink<K> {
     pub fn flush(&mut self) -> Wrote
         ensures flushes { Flushes (outbox K.taken K.faults self.old)
             (outbox K.taken K.faults self.new) result }
-        ensures room { HasRoom result 8192 self.new.room }
+        ensures room { HasRoom result CAPACITY self.new.room }
     {
         let (gathered, _) = self.buffer.split_at(self.end);
         let (_, pending) = gathered.split_at(self.start);
@@ -114,7 +115,7 @@ impl<K: Sink> BufferedSink<K> {
     /// what was held back was given on then.
     #[inline(always)]
     pub fn make_room(&mut self, count: usize) -> Wrote
-        requires { count ≤ 8192 }
+        requires { count ≤ CAPACITY }
         ensures gathers { GathersAll (outbox K.taken K.faults self.old)
             (outbox K.taken K.faults self.new) [] result }
         ensures room { HasRoom result count self.new.room }

@@ -40,6 +40,7 @@ pub struct Sieve<L: Link> {
 impl<L: Link> Model for Sieve<L> {
     ghost use Rattle.std.specs.Prelude.{◌≡◌, ◌≤◌, None, option_map, vec_capacity};
     ghost use Rattle.gas_outside.specs.Sieve.{Sieving};
+    ghost use Rattle.gas_outside.specs.declared.link.TheConstants.{MAX_DATAGRAM};
 
     ghost Value = { Sieving L };
 
@@ -52,7 +53,7 @@ impl<L: Link> Model for Sieve<L> {
       held = option_map (λ to. (to, s.buffer.items)) s.held;
     } };
 
-    ghost invariant = { λ s. (8296 ≤ vec_capacity s.buffer) × (s.swap ≡ 0 → s.held ≡ None) };
+    ghost invariant = { λ s. (MAX_DATAGRAM ≤ vec_capacity s.buffer) × (s.swap ≡ 0 → s.held ≡ None) };
 }
 
 impl<L: Link> Sieve<L> {
@@ -161,7 +162,7 @@ impl<L: Link> Sieve<L> {
 
     /// Holds a datagram back.
     fn hold(&mut self, to: u16, bytes: &[u8]) -> LinkAnswer
-        requires room { length bytes.now ≤ 8296 }
+        requires room { length bytes.now ≤ MAX_DATAGRAM }
         requires swaps { self.old.swap ≢ 0 }
         ensures answer { result ≡ LinkAnswer.Done }
         ensures held { self.new ≡ record self.old { held = Some (to, bytes.now) } }

@@ -12,6 +12,7 @@ use Rattle.gas_strided.specs.declared.shapes.PlanFault.{PlanFault}
 use Rattle.gas_strided.specs.declared.shapes.PlanFault.TheVariants as fault
 use Rattle.gas_strided.specs.Pairs.{Pair, strided_pairs, vectors, total, indexed_pairs}
 use Rattle.gas_strided.specs.Pieces.{pieces_of}
+use Rattle.gas_strided.specs.declared.levels.TheConstants.{MOST_VECTORS}
 
 -- the byte of a pair that is written: of a put the target's, of a get the local one
 abbrev pub written : Way → Pair → ℕ
@@ -39,7 +40,7 @@ abbrev pub strided_fault : Parameters → Strided → Option PlanFault
 strided_fault settings transfer =
     if nat_le settings.nodes transfer.to then Some fault.Node
     else (if nat_lt 4 (length transfer.levels.now) then Some fault.Shape
-    else (if nat_lt 65536 (vectors transfer.levels.now) then Some fault.Pieces
+    else (if nat_lt MOST_VECTORS (vectors transfer.levels.now) then Some fault.Pieces
     else cut_fault settings transfer.way (strided_pairs transfer)))
 
 abbrev pub indexed_fault : Parameters → Indexed → Option PlanFault

@@ -14,6 +14,7 @@ use Rattle.gas_strided.specs.declared.shapes.Level.{Level}
 use Rattle.gas_strided.specs.Pairs.{Pair}
 use Rattle.gas_strided.specs.Pieces.{piece, pieces_of}
 use Rattle.gas_strided.specs.Plans.{IsReason}
+use Rattle.gas_strided.specs.declared.levels.TheConstants.{MOST_VECTORS}
 
 abbrev pub piece_in : Run → Piece
 piece_in run = piece run.remote run.local run.len
@@ -40,7 +41,7 @@ is_none level = level.count == 0
 
 -- no index has more than 65,536 values
 abbrev pub AreFew : List Level → Type 0
-AreFew levels = AllByRecursion (λ (level : Level). level.count ≤ 65536) levels
+AreFew levels = AllByRecursion (λ (level : Level). level.count ≤ MOST_VECTORS) levels
 
 -- ---- pairs that are added
 

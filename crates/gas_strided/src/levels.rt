@@ -27,9 +27,9 @@ fn has_none(levels: &[Level]) -> bool
 /// How many vectors of indexes the levels have. `None` where they are more than 65,536.
 #[tactic(auto, using(crate::proofs::Counting::no_vectors, crate::proofs::Counting::some_vectors))]
 pub fn few_vectors(levels: &[Level]) -> Option<u64>
-    ensures vectors { MatchOption result (65536 < vectors_of levels.now)
+    ensures vectors { MatchOption result (MOST_VECTORS < vectors_of levels.now)
         (λ n. n ≡ vectors_of levels.now) }
-    ensures few { IfSome result (λ n. n ≤ 65536) }
+    ensures few { IfSome result (λ n. n ≤ MOST_VECTORS) }
 {
     if has_none(levels) {
         return Some(0);
@@ -79,7 +79,7 @@ pub fn strided_runs(
     first: Run,
 ) -> Result<Runs, PlanFault>
     requires vectors { vectors ≡ vectors_of levels.now }
-    requires few { vectors ≤ 65536 }
+    requires few { vectors ≤ MOST_VECTORS }
     requires near { IsNear (length levels.now) first }
     ensures { IsGathered (level_pairs levels.now first.remote first.local first.len) result }
 {

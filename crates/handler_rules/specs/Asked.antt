@@ -7,6 +7,7 @@ use Rattle.handler_rules.specs.declared.message.Which.{Which}
 use Rattle.handler_rules.specs.declared.reply.AskedReply.{AskedReply}
 use Rattle.handler_rules.specs.declared.reply.Load.{Load}
 use Rattle.handler_rules.specs.declared.reply.Load.TheVariants as load
+use Rattle.datagram_grammar.specs.declared.limits.TheConstants.{MAX_PAYLOAD}
 
 -- what a reply with this load says
 abbrev pub loaded_content : Load → (handler : ℕ) → List ℤ → Content
@@ -22,7 +23,7 @@ asked_content asked = loaded_content asked.load asked.handler asked.args.now
 pub record IsSmall (content : Content) : Type 0 where
   pub some_handler : 1 ≤ content.handler
   pub few : length content.args ≤ 16
-  pub small : length content.payload ≤ 8192
+  pub small : length content.payload ≤ MAX_PAYLOAD
 
 -- the answer where this part is wrong, if one is
 abbrev pub answer_of : Option Which → Replied

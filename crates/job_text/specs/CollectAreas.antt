@@ -3,6 +3,7 @@ use Rattle.std.specs.Prelude.{ℕ, ◌%◌, ◌≡◌, Bool, ◌&&◌, ◌==◌,
 use Rattle.collective_area.specs.Area.{Area, IsArea, area_end}
 use Rattle.datagram_grammar.specs.Parameters.{Parameters}
 use Rattle.job_text.specs.declared.job.CollectArea.{CollectArea}
+use Rattle.datagram_grammar.specs.declared.limits.TheConstants.{MAX_PAYLOAD}
 
 -- the area in a job of so many nodes
 abbrev pub area_of : (nodes : ℕ) → CollectArea → Area
@@ -11,7 +12,7 @@ area_of nodes at = record { nodes = nodes; base = at.base; room = at.room }
 -- whether segments of so many bytes have the area
 abbrev pub is_area : (segment : ℕ) → Area → Bool
 is_area segment area =
-    ((area.base % 8 == 0) && (area.room % 8 == 0)) && ((nat_le 1 area.room && nat_le area.room 8192)
+    ((area.base % 8 == 0) && (area.room % 8 == 0)) && ((nat_le 1 area.room && nat_le area.room MAX_PAYLOAD)
     && nat_le (area_end area) segment)
 
 -- a job of these settings may have it: the datagrams have the second version, and the segments have the area

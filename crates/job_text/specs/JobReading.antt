@@ -35,6 +35,7 @@ use Rattle.job_text.specs.declared.schedules.Amounts.{Amounts}
 use Rattle.job_text.specs.declared.sections.HandlerHeader.{HandlerHeader}
 use Rattle.job_text.specs.declared.sections.Section.{Section}
 use Rattle.job_text.specs.declared.sections.Section.TheVariants as section
+use Rattle.job_text.specs.declared.schedules.TheConstants.{LINES}
 
 -- ---- what was read so far
 
@@ -217,7 +218,7 @@ with_event so_far event = record {
 -- whether there is no room for the event behind so much
 abbrev pub is_full : (nodes : ℕ) → Amounts → ScheduledEvent → Bool
 is_full nodes so_far event =
-    nat_le 65536 so_far.lines
+    nat_le LINES so_far.lines
     || (are_too_many nodes (so_far.rounds + rounds_of event)
     || nat_lt most_pieces (so_far.pieces + event_pieces event))
 

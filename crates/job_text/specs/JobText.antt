@@ -26,6 +26,9 @@ use Rattle.job_text.specs.declared.job.NodeScript.{NodeScript}
 use Rattle.job_text.specs.declared.job.SieveRule.{SieveRule}
 use Rattle.step_text.specs.declared.steps.TimedEvent.{TimedEvent}
 use Rattle.job_text.specs.declared.sections.Section.TheVariants as section
+use Rattle.datagram_grammar.specs.declared.limits.TheConstants.{MAX_CREDITS}
+use Rattle.job_text.specs.declared.head.TheConstants.{MAX_SEGMENT}
+use Rattle.job_text.specs.declared.schedules.TheConstants.{LINES}
 
 -- ---- lines
 
@@ -151,7 +154,7 @@ AreThreads (script ∷ scripts) = (has_thread scripts script.node script.thread 
 
 -- a schedule: at most 65,536 lines, and at most 4,096 rounds in all, which times the nodes are at most 262,144
 pub record IsSchedule (scope : Scope) (events : List TimedEvent) : Type 0 where
-  pub count : length events ≤ 65536
+  pub count : length events ≤ LINES
   pub rounds : total_rounds events ≤ 4096
   pub rounds_of_nodes : total_rounds events * scope.settings.nodes ≤ 262144
   pub events_are : AllByRecursion (IsTimed scope) events
@@ -178,11 +181,11 @@ all_pieces job = scripts_pieces job.scripts + schedule_pieces (lines_of job.sche
 -- a job whose words are in range; behind the line of each pair the sum of all credits is
 pub record IsJob (job : Job) : Type 0 where
   pub settings : AreInRange job.settings
-  pub segment : job.settings.segment ≤ 67108864
+  pub segment : job.settings.segment ≤ MAX_SEGMENT
   pub segments : job.settings.nodes * job.settings.segment ≤ 268435456
   pub job_fits : job.settings.job < 2 ^ 64
   pub last_fits : job.settings.last < 2 ^ 64
-  pub sums : (count : ℕ) → credits_in_all (with_first_pairs count job.settings) ≤ 65536
+  pub sums : (count : ℕ) → credits_in_all (with_first_pairs count job.settings) ≤ MAX_CREDITS
   pub some_patience : 1 ≤ job.patience
   pub patience : job.patience ≤ 1000000
   pub sieve : IsSieve job.sieve

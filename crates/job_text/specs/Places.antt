@@ -26,6 +26,8 @@ use Rattle.step_text.specs.declared.steps.TimedEvent.{TimedEvent}
 use Rattle.job_text.specs.declared.sections.HandlerHeader.{HandlerHeader}
 use Rattle.job_text.specs.declared.sections.Section.{Section}
 use Rattle.job_text.specs.declared.sections.Section.TheVariants as section
+use Rattle.job_text.specs.declared.head.TheConstants.{MAX_SEGMENT}
+use Rattle.datagram_grammar.specs.declared.limits.TheConstants.{MAX_CREDITS}
 
 -- ---- places
 
@@ -114,7 +116,7 @@ greatest Job = 2 ^ 64 - 1
 greatest Nodes = 256
 greatest Credits = 32
 greatest Threads = 16
-greatest Segment = 67108864
+greatest Segment = MAX_SEGMENT
 greatest Last = 2 ^ 64 - 1
 greatest Resend = 1000000
 greatest Patience = 1000000
@@ -122,7 +124,7 @@ greatest Patience = 1000000
 -- and fits the settings before it
 abbrev pub setting_fits : Setting → Parameters → ℕ → Bool
 setting_fits Nodes settings number = nat_le number 64 || (settings.version == 2)
-setting_fits Credits settings number = nat_le (settings.nodes * (settings.nodes - 1) * number) 65536
+setting_fits Credits settings number = nat_le (settings.nodes * (settings.nodes - 1) * number) MAX_CREDITS
 setting_fits Segment settings number = (number % 4096 == 0) && nat_le (settings.nodes * number) 268435456
 setting_fits setting settings number = true
 
@@ -167,7 +169,7 @@ in_place settings pair = record settings { pairs = pair ∷ settings.pairs }
 abbrev pub pair_fits : Parameters → PairCredits → Bool
 pair_fits settings pair =
     nat_lt pair.from settings.nodes && (nat_lt pair.to settings.nodes && (not (pair.from == pair.to)
-    && nat_le (credits_in_all (in_place settings pair)) 65536))
+    && nat_le (credits_in_all (in_place settings pair)) MAX_CREDITS))
 
 -- what reads a pair
 unfoldable pub pair_at : Parameters → List ℕ → Option (PairCredits × List ℕ)

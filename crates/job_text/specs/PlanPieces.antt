@@ -1,6 +1,7 @@
 -- How many pieces the plans of a job have.
 use Rattle.std.specs.Prelude.{ℕ, ◌+◌, List, [], ◌∷◌}
 use Rattle.job_text.specs.StepPieces.{vis_pieces, steps_pieces}
+use Rattle.job_text.specs.declared.plan_pieces.TheConstants.{PIECES}
 use Rattle.job_text.specs.declared.job.NodeScript.{NodeScript}
 use Rattle.step_text.specs.declared.steps.ScheduledEvent.{ScheduledEvent}
 use Rattle.step_text.specs.declared.steps.ScheduledEvent.TheVariants as event
@@ -8,7 +9,7 @@ use Rattle.step_text.specs.declared.steps.TimedEvent.{TimedEvent}
 
 -- the most pieces of all plans of a job
 abbrev pub most_pieces : ℕ
-most_pieces = 65536
+most_pieces = PIECES
 
 -- those of an event, and of all lines of a schedule
 abbrev pub event_pieces : ScheduledEvent → ℕ

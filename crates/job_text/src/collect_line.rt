@@ -14,8 +14,12 @@ use crate::atomics_line::atomics_from;
 use crate::fault::JobFault;
 use crate::head_scope::scope_of;
 use crate::job::{CollectArea, Head};
+use datagram_grammar::MAX_PAYLOAD;
 use line_forms::{Scope, is_second, number_at};
 use text_lines::{LineWhy, Other, begins, ended, is_name, name_of, reason_of, words_left};
+
+/// The most bytes of a part: those of a payload.
+const MAX_ROOM: u64 = MAX_PAYLOAD as u64;
 
 /// Whether a number is a multiple of 8.
 fn is_aligned(number: u64) -> bool
@@ -26,9 +30,9 @@ fn is_aligned(number: u64) -> bool
 
 /// Whether a part has some room, and not too much.
 fn is_room(room: u64) -> bool
-    ensures { result ≡ (nat_le 1 room && nat_le room 8192) }
+    ensures { result ≡ (nat_le 1 room && nat_le room MAX_PAYLOAD) }
 {
-    1 <= room && room <= 8_192
+    1 <= room && room <= MAX_ROOM
 }
 
 /// Whether so many bytes behind an offset end inside a segment.

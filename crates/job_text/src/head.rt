@@ -12,9 +12,15 @@ ghost use Rattle.job_text.specs.Reading.{GivesAt};
 
 use crate::fault::JobFault;
 use crate::job::{Head, SieveRule};
-use datagram_grammar::Settings;
+use datagram_grammar::{MAX_CREDITS, Settings};
 use line_forms::number_at;
 use text_lines::{LineWhy, Other, ended, is_name, name_of, reason_of, words_left};
+
+/// The most bytes of a node's segment.
+pub const MAX_SEGMENT: u64 = 67_108_864;
+
+/// The most bytes of the segments of all nodes together.
+const MAX_SEGMENTS: u64 = 268_435_456;
 
 /// The number of a line of this name, in its range, and the bytes after the line.
 #[tactic(auto, unfolding(crate::specs::HeadReading::number_line))]
@@ -72,9 +78,9 @@ fn nodes_line(version: u64, bytes: &[u8]) -> Result<(u64, &[u8]), Other>
 fn are_credits(nodes: u64, credits: u64) -> bool
     requires nodes { nodes ≤ 256 }
     requires credits { credits ≤ 32 }
-    ensures { result ≡ nat_le (nodes * (nodes - 1) * credits) 65536 }
+    ensures { result ≡ nat_le (nodes * (nodes - 1) * credits) MAX_CREDITS }
 {
-    nodes * nodes.saturating_sub(1) * credits <= 65_536
+    nodes * nodes.saturating_sub(1) * credits <= u64::from(MAX_CREDITS)
 }
 
 /// The credits of each pair, at most 65,536 in all.
@@ -84,7 +90,7 @@ fn credits_line(nodes: u64, bytes: &[u8]) -> Result<(u64, &[u8]), Other>
     ensures value { Finds (λ x. (x.0, x.1.now)) result
         (fitting_line (credits_form nodes) bytes.now) }
     ensures range { IfOk result (λ x. (1 ≤ x.0) × (x.0 ≤ 32)) }
-    ensures few { IfOk result (λ x. nat_le (nodes * (nodes - 1) * x.0) 65536 ≡ true) }
+    ensures few { IfOk result (λ x. nat_le (nodes * (nodes - 1) * x.0) MAX_CREDITS ≡ true) }
 {
     let (credits, rest) = number_line(b"credits", 1, 32, bytes)?;
     if !are_credits(nodes, credits) {
@@ -96,10 +102,10 @@ fn credits_line(nodes: u64, bytes: &[u8]) -> Result<(u64, &[u8]), Other>
 /// Whether segments are whole pages, and have at most 268,435,456 bytes in all.
 fn are_segments(nodes: u64, segment: u64) -> bool
     requires nodes { nodes ≤ 256 }
-    requires segment { segment ≤ 67108864 }
-    ensures { result ≡ ((segment % 4096 == 0) && nat_le (nodes * segment) 268435456) }
+    requires segment { segment ≤ MAX_SEGMENT }
+    ensures { result ≡ ((segment % 4096 == 0) && nat_le (nodes * segment) MAX_SEGMENTS) }
 {
-    segment % 4096 == 0 && nodes * segment <= 268_435_456
+    segment % 4096 == 0 && nodes * segment <= MAX_SEGMENTS
 }
 
 /// The bytes of each segment, whole pages, at most 268,435,456 in all.
@@ -108,10 +114,10 @@ fn segment_line(nodes: u64, bytes: &[u8]) -> Result<(u64, &[u8]), Other>
     requires { nodes ≤ 256 }
     ensures value { Finds (λ x. (x.0, x.1.now)) result
         (fitting_line (segment_form nodes) bytes.now) }
-    ensures range { IfOk result (λ x. (4096 ≤ x.0) × (x.0 ≤ 67108864)) }
-    ensures few { IfOk result (λ x. ((x.0 % 4096 == 0) && nat_le (nodes * x.0) 268435456) ≡ true) }
+    ensures range { IfOk result (λ x. (4096 ≤ x.0) × (x.0 ≤ MAX_SEGMENT)) }
+    ensures few { IfOk result (λ x. ((x.0 % 4096 == 0) && nat_le (nodes * x.0) MAX_SEGMENTS) ≡ true) }
 {
-    let (segment, rest) = number_line(b"segment", 4096, 67_108_864, bytes)?;
+    let (segment, rest) = number_line(b"segment", 4096, MAX_SEGMENT, bytes)?;
     if !are_segments(nodes, segment) {
         return Err(Other);
     }
@@ -198,7 +204,7 @@ fn credits_from(line: u32, nodes: u64, bytes: &[u8]) -> Result<(u64, &[u8]), Job
     ensures value { GivesAt (λ x. (x.0, x.1.now)) result
         (number_from (credits_form nodes) line bytes.now) }
     ensures range { IfOk result (λ x. (1 ≤ x.0) × (x.0 ≤ 32)) }
-    ensures few { IfOk result (λ x. nat_le (nodes * (nodes - 1) * x.0) 65536 ≡ true) }
+    ensures few { IfOk result (λ x. nat_le (nodes * (nodes - 1) * x.0) MAX_CREDITS ≡ true) }
 {
     match credits_line(nodes, bytes) {
         Ok(read) => Ok(read),
@@ -215,8 +221,8 @@ fn segment_from(line: u32, nodes: u64, bytes: &[u8]) -> Result<(u64, &[u8]), Job
     requires { nodes ≤ 256 }
     ensures value { GivesAt (λ x. (x.0, x.1.now)) result
         (number_from (segment_form nodes) line bytes.now) }
-    ensures range { IfOk result (λ x. (4096 ≤ x.0) × (x.0 ≤ 67108864)) }
-    ensures few { IfOk result (λ x. ((x.0 % 4096 == 0) && nat_le (nodes * x.0) 268435456) ≡ true) }
+    ensures range { IfOk result (λ x. (4096 ≤ x.0) × (x.0 ≤ MAX_SEGMENT)) }
+    ensures few { IfOk result (λ x. ((x.0 % 4096 == 0) && nat_le (nodes * x.0) MAX_SEGMENTS) ≡ true) }
 {
     match segment_line(nodes, bytes) {
         Ok(read) => Ok(read),

@@ -7,6 +7,7 @@ ghost use Rattle.job_text.specs.Locks.{are_listed, listed_by};
 ghost use Rattle.job_text.specs.JobReading.{lines_of};
 ghost use Rattle.job_text.specs.PlanPieces.{scripts_pieces};
 ghost use Rattle.job_text.specs.StepPieces.{steps_pieces};
+ghost use Rattle.job_text.specs.declared.plan_pieces.TheConstants.{PIECES};
 
 use crate::locks::listed_by;
 use datagram_grammar::Settings;
@@ -82,12 +83,13 @@ impl Model for NodeScripts {
     ghost use Rattle.std.specs.Prelude.{◌≡◌, ◌≤◌, List};
     ghost use Rattle.job_text.specs.PlanPieces.{scripts_pieces};
     ghost use Rattle.job_text.specs.declared.job.NodeScript.{NodeScript};
+    ghost use Rattle.job_text.specs.declared.plan_pieces.TheConstants.{PIECES};
 
     ghost Value = { List NodeScript };
 
     ghost view = { λ s. s.scripts.items };
 
-    ghost invariant = { λ s. (s.pieces ≡ scripts_pieces s.scripts.items) × (s.pieces ≤ 65536) };
+    ghost invariant = { λ s. (s.pieces ≡ scripts_pieces s.scripts.items) × (s.pieces ≤ PIECES) };
 }
 
 /// The actions of a handler, at most 64 where the job was read.
@@ -257,7 +259,7 @@ impl NodeScripts {
     /// The pieces of their plans in all, at most 65,536.
     pub fn pieces(&self) -> usize
         ensures pieces { result ≡ scripts_pieces self.now }
-        ensures few { result ≤ 65536 }
+        ensures few { result ≤ PIECES }
     {
         self.pieces
     }

@@ -14,7 +14,7 @@ ghost use Rattle.line_forms.specs.declared.scope.Scope.{Scope as AnyScope};
 
 use crate::fault::JobFault;
 use crate::job::Head;
-use datagram_grammar::{PairCredits, Settings};
+use datagram_grammar::{MAX_CREDITS, PairCredits, Settings};
 use line_forms::{number_at, short_at};
 use text_lines::{LineWhy, Other, begins, ended, is_name, name_of, reason_of, words_left};
 
@@ -38,7 +38,7 @@ fn pair_fits(settings: &Settings, sum: u32, pair: PairCredits) -> bool
         return false;
     }
     let own = u32::from(settings.credits(pair.from, pair.to));
-    sum + u32::from(pair.credits) <= 65_536 + own
+    sum + u32::from(pair.credits) <= MAX_CREDITS + own
 }
 
 /// Credits behind a space.

@@ -32,7 +32,7 @@ pub fn step_pieces(step: &ScriptStep) -> usize
 /// Whether so many pieces are too many with so many more.
 #[tactic(auto, using(crate::proofs::PlanPieces::too_many))]
 pub fn are_too_many_pieces(pieces: usize, more: usize) -> bool
-    requires { pieces ≤ 65536 }
+    requires { pieces ≤ PIECES }
     ensures { result ≡ nat_lt most_pieces (pieces + more) }
 {
     PIECES - pieces < more

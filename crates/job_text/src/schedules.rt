@@ -7,6 +7,7 @@ ghost use Rattle.job_text.specs.HeadReading.{told};
 ghost use Rattle.job_text.specs.JobReading.{State, lined, rounds_of, are_too_many, is_full};
 ghost use Rattle.job_text.specs.JobReading.{admitted, read};
 ghost use Rattle.job_text.specs.PlanPieces.{scripts_pieces};
+ghost use Rattle.job_text.specs.declared.plan_pieces.TheConstants.{PIECES};
 ghost use Rattle.text_lines.specs.Found.{Reads};
 ghost use Rattle.job_text.specs.Reading.{Continues, GivesAt};
 ghost use Rattle.text_lines.specs.Reasons.{reason};
@@ -99,7 +100,7 @@ fn are_too_many(nodes: u16, rounds: u64) -> bool
 /// Whether there is no room for the event behind so much.
 fn is_full(nodes: u16, so_far: Amounts, event: &ScheduledEvent) -> bool
     requires rounds { so_far.rounds ≤ 4096 }
-    requires pieces { so_far.pieces ≤ 65536 }
+    requires pieces { so_far.pieces ≤ PIECES }
     ensures { result ≡ is_full nodes so_far event.now }
 {
     let rounds = u64::from(so_far.rounds) + u64::from(rounds_of(event));
@@ -112,7 +113,7 @@ fn is_full(nodes: u16, so_far: Amounts, event: &ScheduledEvent) -> bool
 #[tactic(auto, using(crate::proofs::HandlerRuns::few_full))]
 fn admitted(nodes: u16, so_far: Amounts, event: &ScheduledEvent) -> Option<Amounts>
     requires rounds { so_far.rounds ≤ 4096 }
-    requires pieces { so_far.pieces ≤ 65536 }
+    requires pieces { so_far.pieces ≤ PIECES }
     ensures { result ≡ admitted nodes so_far event.now }
 {
     if is_full(nodes, so_far, event) {
@@ -134,7 +135,7 @@ pub fn schedule_at<'a>(
     first: u32,
     bytes: &'a [u8],
 ) -> Result<(Schedule, u32, &'a [u8]), JobFault>
-    requires pieces { before ≤ 65536 }
+    requires pieces { before ≤ PIECES }
     requires line { first ≤ 20000000 }
     ensures value { (job : JobState) → scope_of job ≡ scope.now
         → scripts_pieces job.scripts ≡ before → Continues

@@ -16,6 +16,7 @@ ghost use Rattle.text_lines.specs.Reasons.{reason};
 ghost use Rattle.job_text.specs.Scopes.{scope_of};
 ghost use Rattle.job_text.specs.declared.job.Job.{Job as JobState};
 ghost use Rattle.job_text.specs.declared.job.NodeScript.{NodeScript as ScriptValue};
+ghost use Rattle.job_text.specs.declared.plan_pieces.TheConstants.{PIECES};
 
 use crate::fault::JobFault;
 use crate::handler_lines::is_end;
@@ -76,7 +77,7 @@ fn next_step<'a>(
 
 /// Whether there is no room for the step behind so many, where all plans so far have so many pieces.
 fn is_full_script(pieces: usize, steps: usize, step: &ScriptStep) -> bool
-    requires { pieces ≤ 65536 }
+    requires { pieces ≤ PIECES }
     ensures { result ≡ is_full_script pieces steps step.now }
 {
     steps >= STEPS || are_too_many_pieces(pieces, step_pieces(step))
@@ -91,7 +92,7 @@ fn steps_at<'a>(
     first: u32,
     bytes: &'a [u8],
 ) -> Result<(ScriptSteps, u32, &'a [u8]), JobFault>
-    requires pieces { before ≤ 65536 }
+    requires pieces { before ≤ PIECES }
     requires line { first ≤ 20000000 }
     ensures value { (script : ScriptValue) (job : JobState) → scope_of job ≡ scope.now
         → scripts_pieces job.scripts ≡ before →
@@ -101,7 +102,7 @@ fn steps_at<'a>(
         }) x.1 x.2.now)
         result (read (record { place = AtSteps (with_steps [] script); job = job }) first bytes.now) }
     ensures later { IfOk result (λ x. x.1 ≤ first + 4097) }
-    ensures few { IfOk result (λ x. before + steps_pieces x.0 ≤ 65536) }
+    ensures few { IfOk result (λ x. before + steps_pieces x.0 ≤ PIECES) }
 {
     let mut steps = Vec::new(alloc);
     let mut rest = bytes;

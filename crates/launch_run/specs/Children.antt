@@ -9,6 +9,7 @@ use Rattle.gas_outside.specs.Spawner.{ChildEnd, IsFinishFailed, SpawnTold, ToldC
 use Rattle.gas_outside.specs.Spawner.ToldCall.{Finish, Start}
 use Rattle.gas_outside.specs.declared.spawner.Spawner.{Ghosts as SpawnerGhosts}
 use Rattle.launch_run.specs.declared.children.Child.{Child}
+use Rattle.gas_outside.specs.declared.spawner.TheConstants.{MAX_OUTPUT}
 
 -- ---- a spawner
 
@@ -57,7 +58,7 @@ AreRanked ends = (rank : ℕ) → ForSome (slice_get ends rank) (λ end. end.ran
 
 -- a child gave at most as many bytes as an output may have
 abbrev pub IsOutputWithin : ChildEnd → Type 0
-IsOutputWithin end = length end.output ≤ 67108864
+IsOutputWithin end = length end.output ≤ MAX_OUTPUT
 
 -- ---- both
 

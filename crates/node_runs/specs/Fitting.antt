@@ -19,6 +19,7 @@ use Rattle.endpoint_rules.specs.Memory.{Set, Fill}
 use Rattle.collective_area.specs.Shapes.{shape_word}
 use Rattle.gas_collectives.specs.CollectivesState.{CollectivesState}
 use Rattle.node_runs.specs.Scripts.{ThreadCall}
+use Rattle.datagram_grammar.specs.declared.limits.TheConstants.{MAX_PAYLOAD}
 
 -- numbers of 32 bits
 abbrev pub AreNumbers : List ℤ → Type 0
@@ -97,7 +98,7 @@ pub record CollectivesFit (it : CollectivesState) : Type 0 where
   pub count : it.started < 2 ^ 64
   pub word : shape_word it.shape < 2 ^ 64
   pub nodes : it.area.nodes ≤ 256
-  pub room : it.area.room ≤ 8192
+  pub room : it.area.room ≤ MAX_PAYLOAD
 
 -- ---- jobs
 

@@ -12,6 +12,7 @@ use Rattle.put_get.specs.declared.operation.Mode.TheVariants.{Explicit, Implicit
 use Rattle.put_get.specs.declared.operation.Handle.{Handle}
 use Rattle.put_get.specs.declared.operation.TooMany.{TooMany}
 use Rattle.put_get.specs.declared.operation.Next.{Next}
+use Rattle.put_get.specs.declared.operation.TheConstants.{MAX_CHUNK}
 
 -- ---- a transfer
 
@@ -31,14 +32,14 @@ is_get _ = false
 
 -- how many chunks of 8,192 bytes there are, the last one shorter
 abbrev pub chunks : (size : ℕ) → ℕ
-chunks size = (size + 8191) / 8192
+chunks size = (size + (MAX_CHUNK - 1)) / MAX_CHUNK
 
 -- where chunk `index` of a range begins, and how many bytes it has
 abbrev pub chunk_start : (index : ℕ) → ℕ
-chunk_start index = index * 8192
+chunk_start index = index * MAX_CHUNK
 
 abbrev pub chunk_size : (size index : ℕ) → ℕ
-chunk_size size index = min 8192 (size - chunk_start index)
+chunk_size size index = min MAX_CHUNK (size - chunk_start index)
 
 -- ---- an operation
 

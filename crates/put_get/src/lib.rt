@@ -20,5 +20,7 @@ mod slots;
 mod table;
 mod transfers;
 
-pub use operation::{Handle, ImplicitKinds, MAX_CHUNK, Mode, Next, Synced, TooMany, Transfer};
+pub use operation::{
+    Handle, ImplicitKinds, MAX_CHUNK, MAX_NODES, Mode, Next, Synced, TooMany, Transfer,
+};
 pub use transfers::Transfers;

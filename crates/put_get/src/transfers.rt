@@ -15,6 +15,7 @@ ghost use Rattle.put_get.specs.Table.{AreMarks, also, is_unissued, picked};
 ghost use Rattle.put_get.specs.Stands.{HasOperations, ForItsOperations, room_of, Stands, Agrees, member_in};
 ghost use Rattle.put_get.specs.Stands.{member_of, member_of_any};
 ghost use Rattle.put_get.specs.Stands.{is_whole_in, whole_here, whole_in, IsFirstExhausted, CanNote, next_of};
+ghost use Rattle.put_get.specs.declared.operation.TheConstants.{MAX_NODES};
 
 use crate::operation::{Handle, ImplicitKinds, MAX_CHUNK, Mode, Next, Synced, TooMany, Transfer};
 use crate::slots::{Slots, Waiting};
@@ -229,7 +230,7 @@ impl Transfers {
 
     /// The smallest node that is exhausted and has an unissued chunk of what is marked.
     fn first_exhausted(&self, exhausted: &[bool], marks: &[bool; 256]) -> Option<u16>
-        requires { length exhausted.now ≤ 65536 }
+        requires { length exhausted.now ≤ MAX_NODES }
         ensures { (test : Standing → Bool) → AreMarks test self.now.table marks.now
             → IsFirstExhausted (flag_at exhausted.now) test self.now.table result }
     {
@@ -243,7 +244,7 @@ impl Transfers {
 
     /// Where what is marked is complete it goes.
     fn sync_marked(&mut self, exhausted: &[bool], marks: &[bool; 256]) -> Synced
-        requires { length exhausted.now ≤ 65536 }
+        requires { length exhausted.now ≤ MAX_NODES }
         ensures answer { ForItsOperations self.old (λ operations.
             (choice : Choice) (test : Standing → Bool)
             → AreMarks test self.old.table marks.now → Agrees choice test
@@ -266,7 +267,7 @@ impl Transfers {
 
     /// The smallest node that is exhausted and has an unissued chunk of what is meant.
     fn first_exhausted_of(&self, exhausted: &[bool], pick: Pick) -> Option<u16>
-        requires { length exhausted.now ≤ 65536 }
+        requires { length exhausted.now ≤ MAX_NODES }
         ensures { IsFirstExhausted (flag_at exhausted.now) (picked pick) self.now.table result }
     {
         for node in 0..exhausted.len() {
@@ -282,7 +283,7 @@ impl Transfers {
     /// Where what is meant is complete it goes. While it isn't, the first record that is unfinished answers, and no
     /// record is marked.
     fn sync_picked(&mut self, exhausted: &[bool], pick: Pick) -> Synced
-        requires { length exhausted.now ≤ 65536 }
+        requires { length exhausted.now ≤ MAX_NODES }
         ensures answer { ForItsOperations self.old (λ operations. (choice : Choice)
             → Agrees choice (picked pick)
             → result ≡ sync_answer (flag_at exhausted.now) (chosen choice 1 operations)) }
@@ -326,7 +327,7 @@ impl Transfers {
     /// the region are, and their records go; `Exhausted` with the smallest exhausted node to which a chunk is unissued;
     /// else `NotReady`. (GASNet 1.8.1 extended API, gasnet_try_syncnb.)
     pub fn try_sync(&mut self, exhausted: &[bool], thread: u16, handle: Handle) -> Synced
-        requires { length exhausted.now ≤ 65536 }
+        requires { length exhausted.now ≤ MAX_NODES }
         ensures answer { ForItsOperations self.old (λ operations.
             result ≡ handle_answer (flag_at exhausted.now) thread handle.serial operations) }
         ensures stands { ForItsOperations self.old (λ operations.
@@ -352,7 +353,7 @@ impl Transfers {
         thread: u16,
         which: ImplicitKinds,
     ) -> Synced
-        requires { length exhausted.now ≤ 65536 }
+        requires { length exhausted.now ≤ MAX_NODES }
         ensures answer { ForItsOperations self.old (λ operations.
             result ≡ implicit_answer (flag_at exhausted.now) thread which operations) }
         ensures stands { ForItsOperations self.old (λ operations.
@@ -415,7 +416,7 @@ impl Transfers {
     /// then it is `Ok` where all are complete or invalid, and their records go; then `Exhausted`, then `NotReady`, over
     /// all of them. Nothing changes unless it is `Ok` (profile). (GASNet 1.8.1 extended API, gasnet_try_syncnb_all.)
     pub fn try_sync_all(&mut self, exhausted: &[bool], thread: u16, handles: &[Handle]) -> Synced
-        requires { length exhausted.now ≤ 65536 }
+        requires { length exhausted.now ≤ MAX_NODES }
         ensures answer { ForItsOperations self.old (λ operations.
             result ≡ all_answer (flag_at exhausted.now) thread handles.now operations) }
         ensures stands { ForItsOperations self.old (λ operations.
@@ -500,7 +501,7 @@ impl Transfers {
 
     /// A sync of those of these handles that are complete, where none has a fault.
     fn sync_some(&mut self, exhausted: &[bool], handles: &[Handle]) -> Synced
-        requires { length exhausted.now ≤ 65536 }
+        requires { length exhausted.now ≤ MAX_NODES }
         ensures answer { ForItsOperations self.old (λ operations.
             result ≡ some_here (flag_at exhausted.now) handles.now operations) }
         ensures stands { ForItsOperations self.old (λ operations.
@@ -524,7 +525,7 @@ impl Transfers {
     /// one is complete, and the records of those that are complete go. (GASNet 1.8.1 extended API,
     /// gasnet_try_syncnb_some.)
     pub fn try_sync_some(&mut self, exhausted: &[bool], thread: u16, handles: &[Handle]) -> Synced
-        requires { length exhausted.now ≤ 65536 }
+        requires { length exhausted.now ≤ MAX_NODES }
         ensures answer { ForItsOperations self.old (λ operations.
             result ≡ some_answer (flag_at exhausted.now) thread handles.now operations) }
         ensures stands { ForItsOperations self.old (λ operations.

@@ -11,6 +11,9 @@ use std::marker::Model;
 /// The bytes of a part: as many as the longest datagram has.
 pub const PART_BYTES: usize = 8296;
 
+/// The most parts of a block.
+pub const MAX_PARTS: usize = 65_536;
+
 static ZEROS: [u8; PART_BYTES] = [0; PART_BYTES];
 
 // A part, and the bytes up to the next one: 8,320 bytes together. An `ArrayVec` keeps its length
@@ -23,12 +26,13 @@ struct Part {
 
 impl Model for Part {
     ghost use Rattle.std.specs.Prelude.{List, ℕ, ◌≡◌, length};
+    ghost use Rattle.raw_segment.specs.declared.block.TheConstants.{PART_BYTES};
 
     ghost Value = { List ℕ };
 
     ghost view = { λ p. p.bytes.items };
 
-    ghost invariant = { λ p. length p.bytes.items ≡ 8296 };
+    ghost invariant = { λ p. length p.bytes.items ≡ PART_BYTES };
 }
 
 impl Part {
@@ -36,7 +40,7 @@ impl Part {
     ghost use Rattle.std.specs.List.{refill};
 
     fn zeros() -> Part
-        ensures { result ≡ replicate 8296 0 }
+        ensures { result ≡ replicate PART_BYTES 0 }
     {
         Part {
             bytes: ArrayVec::from([0; PART_BYTES]),
@@ -46,16 +50,16 @@ impl Part {
 
     fn bytes(&self) -> &[u8]
         ensures value { result.now ≡ self.now }
-        ensures len { length result.now ≡ 8296 }
+        ensures len { length result.now ≡ PART_BYTES }
     {
         self.bytes.as_slice()
     }
 
     fn bytes_mut(&mut self) -> &mut [u8]
         ensures* writes_back { sem 𝓛 (Lends part_row (Array byte 0) self.entry result
-            (refill 8296 self.old)) }
+            (refill PART_BYTES self.old)) }
         ensures value { result.now ≡ self.old }
-        ensures len { length result.now ≡ 8296 }
+        ensures len { length result.now ≡ PART_BYTES }
     {
         self.bytes.as_mut_slice()
     }
@@ -94,8 +98,8 @@ impl Block {
     ///
     /// Where the memory cannot be reserved; never for no parts.
     pub fn new(alloc: Global, parts: usize) -> Result<Block, AllocError>
-        requires { parts ≤ 65536 }
-        ensures zeros { IfOk result (λ block. block ≡ replicate parts (replicate 8296 0)) }
+        requires { parts ≤ MAX_PARTS }
+        ensures zeros { IfOk result (λ block. block ≡ replicate parts (replicate PART_BYTES 0)) }
         ensures no_parts { parts ≡ 0 → IsOk result }
     {
         if parts == 0 {
@@ -120,7 +124,7 @@ impl Block {
     pub fn part(&self, index: usize) -> &[u8]
         requires { index < length self.now }
         ensures value { slice_get self.now index ≡ Some result.now }
-        ensures len { length result.now ≡ 8296 }
+        ensures len { length result.now ≡ PART_BYTES }
     {
         match self.places[index] {
             None => &ZEROS,
@@ -134,7 +138,7 @@ impl Block {
         ensures* writes_back { sem 𝓛 (Lends block_row (Array byte 0) self.entry result
             (with_part self.old index)) }
         ensures value { slice_get self.old index ≡ Some result.now }
-        ensures len { length result.now ≡ 8296 }
+        ensures len { length result.now ≡ PART_BYTES }
     {
         let place = fill(&mut self.places, &mut self.filled, index);
         self.filled[place as usize].bytes_mut()

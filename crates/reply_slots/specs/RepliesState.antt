@@ -5,6 +5,7 @@ use Rattle.std.proofs.Math.ListN.{replicate}
 use Rattle.lists.specs.Update.{update}
 use Rattle.reply_slots.specs.declared.Judged.{Judged}
 use Rattle.reply_slots.specs.declared.Judged.TheVariants.{New, Duplicate, Stale}
+use Rattle.slot_table.specs.declared.TheConstants.{BUFFER_BYTES}
 pub use Rattle.slot_table.specs.TableState.{counts_of, refill}
 
 -- a slot of one peer
@@ -114,7 +115,7 @@ with_reply table from slot number message = with_slot table from slot (Kept numb
 -- the slot is opened for the request with this number, with some buffer, and nothing else changes
 pub record Places (old : RepliesState) (from slot number : ℕ) (new : RepliesState) : Type 0 where
   pub buffer : List ℕ
-  pub whole : length buffer ≡ 8296
+  pub whole : length buffer ≡ BUFFER_BYTES
   pub opened : new ≡ with_slot old from slot (Opened number buffer)
 
 -- in how many slots of the peer a request ran

@@ -2,9 +2,10 @@
 
 ghost use Rattle.std.specs.Prelude.{◌≡◌, ◌≤◌, ℕ, List, Some, length};
 ghost use Rattle.sealed_link.specs.Seal.{sealed_under, opened_under};
+ghost use Rattle.gas_outside.specs.declared.link.TheConstants.{MAX_DATAGRAM};
 
 /// What is sealed under a key is opened under it as the same bytes, where these are at most 8,296.
 pub fn seal_law()
-    ensures opens { (key bytes : List ℕ) → length bytes ≤ 8296
+    ensures opens { (key bytes : List ℕ) → length bytes ≤ MAX_DATAGRAM
         → opened_under key (sealed_under key bytes) ≡ Some bytes }
 {}

@@ -72,7 +72,7 @@ impl<'a, L: Link> SealedLink<'a, L> {
 
 /// Seals a datagram into the front of a buffer, and answers how many bytes that are.
 fn seal(key: &Key, datagram: &[u8], buffer: &mut [u8]) -> usize
-    requires fits { length datagram.now ≤ 8296 }
+    requires fits { length datagram.now ≤ MAX_DATAGRAM }
     requires room { length buffer.old ≡ 8313 }
     ensures room { length buffer.new ≡ 8313 }
     ensures bound { result ≤ 8313 }
@@ -87,7 +87,7 @@ fn seal(key: &Key, datagram: &[u8], buffer: &mut [u8]) -> usize
 
 /// Copies a datagram to the front of a buffer, where it was sealed so, and answers how many bytes it has.
 fn open(key: &Key, whole: &[u8], into: &mut [u8]) -> Option<usize>
-    requires { 8296 ≤ length into.old }
+    requires { MAX_DATAGRAM ≤ length into.old }
     ensures opened { option_map (λ len. take len into.new) result ≡ opened_under key.now whole.now }
     ensures fits { IfSome result (λ len. len ≤ length into.new) }
 {
@@ -112,7 +112,7 @@ fn receive_one<L: Link>(
     buffer: &mut [u8],
     into: &mut [u8],
 ) -> Option<Received>
-    requires space { 8296 ≤ length into.old }
+    requires space { MAX_DATAGRAM ≤ length into.old }
     ensures received { OneTold result into.new (heard key.now (L.received link.old))
         (heard key.now (L.received link.new)) }
     ensures bound { L.bound link.new ≡ L.bound link.old }

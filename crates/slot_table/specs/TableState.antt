@@ -4,6 +4,7 @@ use Rattle.std.specs.Prelude.{Some, None, slice_get, slice_set}
 use Rattle.std.proofs.Math.ListN.{replicate}
 use Rattle.lists.specs.Update.{update}
 use Rattle.lists.specs.Cut.{start_of, count_at, total_of}
+use Rattle.slot_table.specs.declared.TheConstants.{BUFFER_BYTES}
 
 -- a slot of one peer
 pub data SlotState : Type 0 where
@@ -117,7 +118,7 @@ with_change table node slot change = record table { slots = update table.slots (
 -- a slot of a node is opened with a number and a time, and with some buffer, and nothing else changes
 pub record OpensSlot (old : TableState) (node : ℕ) (claim : Claim) (new : TableState) : Type 0 where
   pub buffer : List ℕ
-  pub whole : length buffer ≡ 8296
+  pub whole : length buffer ≡ BUFFER_BYTES
   pub opened : new ≡ with_change old node claim.slot (λ _. Opened claim.number claim.time buffer)
 
 -- the slots of each peer, and none for `me`

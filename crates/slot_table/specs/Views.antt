@@ -7,6 +7,7 @@ use Rattle.slot_table.specs.TableState.{TableState, SlotState, Vacant, Opened, S
 use Rattle.slot_table.specs.declared.Contents.{Contents}
 use Rattle.slot_table.specs.declared.Contents.TheVariants.{Nothing, Draft, Message}
 use Rattle.slot_table.specs.declared.Peer.{Peer}
+use Rattle.slot_table.specs.declared.TheConstants.{BUFFER_BYTES, MAX_SLOTS}
 
 -- the slot's value, which forgets the bytes of the buffer behind a message
 abbrev pub slot_view : Contents → List ℕ → SlotState
@@ -34,7 +35,7 @@ is_something contents = not (is_nothing contents)
 abbrev pub FitsBuffer : Contents → Type 0
 FitsBuffer Nothing = Unit {0}
 FitsBuffer (Draft number time) = Unit {0}
-FitsBuffer (Message number time len) = len ≤ 8296
+FitsBuffer (Message number time len) = len ≤ BUFFER_BYTES
 
 -- how many slots each peer has
 abbrev pub peer_counts : List Peer → List ℕ
@@ -42,7 +43,7 @@ peer_counts peers = map (λ peer. peer.count) peers
 
 -- the peers' slots follow one another, and are no more than there can be
 pub record IsLaid (peers : List Peer) : Type 0 where
-  pub small : total_of (peer_counts peers) ≤ 65536
+  pub small : total_of (peer_counts peers) ≤ MAX_SLOTS
   pub narrow : (node : ℕ) (peer : Peer) → slice_get peers node ≡ Some peer → peer.count ≤ 32
   pub firsts : (node : ℕ) (peer : Peer) → slice_get peers node ≡ Some peer
       → peer.first ≡ start_of (peer_counts peers) node
@@ -58,7 +59,7 @@ pub record IsCounted (peers : List Peer) (contents : List Contents) (held : ℕ)
 -- each slot has a buffer, and its message ends within it
 pub record IsBuffered (contents : List Contents) (buffers : List (List ℕ)) : Type 0 where
   pub enough : length buffers ≡ length contents
-  pub sizes : (place : ℕ) (buffer : List ℕ) → slice_get buffers place ≡ Some buffer → length buffer ≡ 8296
+  pub sizes : (place : ℕ) (buffer : List ℕ) → slice_get buffers place ≡ Some buffer → length buffer ≡ BUFFER_BYTES
   pub fits : (place : ℕ) (kept : Contents) → slice_get contents place ≡ Some kept → FitsBuffer kept
 
 -- the weight of a bit that may be set

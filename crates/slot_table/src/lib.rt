@@ -16,12 +16,15 @@ ghost use Rattle.slot_table.specs.Views.{is_nothing, peer_counts, IsLaid, IsCoun
 ghost use Rattle.lists.specs.Update.{update};
 ghost use Rattle.lists.specs.Cut.{start_of, count_at, total_of};
 
-use raw_segment::{Block, PART_BYTES};
+use raw_segment::{Block, MAX_PARTS, PART_BYTES};
 use std::alloc::{AllocError, Global};
 use std::marker::Model;
 
 /// The bytes of each slot's buffer: the greatest size of a message.
 pub const BUFFER_BYTES: usize = PART_BYTES;
+
+/// The most slots of all peers together: each has a part of one block.
+pub const MAX_SLOTS: usize = MAX_PARTS;
 
 // What stands in a slot: a message that is being written and one that is sealed have a number and a time.
 #[derive(Clone, Copy, Drop)]
@@ -205,7 +208,7 @@ impl SlotTable {
     /// How many slots there are, over all peers.
     pub fn slots(&self) -> usize
         ensures count { result ≡ length self.now.slots }
-        ensures small { result ≤ 65536 }
+        ensures small { result ≤ MAX_SLOTS }
     {
         self.contents.len()
     }
@@ -213,7 +216,7 @@ impl SlotTable {
     /// How many slots are taken, over all peers.
     pub fn held(&self) -> usize
         ensures count { result ≡ count_by is_taken self.now.slots }
-        ensures small { result ≤ 65536 }
+        ensures small { result ≤ MAX_SLOTS }
     {
         self.held
     }
@@ -244,7 +247,7 @@ impl SlotTable {
         requires { HasSlot self.now to slot }
         ensures place { result ≡ place_of self.now to slot }
         ensures inside { result < length self.now.slots }
-        ensures small { result < 65536 }
+        ensures small { result < MAX_SLOTS }
     {
         place_in(&self.peers, to, slot)
     }
@@ -306,7 +309,7 @@ impl SlotTable {
         ensures* writes_back { sem 𝓛 (Lends table_row (Array byte 0) self.entry result
             (λ written. with_change self.old to slot (with_written written))) }
         ensures value { result.now ≡ opened_bytes_in self.old to slot }
-        ensures len { length result.now ≡ 8296 }
+        ensures len { length result.now ≡ BUFFER_BYTES }
     {
         let place = place_in(&self.peers, to, slot);
         self.block.part_mut(place)
@@ -316,7 +319,7 @@ impl SlotTable {
     /// Gives the time with which it was opened: `None` exactly where it was not.
     pub fn seal(&mut self, to: u16, slot: u16, len: usize) -> Option<u64>
         requires in_range { HasSlot self.old to slot }
-        requires fits { len ≤ 8296 }
+        requires fits { len ≤ BUFFER_BYTES }
         ensures changed { self.new ≡ with_change self.old to slot (sealed len) }
         ensures time { result ≡ option_and_then opened_time (slot_in self.old to slot) }
     {
