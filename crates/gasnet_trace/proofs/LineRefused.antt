@@ -11,7 +11,8 @@ use Rattle.gasnet_trace.specs.declared.fault.TraceWhy.{TraceWhy}
 use Rattle.gasnet_trace.specs.declared.fault.TraceWhy.TheVariants.{Early, Text, Form, Value}
 use Rattle.text_lines.specs.Lines.{Word}
 use Rattle.text_lines.specs.LineTexts.{Line, IsPlain, IsWord, IsLine, joined, line_text, spell}
-use Rattle.gasnet_trace.specs.TraceReading.{BadLine, ◌>>=◌, at_line, is_plain, is_word, line_at, read_line, words_of}
+use Rattle.text_lines.specs.Chains.{◌>>=◌}
+use Rattle.gasnet_trace.specs.TraceReading.{BadLine, at_line, is_plain, is_word, line_at, read_line, words_of}
 use Rattle.gasnet_trace.specs.TraceRead.{FailsAt}
 use Rattle.gasnet_trace.specs.LineRefusals.{Before, EndsEarly, HasNoText, IsAtFault, IsFront, IsMeant, IsNoFront, IsNoMemory}
 use Rattle.gasnet_trace.specs.LineRefusals.{IsWrong, Means, TextKind}

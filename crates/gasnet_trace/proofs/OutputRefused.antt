@@ -23,7 +23,8 @@ use Rattle.gasnet_trace.specs.OutputRefusals.{AtEntries, AtStatus, HasForm, IsSt
 use Rattle.gasnet_trace.specs.OutputRefusals.{AtVersion, AtJob, AtRank, is_end, place_among, place_behind, status_line}
 use Rattle.gasnet_trace.specs.OutputText.{IsOutput, output_text, status_text}
 use Rattle.gasnet_trace.specs.TraceRead.{FailsAt}
-use Rattle.gasnet_trace.specs.TraceReading.{BadLine, ◌>>=◌, at_line, entries_at, line_at, next_of, read_line, setting_of}
+use Rattle.text_lines.specs.Chains.{◌>>=◌}
+use Rattle.gasnet_trace.specs.TraceReading.{BadLine, at_line, entries_at, line_at, next_of, read_line, setting_of}
 use Rattle.gasnet_trace.specs.TraceReading.{words_of}
 use Rattle.gasnet_trace.specs.TraceRefusals as traces
 use Rattle.gasnet_trace.specs.TraceText.{IsEntry, end_line, entry_line, entry_lines, number_line, trace_lines}
