@@ -27,7 +27,7 @@ use Rattle.text_lines.specs.Chains.{◌>>=◌}
 use Rattle.gasnet_trace.specs.TraceReading.{BadLine, at_line, entries_at, line_at, entry_or_end, read_line, setting_of}
 use Rattle.gasnet_trace.specs.TraceReading.{words_of}
 use Rattle.gasnet_trace.specs.TraceRefusals as traces
-use Rattle.gasnet_trace.specs.TraceText.{IsEntry, end_line, entry_line, entry_lines, setting_line, trace_lines}
+use Rattle.gasnet_trace.specs.TraceText.{IsEntry, end_line, entry_line, entry_lines, line_of_number, trace_lines}
 use Rattle.gasnet_trace.proofs.LineLaws.{joined-join, ok_is}
 use Rattle.gasnet_trace.proofs.LineRefused.{HasLines, NoForm, Reached, Refuses, Walked, Wrongly, bind_err, err_is}
 use Rattle.gasnet_trace.proofs.LineRefused.{fails_behind, line_err, ok_err, reach_on, words_of_test}
@@ -146,9 +146,9 @@ pub stands : (wanted : Wanted) (output : Output) → IsOutput wanted output → 
     → lines_of wanted output ≡ lines ++ words ∷ others → MayStand wanted (place_behind lines) words
 stands wanted output is [] others words e = sym (first_same e)
 stands wanted output is (a ∷ []) others words e =
-    sym (first_same (rest_same e)) ∙ ap (setting_line (codes "job")) is.job_is
+    sym (first_same (rest_same e)) ∙ ap (line_of_number (codes "job")) is.job_is
 stands wanted output is (a ∷ b ∷ []) others words e =
-    sym (first_same (rest_same (rest_same e))) ∙ ap (setting_line (codes "rank")) is.rank_is
+    sym (first_same (rest_same (rest_same e))) ∙ ap (line_of_number (codes "rank")) is.rank_is
 stands wanted output is (a ∷ b ∷ c ∷ lines) others words e =
     later_stands wanted output.status output.trace.entries is.is_trace.entries lines others words
     (rest_same (rest_same (rest_same e)))
@@ -195,13 +195,13 @@ module _ (wanted : Wanted) (fits : wanted.version < 2 ^ 64) (few : wanted.job < 
   head = head_of wanted.version wanted.job wanted.rank
 
   abbrev first : Line
-  first = setting_line (codes "trace") wanted.version
+  first = line_of_number (codes "trace") wanted.version
 
   abbrev second : Line
-  second = setting_line (codes "job") wanted.job
+  second = line_of_number (codes "job") wanted.job
 
   abbrev third : Line
-  third = setting_line (codes "rank") wanted.rank
+  third = line_of_number (codes "rank") wanted.rank
 
   abbrev made : List Entry → Output
   made entries = with_entries wanted entries status.Ok
@@ -294,7 +294,7 @@ module _ (wanted : Wanted) (fits : wanted.version < 2 ^ 64) (few : wanted.job < 
       (line_err 3 (setting_of (codes "rank") wanted.rank wanted.rank) rest bad e)
   third_by rest reached (inr x) =
       let s = setting_line 3 (codes "rank") wanted.rank wanted.rank rest x.0 x.1.0 in
-      let text = s.0 ∙ ap (λ (n : ℕ). line_text (setting_line (codes "rank") n) ++ (x.0).1)
+      let text = s.0 ∙ ap (λ (n : ℕ). line_text (line_of_number (codes "rank") n) ++ (x.0).1)
       (same_number wanted.rank (x.0).0 s.1) in
       entries_by (x.0).1
       (reach_on kind has (first ∷ second ∷ []) third bytes rest (x.0).1 reached text (entered.walked [] tt))
@@ -311,7 +311,7 @@ module _ (wanted : Wanted) (fits : wanted.version < 2 ^ 64) (few : wanted.job < 
       (line_err 2 (setting_of (codes "job") wanted.job wanted.job) rest bad e)
   second_by rest reached (inr x) =
       let s = setting_line 2 (codes "job") wanted.job wanted.job rest x.0 x.1.0 in
-      let text = s.0 ∙ ap (λ (n : ℕ). line_text (setting_line (codes "job") n) ++ (x.0).1)
+      let text = s.0 ∙ ap (λ (n : ℕ). line_text (line_of_number (codes "job") n) ++ (x.0).1)
       (same_number wanted.job (x.0).0 s.1) in
       let walked : Walked kind has (first ∷ second ∷ []) = record {
         one = made [];
@@ -348,7 +348,7 @@ module _ (wanted : Wanted) (fits : wanted.version < 2 ^ 64) (few : wanted.job < 
       (line_err 1 (setting_of (codes "trace") wanted.version wanted.version) bytes bad e)
   first_by (inr x) =
       let s = setting_line 1 (codes "trace") wanted.version wanted.version bytes x.0 x.1.0 in
-      let text = s.0 ∙ ap (λ (n : ℕ). line_text (setting_line (codes "trace") n) ++ (x.0).1)
+      let text = s.0 ∙ ap (λ (n : ℕ). line_text (line_of_number (codes "trace") n) ++ (x.0).1)
       (same_number wanted.version (x.0).0 s.1)
       ∙ ap (λ (t : List ℕ). t ++ (x.0).1) (sym (append-nil (line_text first))) in
       second_by (x.0).1 (record {
