@@ -19,7 +19,7 @@ use gasnet_trace::{MergeFault, Trace};
 use node_script::Script;
 use std::alloc::Global;
 
-/// How the check of traces ended.
+/// How the check of the traces of a job's nodes ended.
 #[derive(Drop)]
 pub enum TracesEnd {
     /// They are a run, and its lines were written.

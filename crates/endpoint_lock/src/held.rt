@@ -6,7 +6,7 @@ ghost use Rattle.endpoint_lock.specs.StationState.{opened};
 ghost use Rattle.endpoint_lock.specs.Facts.{HasFacts};
 ghost use Rattle.endpoint_lock.specs.Turns.{CountsAtMostOne, TakesTurn};
 
-use crate::ends::TurnEnd;
+use crate::ends::TurnAnswer;
 use crate::recorder::Recorder;
 use crate::station::Station;
 use gas_outside::{Clock, Link};
@@ -82,7 +82,7 @@ impl<N: StationName<M, L, C, K>, M: Machine, L: Link, C: Clock, K: Recorder> Hel
 
     /// One turn of a thread under the lock, as `Station::turn` says. Where it keeps an entry, the share that it is
     /// handed has one more.
-    pub fn turn(&mut self, thread: u16, mine: &mut Share<N>) -> TurnEnd
+    pub fn turn(&mut self, thread: u16, mine: &mut Share<N>) -> TurnAnswer
         requires thread { thread < N.threads }
         requires part { 0 < mine.old.parts }
         ensures turn { TakesTurn M.Machine L.Link C.Clock K.Recorder (record {

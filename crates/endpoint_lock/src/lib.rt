@@ -46,7 +46,7 @@ mod recorder;
 mod station;
 mod threads;
 
-pub use ends::{End, Ended, TurnEnd, Unmade};
+pub use ends::{EndedStation, StationEnd, TurnAnswer};
 pub use held::{Crew, Held, StationName};
 pub use machine::{Bytes, Entry, Machine, Turned};
 pub use recorder::Recorder;

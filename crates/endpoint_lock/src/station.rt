@@ -9,7 +9,7 @@ ghost use Rattle.endpoint_lock.specs.Turns.{GoesTurn, SendsOn, Finishes, KeepsFa
 ghost use Rattle.machine.specs.declared.entry.Entry.{Entry as EntryState};
 ghost use Rattle.endpoint_lock.specs.Leaving.{left_by_station};
 
-use crate::ends::{End, Ended, TurnEnd, Unmade};
+use crate::ends::{EndedStation, StationEnd, TurnAnswer};
 use crate::exchange::{quiet_after, record_entry, send_outgoing};
 use crate::inbox::{Asked, Inbox};
 use crate::recorder::Recorder;
@@ -34,7 +34,7 @@ pub struct Station<M, L, C, K> {
     quiet: u32,
     idle: u64,
     patience: u32,
-    kept: Option<End>,
+    kept: Option<StationEnd>,
     inbox: Inbox,
 }
 
@@ -75,14 +75,14 @@ impl<M, L, C, K> Station<M, L, C, K> {
     }
 
     /// The end that it keeps, once a turn has met one.
-    pub fn kept(&self) -> Option<End>
+    pub fn kept(&self) -> Option<StationEnd>
         ensures { result ≡ self.now.kept }
     {
         self.kept
     }
 
     /// Takes the station apart. Where no end was kept, it is want of memory.
-    pub fn into_ended(self) -> Ended<M, L, C, K>
+    pub fn into_ended(self) -> EndedStation<M, L, C, K>
         ensures { result ≡ left_by_station self }
     {
         let Station {
@@ -98,12 +98,12 @@ impl<M, L, C, K> Station<M, L, C, K> {
             kept,
             inbox: _,
         } = self;
-        Ended {
+        EndedStation {
             machine,
             link,
             clock,
             recorder,
-            end: kept.unwrap_or(End::NoMemory),
+            end: kept.unwrap_or(StationEnd::NoMemory),
         }
     }
 }
@@ -114,7 +114,7 @@ const ENTRY_LIMIT: u64 = 4294967295;
 impl<M: Machine, L: Link, C: Clock, K: Recorder> Station<M, L, C, K> {
     /// A station that took no turn yet, which ends after `patience` quiet turns in a row.
     ///
-    /// For want of memory it hands the four back.
+    /// For want of memory it hands the four back, and the end is `NoMemory`.
     pub fn new(
         alloc: Global,
         machine: M,
@@ -122,22 +122,23 @@ impl<M: Machine, L: Link, C: Clock, K: Recorder> Station<M, L, C, K> {
         clock: C,
         recorder: K,
         patience: u32,
-    ) -> Result<Station<M, L, C, K>, Unmade<M, L, C, K>>
+    ) -> Result<Station<M, L, C, K>, EndedStation<M, L, C, K>>
         requires { 1 ≤ patience }
         ensures made { MatchResult result
             (λ station. station ≡ opened (opened_with machine link clock recorder patience))
-            (λ unmade. unmade
-            ≡ record { machine = machine; link = link; clock = clock; recorder = recorder }) }
+            (λ ended. ended
+            ≡ left_by_station (opened (opened_with machine link clock recorder patience))) }
         ensures facts { IfOk result (λ station.
             Facts M.Machine L.Link C.Clock K.Recorder
             (opened_with machine link clock recorder patience) [] station) }
     {
         let Ok(inbox) = Inbox::new(alloc) else {
-            return Err(Unmade {
+            return Err(EndedStation {
                 machine,
                 link,
                 clock,
                 recorder,
+                end: StationEnd::NoMemory,
             });
         };
         Ok(Station {
@@ -156,12 +157,12 @@ impl<M: Machine, L: Link, C: Clock, K: Recorder> Station<M, L, C, K> {
     }
 
     // Keeps an end.
-    fn keep(&mut self, end: End) -> TurnEnd
-        ensures end { result ≡ TurnEnd.Ended end }
+    fn keep(&mut self, end: StationEnd) -> TurnAnswer
+        ensures end { result ≡ TurnAnswer.Ended end }
         ensures kept { self.new ≡ ended_with self.old end }
     {
         self.kept = Some(end);
-        TurnEnd::Ended(end)
+        TurnAnswer::Ended(end)
     }
 
     // Whether no turn is begun.
@@ -173,7 +174,7 @@ impl<M: Machine, L: Link, C: Clock, K: Recorder> Station<M, L, C, K> {
     }
 
     // Takes a turn that is begun: steps four to eight of `turn`.
-    fn go(&mut self, thread: u16, polls: bool) -> TurnEnd
+    fn go(&mut self, thread: u16, polls: bool) -> TurnAnswer
         requires thread { thread < M.thread_count self.old.machine }
         requires polls { polls ≡ M.polls_at self.old.machine thread }
         requires patience { self.old.quiet < self.old.patience }
@@ -187,7 +188,7 @@ impl<M: Machine, L: Link, C: Clock, K: Recorder> Station<M, L, C, K> {
         }) }
     {
         if self.inbox.make_room(self.alloc, polls).is_err() {
-            return self.keep(End::NoMemory);
+            return self.keep(StationEnd::NoMemory);
         }
         let now = self.clock.now();
         match self.inbox.ask(&mut self.link, polls) {
@@ -196,7 +197,7 @@ impl<M: Machine, L: Link, C: Clock, K: Recorder> Station<M, L, C, K> {
                 if !turned.changed {
                     self.idle = self.idle.saturating_add(1);
                     self.quiet += 1;
-                    return TurnEnd::Idle;
+                    return TurnAnswer::Idle;
                 }
                 let entry = Entry {
                     thread,
@@ -216,12 +217,12 @@ impl<M: Machine, L: Link, C: Clock, K: Recorder> Station<M, L, C, K> {
                 self.quiet = 0;
                 self.finish(&entry, turned.sends)
             }
-            Asked::Fault => self.keep(End::LinkFault),
+            Asked::Fault => self.keep(StationEnd::LinkFault),
         }
     }
 
     // Hands the entry of the last turn to the recorder, and then sends its datagrams.
-    fn finish(&mut self, entry: &Entry, sends: u8) -> TurnEnd
+    fn finish(&mut self, entry: &Entry, sends: u8) -> TurnAnswer
         requires full { ¬ IsJournalFull self.old.count }
         ensures { Finishes M.Machine L.Link K.Recorder entry.entry.now (record {
           sends = sends;
@@ -233,12 +234,12 @@ impl<M: Machine, L: Link, C: Clock, K: Recorder> Station<M, L, C, K> {
         self.count += 1;
         match record_entry(&mut self.recorder, entry, sends) {
             Wrote::Done => self.send(sends),
-            Wrote::Fault => self.keep(End::WriteFault),
+            Wrote::Fault => self.keep(StationEnd::WriteFault),
         }
     }
 
     // Sends the datagrams of the last turn.
-    fn send(&mut self, sends: u8) -> TurnEnd
+    fn send(&mut self, sends: u8) -> TurnAnswer
         ensures { SendsOn M.Machine L.Link (record {
           sends = sends;
           before = self.old;
@@ -247,8 +248,8 @@ impl<M: Machine, L: Link, C: Clock, K: Recorder> Station<M, L, C, K> {
         }) }
     {
         match send_outgoing(&self.machine, &mut self.link, sends) {
-            LinkAnswer::Done => TurnEnd::Went,
-            LinkAnswer::Failed => self.keep(End::LinkFault),
+            LinkAnswer::Done => TurnAnswer::Went,
+            LinkAnswer::Failed => self.keep(StationEnd::LinkFault),
         }
     }
 
@@ -265,7 +266,7 @@ impl<M: Machine, L: Link, C: Clock, K: Recorder> Station<M, L, C, K> {
     /// asked, and then machine and journal stay; or as a datagram was sent, and then neither this datagram nor those after it
     /// are sent. `WriteFault` comes only where the count of faults of the recorder's sink rose, or stands at its last
     /// value; then nothing of the turn is sent. Each end is kept.
-    pub fn turn(&mut self, thread: u16) -> TurnEnd
+    pub fn turn(&mut self, thread: u16) -> TurnAnswer
         requires { thread < M.thread_count self.old.machine }
         ensures facts { (opening : Opening M L C K) (journal : List EntryState)
             → Facts M.Machine L.Link C.Clock K.Recorder opening journal self.old
@@ -273,14 +274,14 @@ impl<M: Machine, L: Link, C: Clock, K: Recorder> Station<M, L, C, K> {
         ensures threads { M.thread_count self.new.machine ≡ M.thread_count self.old.machine }
         ensures count { CountsAtMostOne self.old.count self.new.count }
         ensures again { ForSome self.old.kept (λ end.
-            (result ≡ TurnEnd.Ended end) × (self.new ≡ self.old)) }
+            (result ≡ TurnAnswer.Ended end) × (self.new ≡ self.old)) }
         ensures spent { self.old.kept ≡ None → self.old.quiet ≡ self.old.patience
-            → let end = if M.is_over self.old.machine then End.Over else End.Stuck in
-            (result ≡ TurnEnd.Ended end) × (self.new ≡ ended_with self.old end) }
+            → let end = if M.is_over self.old.machine then StationEnd.Over else StationEnd.Stuck in
+            (result ≡ TurnAnswer.Ended end) × (self.new ≡ ended_with self.old end) }
         ensures full { self.old.kept ≡ None → self.old.quiet ≢ self.old.patience
             → IsJournalFull self.old.count
-            → (result ≡ TurnEnd.Ended End.JournalFull)
-            × (self.new ≡ ended_with self.old End.JournalFull) }
+            → (result ≡ TurnAnswer.Ended StationEnd.JournalFull)
+            × (self.new ≡ ended_with self.old StationEnd.JournalFull) }
         ensures goes { self.old.kept ≡ None → self.old.quiet ≢ self.old.patience
             → ¬ IsJournalFull self.old.count
             → GoesTurn M.Machine L.Link C.Clock K.Recorder (record {
@@ -291,16 +292,16 @@ impl<M: Machine, L: Link, C: Clock, K: Recorder> Station<M, L, C, K> {
             }) }
     {
         if let Some(end) = self.kept {
-            return TurnEnd::Ended(end);
+            return TurnAnswer::Ended(end);
         }
         if self.quiet >= self.patience {
             if self.machine.over() {
-                return self.keep(End::Over);
+                return self.keep(StationEnd::Over);
             }
-            return self.keep(End::Stuck);
+            return self.keep(StationEnd::Stuck);
         }
         if self.is_full() {
-            return self.keep(End::JournalFull);
+            return self.keep(StationEnd::JournalFull);
         }
         let polls = self.machine.polls(thread);
         self.go(thread, polls)

@@ -13,13 +13,12 @@ use Rattle.gas_outside.specs.declared.writing.Wrote.TheVariants as wrote
 use Rattle.gas_outside.proofs.Outboxes.{gathers_none}
 use Rattle.gas_endpoint.specs.EndpointState.{ForItsRecord}
 use Rattle.machine.specs.declared.entry.Entry.{Entry}
-use Rattle.endpoint_lock.specs.declared.ends.End.{End}
-use Rattle.endpoint_lock.specs.declared.ends.End.TheVariants as stations
-use Rattle.endpoint_lock.specs.declared.ends.Ended.{Ended}
+use Rattle.endpoint_lock.specs.declared.ends.StationEnd.{StationEnd}
+use Rattle.endpoint_lock.specs.declared.ends.StationEnd.TheVariants as stations
+use Rattle.endpoint_lock.specs.declared.ends.EndedStation.{EndedStation}
 use Rattle.station_run.specs.declared.node.Node.{Node}
-use Rattle.station_run.specs.declared.node.NodeRun.{NodeRun}
-use Rattle.station_run.specs.declared.node.Place.{Place}
 use Rattle.station_run.specs.NodeRuns.{IsUnopened, RunsStation, RunsOpen, RunsOver, WritesAt, tracing, whole_text}
+use Rattle.station_run.specs.NodeRuns.{written_end}
 use Rattle.node_machine.specs.Kept.{MachineKept}
 use Rattle.node_machine.specs.NodeState.{NodeStands, opening_state}
 use Rattle.text_lines.specs.LineTexts.{spell}
@@ -27,10 +26,10 @@ use Rattle.gasnet_trace.specs.TraceText.{head_text}
 use Rattle.node_call.specs.Seen.{ClockSeen, DevicesSeen, LinkSeen, clock_seen, devices_seen, link_seen, sieved}
 use Rattle.node_call.specs.Seen.{seen_clocks, seen_links, seen_recorders}
 use Rattle.node_call.specs.Sieved.{Datagrams}
-use Rattle.node_call.specs.NodeLeaves.{NodeLeaves, Post, has_noted, node_at, node_lines, node_machines, place_in_job}
+use Rattle.node_call.specs.NodeLeaves.{NodeLeaves, Post, has_noted, node_at, node_lines, node_machines}
 use Rattle.node_call.specs.NodeLeaves.{record_after}
-use Rattle.node_call.specs.NodeEnds.{EndsAt, EndsNode, EndsSo, EndsUnwritten, IsReadyNode, end_for, node_for, unmade}
-use Rattle.node_call.specs.declared.calling.NodeRan.{NodeRan}
+use Rattle.node_call.specs.NodeEnds.{EndsAt, EndsNode, EndsSo, EndsUnwritten, IsReadyNode, node_for, unmade}
+use Rattle.node_call.specs.declared.calling.EndedJobNode.{EndedJobNode}
 use Rattle.node_call.specs.declared.sieved.Sieved.{Sieved}
 use Rattle.node_call.proofs.Behind.{is_behind, is_first, sieved_links, told_first}
 use Rattle.node_call.proofs.Seeing.{left_seen, node_seen, see_runs, sink_seen}
@@ -38,7 +37,7 @@ use Rattle.node_call.proofs.Skipping.{runs_went, since, skip_runs}
 
 -- of a run that ended so, whether it noted a violation
 noted : (post : Post) (machine : MachineKept) (before : DevicesSeen) (opened : Outbox) (journal : List Entry)
-    (left : Ended MachineKept LinkSeen ClockSeen Outbox) (violated : Bool)
+    (left : EndedStation MachineKept LinkSeen ClockSeen Outbox) (violated : Bool)
     → NodeStands machine (opening_state post.job post.rank)
     → RunsOver node_machines seen_links seen_clocks seen_recorders (node_at post machine before) opened journal left
     → left.end ≡ stations.Over → ForItsRecord left.machine.endpoint (λ node. violated ≡ has_noted node)
@@ -50,15 +49,15 @@ noted post machine before opened journal left violated opens (inl bound) over h 
     (leaves.replay (opening_state post.job post.rank) opens).machine.node))
 noted post machine before opened journal left violated opens (inr unbound) over h =
     let fault : left.end ≡ stations.LinkFault =
-    ap (λ (e : Ended MachineKept LinkSeen ClockSeen Outbox). e.end) unbound.0.left_is in
+    ap (λ (e : EndedStation MachineKept LinkSeen ClockSeen Outbox). e.end) unbound.0.left_is in
     absurd (cc)
 
 module _ (post : Post) (before after : DevicesSeen) (journal : List Entry)
-    (left : Ended MachineKept LinkSeen ClockSeen Outbox) (old new : Outbox) (violated : Bool)
+    (left : EndedStation MachineKept LinkSeen ClockSeen Outbox) (old new : Outbox) (violated : Bool)
     (h : NodeLeaves post before after journal left)
     (begun : Gathers old h.opened (head_text post.job.settings.version post.job.settings.job post.rank))
     (said : ForItsRecord left.machine.endpoint (λ node. violated ≡ has_noted node)) where
-  abbrev ends_at : (end : End) → left.end ≡ end → Gathers old new (spell (node_lines post journal))
+  abbrev ends_at : (end : StationEnd) → left.end ≡ end → Gathers old new (spell (node_lines post journal))
       → EndsAt post before after end old new (Some left.machine.endpoint)
   ends_at end is went = record {
     run = record { left = left; journal = journal; leaves = h; end_is = is };
@@ -67,7 +66,7 @@ module _ (post : Post) (before after : DevicesSeen) (journal : List Entry)
     node_is = refl;
   }
 
-  unwritten : (end : End) → left.end ≡ end → end ≢ stations.NoMemory
+  unwritten : (end : StationEnd) → left.end ≡ end → end ≢ stations.NoMemory
       → GathersFront old new (spell (node_lines post journal)) → EndsUnwritten post before after old new None
   unwritten end is some went = record {
     how = inl
@@ -82,9 +81,9 @@ module _ (post : Post) (before after : DevicesSeen) (journal : List Entry)
   }
 
   -- how it ended
-  ends_by : (end : End) (written : Wrote) → left.end ≡ end → WritesAt (place_in_job post) journal old new end written
-      → EndsNode post before after old new (end_for end written violated)
-      (node_for (end_for end written violated) left.machine.endpoint)
+  ends_by : (end : StationEnd) (written : Wrote) → left.end ≡ end → WritesAt post.job.settings post.rank journal old new end written
+      → EndsNode post before after old new (written_end end written) violated
+      (node_for (written_end end written) left.machine.endpoint)
   ends_by stations.NoMemory written is went = record {
     how = inl
         (record {
@@ -130,14 +129,16 @@ module _ {L C K : Type 0} (l : LinkGhosts L) (c : ClockGhosts C) (k : SinkGhosts
       let link_is : link_seen (seen_of node) node.link ≡ sieved (link_seen l link) =
       ap some none ∙ ap inner (ap (λ (s : Sieving L). s.inner) ready.fresh.sieve_is) in
       let seen : Node MachineKept (Sieved L l) C → Node MachineKept LinkSeen ClockSeen = λ n. record {
-        place = n.place;
+        settings = n.settings;
+        address = n.address;
         machine = node.machine;
         link = link_seen (seen_of node) node.link;
         clock = clock_seen c n.clock;
         patience = n.patience;
       } in
       let over : LinkSeen → Node MachineKept LinkSeen ClockSeen = λ s. record {
-        place = place_in_job post;
+        settings = post.job.settings;
+        address = record { rank = post.rank; port = post.port };
         machine = node.machine;
         link = s;
         clock = clock_seen c clock;
@@ -147,7 +148,7 @@ module _ {L C K : Type 0} (l : LinkGhosts L) (c : ClockGhosts C) (k : SinkGhosts
 
   -- what is left, by what is seen of the devices
   abbrev node_leaves : (node : Node MachineKept (Sieved L l) C) (opened : Gathering K) (journal : List Entry)
-      (left : Ended MachineKept (Sieved L l) C (Gathering K))
+      (left : EndedStation MachineKept (Sieved L l) C (Gathering K))
       → IsReadyNode l post link clock node
       → RunsOver node_machines behind c (tracing k) node opened journal left
       → NodeLeaves post (devices_seen l c link clock) (devices_seen l c left.link.sieve.inner left.clock) journal
@@ -172,70 +173,68 @@ module _ {L C K : Type 0} (l : LinkGhosts L) (c : ClockGhosts C) (k : SinkGhosts
         clock = refl;
       }
 
-  place_is : (node : Node MachineKept (Sieved L l) C) → IsReadyNode l post link clock node
-      → node.place ≡ place_in_job post
-  place_is node ready = ap (λ (n : Node MachineKept (Sieved L l) C). n.place) ready.node_is
-
-  -- how the run of a node ended into whose sink the first lines of its trace went
-  ends_open : (node : Node MachineKept (Sieved L l) C) (run : NodeRun MachineKept (Sieved L l) C K) (ran : NodeRan L C K)
-      → IsReadyNode l post link clock node → RunsOpen node_machines behind c k node sink run
-      → EndsSo l run.left run.wrote ran
-      → EndsNode post (devices_seen l c link clock) (devices_seen l c ran.link ran.clock) (sink_seen k sink)
-      (sink_seen k ran.sink) ran.end ran.node
-  ends_open node run ran ready opens ends =
-      let so : EndsSo l (record opens.left { recorder = run.left.recorder }) run.wrote ran =
-      subst (λ (w : Ended MachineKept (Sieved L l) C (Gathering K)). EndsSo l w run.wrote ran) opens.left_is ends in
+  -- how a node ended into whose sink the first lines of its trace went
+  ends_open : (node : Node MachineKept (Sieved L l) C) (after : EndedStation MachineKept (Sieved L l) C (Gathering K))
+      (ended : EndedJobNode L C K)
+      → IsReadyNode l post link clock node → RunsOpen node_machines behind c k node sink after
+      → EndsSo l after ended
+      → EndsNode post (devices_seen l c link clock) (devices_seen l c ended.link ended.clock) (sink_seen k sink)
+      (sink_seen k ended.sink) ended.end ended.violated ended.node
+  ends_open node after ended ready opens ends =
       let left = opens.left in
-      let begun = subst (λ (p : Place).
-      Gathers (sink_seen k sink) (sink_seen k opens.opened) (head_text p.version p.job p.rank))
-      (place_is node ready) opens.head in
-      let went = subst (λ (p : Place).
-      WritesAt p opens.journal (sink_seen k sink) (sink_seen k run.left.recorder) left.end run.wrote)
-      (place_is node ready) opens.written in
+      let so : EndsSo l (record left { recorder = after.recorder; end = written_end left.end opens.wrote }) ended =
+      subst (λ (w : EndedStation MachineKept (Sieved L l) C (Gathering K)). EndsSo l w ended) opens.after_is ends in
+      let begun = subst (λ (n : Node MachineKept (Sieved L l) C).
+      Gathers (sink_seen k sink) (sink_seen k opens.opened)
+      (head_text n.settings.version n.settings.job n.address.rank))
+      ready.node_is opens.head in
+      let went = subst (λ (n : Node MachineKept (Sieved L l) C).
+      WritesAt n.settings n.address.rank opens.journal (sink_seen k sink) (sink_seen k after.recorder) left.end opens.wrote)
+      ready.node_is opens.written in
       let by = ends_by post (devices_seen l c link clock) (devices_seen l c left.link.sieve.inner left.clock) opens.journal
-      (left_seen (seen_of node) c k left) (sink_seen k sink) (sink_seen k run.left.recorder) so.violated
-      (node_leaves node opens.opened opens.journal left ready opens.ran) begun so.violated_is left.end run.wrote refl
+      (left_seen (seen_of node) c k left) (sink_seen k sink) (sink_seen k after.recorder) ended.violated
+      (node_leaves node opens.opened opens.journal left ready opens.ran) begun so.violated_is left.end opens.wrote refl
       went in
       rw (so.node_is, so.end_is, so.link, so.clock, so.sink) by
 
   -- the sink failed before
-  ends_unopened : (node : Node MachineKept (Sieved L l) C) (run : NodeRun MachineKept (Sieved L l) C K)
-      (ran : NodeRan L C K)
-      → IsReadyNode l post link clock node → IsUnopened k node sink run → EndsSo l run.left run.wrote ran
-      → EndsNode post (devices_seen l c link clock) (devices_seen l c ran.link ran.clock) (sink_seen k sink)
-      (sink_seen k ran.sink) ran.end ran.node
-  ends_unopened node run ran ready un ends =
+  ends_unopened : (node : Node MachineKept (Sieved L l) C)
+      (after : EndedStation MachineKept (Sieved L l) C (Gathering K)) (ended : EndedJobNode L C K)
+      → IsReadyNode l post link clock node → IsUnopened k node sink after → EndsSo l after ended
+      → EndsNode post (devices_seen l c link clock) (devices_seen l c ended.link ended.clock) (sink_seen k sink)
+      (sink_seen k ended.sink) ended.end ended.violated ended.node
+  ends_unopened node after ended ready un ends =
       let so : EndsSo l (record {
         machine = node.machine;
         link = node.link;
         clock = node.clock;
-        recorder = run.left.recorder;
+        recorder = after.recorder;
         end = stations.WriteFault;
-      }) run.wrote ran =
-      subst (λ (w : Ended MachineKept (Sieved L l) C (Gathering K)). EndsSo l w run.wrote ran) un.left_is ends in
-      let link_is : ran.link ≡ link =
+      }) ended =
+      subst (λ (w : EndedStation MachineKept (Sieved L l) C (Gathering K)). EndsSo l w ended) un.after_is ends in
+      let link_is : ended.link ≡ link =
       so.link ∙ ap (λ (s : Sieving L). s.inner) ready.fresh.sieve_is in
-      let clock_is : ran.clock ≡ clock =
+      let clock_is : ended.clock ≡ clock =
       so.clock ∙ ap (λ (n : Node MachineKept (Sieved L l) C). n.clock) ready.node_is in
-      let went = subst (λ (p : Place).
-      GathersFront (sink_seen k sink) (sink_seen k run.left.recorder) (whole_text p []))
-      (place_is node ready) un.written in
+      let went = subst (λ (n : Node MachineKept (Sieved L l) C).
+      GathersFront (sink_seen k sink) (sink_seen k after.recorder) (whole_text n.settings n.address.rank []))
+      ready.node_is un.written in
       rw (so.node_is, so.end_is, link_is, clock_is, so.sink)
       (record { how = inr (record { kept = refl; written = went }); no_node = refl })
 
-  -- how the run of a node ended that was ready
-  pub ends_node : (node : Node MachineKept (Sieved L l) C) (run : NodeRun MachineKept (Sieved L l) C K)
-      (ran : NodeRan L C K)
-      → IsReadyNode l post link clock node → RunsStation node_machines behind c k node sink run
-      → EndsSo l run.left run.wrote ran
-      → EndsNode post (devices_seen l c link clock) (devices_seen l c ran.link ran.clock) (sink_seen k sink)
-      (sink_seen k ran.sink) ran.end ran.node
-  ends_node node run ran ready (inl opens) so = ends_open node run ran ready opens so
-  ends_node node run ran ready (inr un) so = ends_unopened node run ran ready un so
+  -- how a node ended that was ready
+  pub ends_node : (node : Node MachineKept (Sieved L l) C)
+      (after : EndedStation MachineKept (Sieved L l) C (Gathering K)) (ended : EndedJobNode L C K)
+      → IsReadyNode l post link clock node → RunsStation node_machines behind c k node sink after
+      → EndsSo l after ended
+      → EndsNode post (devices_seen l c link clock) (devices_seen l c ended.link ended.clock) (sink_seen k sink)
+      (sink_seen k ended.sink) ended.end ended.violated ended.node
+  ends_node node after ended ready (inl opens) so = ends_open node after ended ready opens so
+  ends_node node after ended ready (inr un) so = ends_unopened node after ended ready un so
 
   -- nothing was done
-  pub ends_unmade : (ran : NodeRan L C K) → ran ≡ unmade link clock sink
-      → EndsNode post (devices_seen l c link clock) (devices_seen l c ran.link ran.clock) (sink_seen k sink)
-      (sink_seen k ran.sink) ran.end ran.node
-  ends_unmade ran is =
+  pub ends_unmade : (ended : EndedJobNode L C K) → ended ≡ unmade link clock sink
+      → EndsNode post (devices_seen l c link clock) (devices_seen l c ended.link ended.clock) (sink_seen k sink)
+      (sink_seen k ended.sink) ended.end ended.violated ended.node
+  ends_unmade ended is =
       rw is (record { how = inr (record { kept = refl; written = gathers_none (sink_seen k sink) }); no_node = refl })

@@ -6,7 +6,7 @@ use Rattle.gas_outside.specs.declared.sink.Sink.{Ghosts as SinkGhosts}
 use Rattle.gas_outside.specs.declared.clock.Clock.{Ghosts as ClockGhosts}
 use Rattle.machine.specs.declared.entry.Entry.{Entry}
 use Rattle.machine.specs.declared.turns.Machine.{Ghosts as MachineGhosts}
-use Rattle.endpoint_lock.specs.declared.ends.Ended.{Ended}
+use Rattle.endpoint_lock.specs.declared.ends.EndedStation.{EndedStation}
 use Rattle.endpoint_lock.specs.Leaving.{StationLeaves, LeavesReplay}
 use Rattle.endpoint_lock.specs.StationState.{Opening}
 use Rattle.station_run.specs.declared.node.Node.{Node}
@@ -17,7 +17,8 @@ use Rattle.node_call.specs.Seen.{seen_recorders}
 -- a node, its opening and what it leaves, of which this is seen
 abbrev pub node_seen : {M L C : Type 0} → LinkGhosts L → ClockGhosts C → Node M L C → Node M LinkSeen ClockSeen
 node_seen l c node = record {
-  place = node.place;
+  settings = node.settings;
+  address = node.address;
   machine = node.machine;
   link = link_seen l node.link;
   clock = clock_seen c node.clock;
@@ -38,7 +39,7 @@ opening_seen l c k opening = record {
 }
 
 abbrev pub left_seen : {M L C K : Type 0} → LinkGhosts L → ClockGhosts C → SinkGhosts K
-    → Ended M L C (Gathering K) → Ended M LinkSeen ClockSeen Outbox
+    → EndedStation M L C (Gathering K) → EndedStation M LinkSeen ClockSeen Outbox
 left_seen l c k left = record {
   machine = left.machine;
   link = link_seen l left.link;
@@ -49,7 +50,7 @@ left_seen l c k left = record {
 
 module _ {M L C K : Type 0} (m : MachineGhosts M) (l : LinkGhosts L) (c : ClockGhosts C) (k : SinkGhosts K) where
   see_replay : (opening : Opening M L C (Gathering K)) (state : m.State) (journal : List Entry)
-      (left : Ended M L C (Gathering K))
+      (left : EndedStation M L C (Gathering K))
       → LeavesReplay m l c (tracing k) opening state journal left
       → LeavesReplay m seen_links seen_clocks seen_recorders (opening_seen l c k opening) state journal
       (left_seen l c k left)
@@ -69,7 +70,7 @@ module _ {M L C K : Type 0} (m : MachineGhosts M) (l : LinkGhosts L) (c : ClockG
     last = h.last;
   }
 
-  abbrev see_leaves : (opening : Opening M L C (Gathering K)) (left : Ended M L C (Gathering K))
+  abbrev see_leaves : (opening : Opening M L C (Gathering K)) (left : EndedStation M L C (Gathering K))
       → StationLeaves m l c (tracing k) opening left
       → StationLeaves m seen_links seen_clocks seen_recorders (opening_seen l c k opening) (left_seen l c k left)
   see_leaves opening left h = record {
@@ -90,7 +91,7 @@ module _ {M L C K : Type 0} (m : MachineGhosts M) (l : LinkGhosts L) (c : ClockG
     full = h.full;
   }
 
-  abbrev see_bound : (node : Node M L C) (opened : Gathering K) (left : Ended M L C (Gathering K))
+  abbrev see_bound : (node : Node M L C) (opened : Gathering K) (left : EndedStation M L C (Gathering K))
       → RunsBound m l c (tracing k) node opened left
       → RunsBound m seen_links seen_clocks seen_recorders (node_seen l c node) (sink_seen k opened)
       (left_seen l c k left)
@@ -102,7 +103,7 @@ module _ {M L C K : Type 0} (m : MachineGhosts M) (l : LinkGhosts L) (c : ClockG
     leaves = see_leaves (opening_over h.link opened node) left h.leaves;
   }
 
-  see_unbound : (node : Node M L C) (opened : Gathering K) (left : Ended M L C (Gathering K))
+  see_unbound : (node : Node M L C) (opened : Gathering K) (left : EndedStation M L C (Gathering K))
       → IsUnbound l node opened left
       → IsUnbound seen_links (node_seen l c node) (sink_seen k opened) (left_seen l c k left)
   see_unbound node opened left h = record {
@@ -113,7 +114,7 @@ module _ {M L C K : Type 0} (m : MachineGhosts M) (l : LinkGhosts L) (c : ClockG
   }
 
   -- the run of a node, by what is seen
-  pub see_runs : (node : Node M L C) (opened : Gathering K) (journal : List Entry) (left : Ended M L C (Gathering K))
+  pub see_runs : (node : Node M L C) (opened : Gathering K) (journal : List Entry) (left : EndedStation M L C (Gathering K))
       → RunsOver m l c (tracing k) node opened journal left
       → RunsOver m seen_links seen_clocks seen_recorders (node_seen l c node) (sink_seen k opened) journal
       (left_seen l c k left)

@@ -9,9 +9,9 @@ use Rattle.gas_outside.specs.declared.clock.Clock.{Ghosts as ClockGhosts}
 use Rattle.gas_outside.proofs.SievePlans.{and_all-nil}
 use Rattle.machine.specs.declared.entry.Entry.{Entry}
 use Rattle.machine.specs.declared.turns.Machine.{Ghosts as MachineGhosts}
-use Rattle.endpoint_lock.specs.declared.ends.End.{End}
-use Rattle.endpoint_lock.specs.declared.ends.End.TheVariants.{Over, Stuck, LinkFault, WriteFault, JournalFull, NoMemory}
-use Rattle.endpoint_lock.specs.declared.ends.Ended.{Ended}
+use Rattle.endpoint_lock.specs.declared.ends.StationEnd.{StationEnd}
+use Rattle.endpoint_lock.specs.declared.ends.StationEnd.TheVariants.{Over, Stuck, LinkFault, WriteFault, JournalFull, NoMemory}
+use Rattle.endpoint_lock.specs.declared.ends.EndedStation.{EndedStation}
 use Rattle.endpoint_lock.specs.declared.recorder.Recorder.{Ghosts as RecorderGhosts}
 use Rattle.endpoint_lock.specs.Facts.{Ahead, SentShort, WentOn}
 use Rattle.endpoint_lock.specs.Leaving.{IsShort, StationLeaves, LeavesReplay}
@@ -41,7 +41,7 @@ module _ {M L C D : Type 0} (m : MachineGhosts M) (l : LinkGhosts L) (c : ClockG
   skip_short state first journal link was h =
       (h.0, h.1, h.2, h.3, h.4, h.5, skip_went told _ (l.sent first) (l.sent link) was h.6)
 
-  skip_replay : (opening : Opening M L C D) (state : m.State) (journal : List Entry) (left : Ended M L C D)
+  skip_replay : (opening : Opening M L C D) (state : m.State) (journal : List Entry) (left : EndedStation M L C D)
       → l.sent opening.link ≡ Some told → LeavesReplay m l c d opening state journal left
       → LeavesReplay m (since told l) c d opening state journal left
   skip_replay opening state journal left was h = record {
@@ -60,7 +60,7 @@ module _ {M L C D : Type 0} (m : MachineGhosts M) (l : LinkGhosts L) (c : ClockG
     last = h.last;
   }
 
-  abbrev skip_leaves : (opening : Opening M L C D) (left : Ended M L C D) → l.sent opening.link ≡ Some told
+  abbrev skip_leaves : (opening : Opening M L C D) (left : EndedStation M L C D) → l.sent opening.link ≡ Some told
       → StationLeaves m l c d opening left → StationLeaves m (since told l) c d opening left
   skip_leaves opening left was h = record {
     journal = h.journal;
@@ -80,7 +80,7 @@ module _ {M L C D : Type 0} (m : MachineGhosts M) (l : LinkGhosts L) (c : ClockG
     full = h.full;
   }
 
-  abbrev skip_bound : (node : Node M L C) (opened : D) (left : Ended M L C D) → l.sent node.link ≡ Some told
+  abbrev skip_bound : (node : Node M L C) (opened : D) (left : EndedStation M L C D) → l.sent node.link ≡ Some told
       → RunsBound m l c d node opened left → RunsBound m (since told l) c d node opened left
   skip_bound node opened left was h = record {
     link = h.link;
@@ -94,7 +94,7 @@ module _ {M L C D : Type 0} (m : MachineGhosts M) (l : LinkGhosts L) (c : ClockG
     leaves = skip_leaves (opening_over h.link opened node) left (h.same.sent ∙ was) h.leaves;
   }
 
-  skip_unbound : (node : Node M L C) (opened : D) (left : Ended M L C D) → IsUnbound l node opened left
+  skip_unbound : (node : Node M L C) (opened : D) (left : EndedStation M L C D) → IsUnbound l node opened left
       → IsUnbound (since told l) node opened left
   skip_unbound node opened left h = record {
     bound = h.bound;
@@ -108,7 +108,7 @@ module _ {M L C D : Type 0} (m : MachineGhosts M) (l : LinkGhosts L) (c : ClockG
   }
 
   -- the run, by what was told since it began
-  pub skip_runs : (node : Node M L C) (opened : D) (journal : List Entry) (left : Ended M L C D)
+  pub skip_runs : (node : Node M L C) (opened : D) (journal : List Entry) (left : EndedStation M L C D)
       → l.sent node.link ≡ Some told → RunsOver m l c d node opened journal left
       → RunsOver m (since told l) c d node opened journal left
   skip_runs node opened journal left was (inl bound) = inl (skip_bound node opened left was bound.0, bound.1)
@@ -116,7 +116,7 @@ module _ {M L C D : Type 0} (m : MachineGhosts M) (l : LinkGhosts L) (c : ClockG
 
   -- ---- what was sent in it
 
-  short_or_long : (end : End) → IsShort end ⊎ (IsShort end → ⊥)
+  short_or_long : (end : StationEnd) → IsShort end ⊎ (IsShort end → ⊥)
   short_or_long LinkFault = inl (inl refl)
   short_or_long WriteFault = inl (inr refl)
   short_or_long Over = inr (λ short. elim short [ inl e ↦ absurd (cc e) | inr e ↦ absurd (cc e) ])
@@ -127,14 +127,14 @@ module _ {M L C D : Type 0} (m : MachineGhosts M) (l : LinkGhosts L) (c : ClockG
   abbrev WentOnBySome : Option Datagrams → Option Datagrams → Type 0
   WentOnBySome before now = (more : Datagrams) × WentOn before more now
 
-  replay_went : (opening : Opening M L C D) (state : m.State) (journal : List Entry) (left : Ended M L C D)
+  replay_went : (opening : Opening M L C D) (state : m.State) (journal : List Entry) (left : EndedStation M L C D)
       → IsShort left.end ⊎ (IsShort left.end → ⊥) → LeavesReplay m l c d opening state journal left
       → WentOnBySome (l.sent opening.link) (l.sent left.link)
   replay_went opening state journal left (inl short) h = let some = h.sent_short short in (_, some.6)
   replay_went opening state journal left (inr long) h = (_, h.sent long)
 
   -- the link went on by some datagrams
-  pub runs_went : (node : Node M L C) (opened : D) (journal : List Entry) (left : Ended M L C D) (state : m.State)
+  pub runs_went : (node : Node M L C) (opened : D) (journal : List Entry) (left : EndedStation M L C D) (state : m.State)
       → m.stands node.machine state → RunsOver m l c d node opened journal left
       → WentOnBySome (l.sent node.link) (l.sent left.link)
   runs_went node opened journal left state stood (inl bound) =

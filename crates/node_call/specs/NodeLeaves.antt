@@ -9,11 +9,10 @@ use Rattle.handler_rules.specs.LogState.{log_of}
 use Rattle.node_record.specs.Record.{Node as Record}
 use Rattle.endpoint_rules.specs.EndpointLocal.{EndpointLocal}
 use Rattle.job_text.specs.declared.job.Job.{Job as JobState}
-use Rattle.endpoint_lock.specs.declared.ends.Ended.{Ended}
+use Rattle.endpoint_lock.specs.declared.ends.EndedStation.{EndedStation}
 use Rattle.text_lines.specs.LineTexts.{Line}
 use Rattle.gasnet_trace.specs.TraceText.{trace_lines}
 use Rattle.station_run.specs.declared.node.Node.{Node}
-use Rattle.station_run.specs.declared.node.Place.{Place}
 use Rattle.station_run.specs.NodeRuns.{RunsOver, open_lines, trace_of}
 use Rattle.node_machine.specs.Kept.{MachineKept, are_done, polls_at}
 use Rattle.node_machine.specs.NodeState.{NodeState, NodeStands, after_turn, opening_state, polls_in, sent, state_steps}
@@ -44,20 +43,11 @@ node_machines = record {
   sent = sent;
 }
 
--- its place in the job, and the version of its trace's text
-abbrev pub place_in_job : Post → Place
-place_in_job post = record {
-  version = post.job.settings.version;
-  job = post.job.settings.job;
-  rank = post.rank;
-  nodes = post.job.settings.nodes;
-  port = post.port;
-}
-
 -- the node before it runs, with this machine, over these devices
 abbrev pub node_at : Post → MachineKept → DevicesSeen → Node MachineKept LinkSeen ClockSeen
 node_at post machine devices = record {
-  place = place_in_job post;
+  settings = post.job.settings;
+  address = record { rank = post.rank; port = post.port };
   machine = machine;
   link = sieved devices.link;
   clock = devices.clock;
@@ -66,7 +56,7 @@ node_at post machine devices = record {
 
 -- what the node's threads left after the turns of a journal, with its devices before and after
 pub record NodeLeaves (post : Post) (before after : DevicesSeen) (journal : List Entry)
-    (left : Ended MachineKept LinkSeen ClockSeen Outbox) : Type 0 where
+    (left : EndedStation MachineKept LinkSeen ClockSeen Outbox) : Type 0 where
   -- it began with a machine that stands for the node before all turns
   pub machine : MachineKept
   pub opens : NodeStands machine (opening_state post.job post.rank)
@@ -90,8 +80,8 @@ has_noted node = not ((log_of node.local.core.violations).count == 0)
 
 -- the lines of the node's trace
 abbrev pub node_lines : Post → List Entry → List Line
-node_lines post journal = trace_lines post.job.settings.version (trace_of (place_in_job post) journal)
+node_lines post journal = trace_lines post.job.settings.version (trace_of post.job.settings post.rank journal)
 
 -- the same without the last one
 abbrev pub node_open : Post → List Entry → List Line
-node_open post journal = open_lines (place_in_job post) journal
+node_open post journal = open_lines post.job.settings post.rank journal

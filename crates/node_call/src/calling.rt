@@ -3,68 +3,41 @@
 ghost use Rattle.std.specs.Prelude.{◌≡◌, ◌<◌, MatchResult};
 ghost use Rattle.gas_outside.specs.Buffered.{outbox};
 ghost use Rattle.job_text.specs.JobText.{IsJob};
-ghost use Rattle.node_call.specs.NodeEnds.{EndsNode, EndsSo, IsReadyNode, end_for, node_for, unmade};
+ghost use Rattle.node_call.specs.NodeEnds.{EndsNode, EndsSo, IsReadyNode, node_for, unmade};
 ghost use Rattle.node_call.specs.NodeLeaves.{post_of};
 ghost use Rattle.node_call.specs.Seen.{devices_seen};
 
 use crate::sieved::Sieved;
-use endpoint_lock::{End, Ended};
+use endpoint_lock::{EndedStation, StationEnd};
 use gas_endpoint::Endpoint;
-use gas_outside::{BufferedSink, Clock, Link, Sink, Waiter, Wrote};
+use gas_outside::{BufferedSink, Clock, Link, Sink, Waiter};
 use node_machine::NodeMachine;
 use node_script::Script;
-use station_run::{Node, NodeRun, Place, run_node};
+use station_run::{Node, NodeAddress, TraceSink, run_node};
 use std::alloc::Global;
 use std::sync::Wait;
 use std::thread::Threads;
 
-/// Which node of which job it is.
-#[derive(Clone, Copy)]
-pub struct NodeOf<'a> {
-    /// The job.
-    pub job: &'a Script,
-    /// The number of the node.
-    pub rank: u16,
-    /// The port of rank 0.
-    pub port: u16,
-}
-
 /// What a node runs over.
 #[derive(Drop)]
-pub struct Devices<'g, L, C, G> {
+pub struct Devices<'g, L, C, K: Sink, G> {
     /// Its link, which isn't bound yet.
     pub link: L,
     /// Its clock.
     pub clock: C,
+    /// The sink of its trace.
+    pub sink: BufferedSink<K>,
     /// The waiter that its threads pass before each turn.
     pub waiter: &'g G,
 }
 
-/// How the run of a node ended.
-#[derive(Clone, Copy)]
-pub enum NodeEnd {
-    /// As many quiet turns as the job's patience says came in a row, and all scripts are over.
-    Over {
-        /// Whether the node noted a violation.
-        violated: bool,
-    },
-    /// As many quiet turns came in a row, and some script isn't over.
-    Stuck,
-    /// The link failed.
-    LinkFault,
-    /// The journal is full: it has 4,294,967,295 entries.
-    JournalFull,
-    /// Memory ran out.
-    NoMemory,
-    /// The sink failed.
-    WriteFault,
-}
-
-/// A node of a job that ran.
+/// What is left of a node of a job whose run ended.
 #[derive(Drop)]
-pub struct NodeRan<L, C, K: Sink> {
-    /// How its run ended.
-    pub end: NodeEnd,
+pub struct EndedJobNode<L, C, K: Sink> {
+    /// How its turns ended; `WriteFault` too where the last line of its trace couldn't be written.
+    pub end: StationEnd,
+    /// Whether it noted a violation; false where there was no memory to make it.
+    pub violated: bool,
     /// The node after its turns; there is one but after `NoMemory` and `WriteFault`.
     pub node: Option<Endpoint>,
     /// Its link.
@@ -75,43 +48,27 @@ pub struct NodeRan<L, C, K: Sink> {
     pub sink: BufferedSink<K>,
 }
 
-impl NodeEnd {
-    /// The end of a run, by that of its station, by whether its trace was written, and by whether the node noted a
-    /// violation.
-    fn of(end: End, written: Wrote, violated: bool) -> NodeEnd
-        ensures { result ≡ end_for end written violated }
-    {
-        match (end, written) {
-            (End::NoMemory, _) => NodeEnd::NoMemory,
-            (End::WriteFault, _) | (_, Wrote::Fault) => NodeEnd::WriteFault,
-            (End::Over, Wrote::Done) => NodeEnd::Over { violated },
-            (End::Stuck, Wrote::Done) => NodeEnd::Stuck,
-            (End::LinkFault, Wrote::Done) => NodeEnd::LinkFault,
-            (End::JournalFull, Wrote::Done) => NodeEnd::JournalFull,
+/// The node that is given after this end, where one is.
+fn node_for(end: StationEnd, endpoint: Endpoint) -> Option<Endpoint>
+    ensures { result ≡ node_for end endpoint }
+{
+    match end {
+        StationEnd::NoMemory | StationEnd::WriteFault => {
+            drop(endpoint);
+            None
         }
-    }
-
-    /// The node, where one is left.
-    fn node(self, endpoint: Endpoint) -> Option<Endpoint>
-        ensures { result ≡ node_for self endpoint }
-    {
-        match self {
-            NodeEnd::NoMemory | NodeEnd::WriteFault => {
-                drop(endpoint);
-                None
-            }
-            _ => Some(endpoint),
-        }
+        _ => Some(endpoint),
     }
 }
 
-impl<L, C, K: Sink> NodeRan<L, C, K> {
+impl<L, C, K: Sink> EndedJobNode<L, C, K> {
     /// Nothing was done, for want of memory.
-    fn unmade(link: L, clock: C, sink: BufferedSink<K>) -> NodeRan<L, C, K>
+    fn unmade(link: L, clock: C, sink: BufferedSink<K>) -> EndedJobNode<L, C, K>
         ensures { result ≡ unmade link clock sink }
     {
-        NodeRan {
-            end: NodeEnd::NoMemory,
+        EndedJobNode {
+            end: StationEnd::NoMemory,
+            violated: false,
             node: None,
             link,
             clock,
@@ -123,31 +80,24 @@ impl<L, C, K: Sink> NodeRan<L, C, K> {
 /// A node with its machine, over a link behind its job's sieve; or link and clock, for want of memory.
 fn ready<'a, L: Link, C>(
     alloc: Global,
-    node: NodeOf<'a>,
+    job: &'a Script,
+    address: NodeAddress,
     link: L,
     clock: C,
 ) -> Result<Node<NodeMachine<'a>, Sieved<L>, C>, (L, C)>
-    requires job { IsJob node.job.now }
-    requires rank { node.rank < node.job.now.settings.nodes }
+    requires job { IsJob job.now }
+    requires rank { address.rank < job.now.settings.nodes }
     ensures { MatchResult result
-        (IsReadyNode L.Link (post_of node.entry.job.now node.entry.rank node.entry.port) link clock)
+        (IsReadyNode L.Link (post_of job.now address.rank address.port) link clock)
         (λ devices. devices ≡ (link, clock)) }
 {
-    let NodeOf { job, rank, port } = node;
-    let settings = job.settings();
-    let place = Place {
-        version: settings.version(),
-        job: settings.job(),
-        rank,
-        nodes: settings.nodes(),
-        port,
-    };
-    let Ok(machine) = NodeMachine::new(alloc, job, rank) else {
+    let Ok(machine) = NodeMachine::new(alloc, job, address.rank) else {
         return Err((link, clock));
     };
     match Sieved::new(alloc, link, job.sieve()) {
         Ok(link) => Ok(Node {
-            place,
+            settings: *job.settings(),
+            address,
             machine,
             link,
             clock,
@@ -160,12 +110,13 @@ fn ready<'a, L: Link, C>(
     }
 }
 
-/// What is left of the run of a node.
-fn ran<L: Link, C, K: Sink>(run: NodeRun<NodeMachine<'_>, Sieved<L>, C, K>) -> NodeRan<L, C, K>
-    ensures { EndsSo L.Link run.entry.left run.entry.wrote result }
+/// What is left of a node, by what its threads left.
+fn ended_node<L: Link, C, K: Sink>(
+    left: EndedStation<NodeMachine<'_>, Sieved<L>, C, TraceSink<K>>,
+) -> EndedJobNode<L, C, K>
+    ensures { EndsSo L.Link left.entry result }
 {
-    let NodeRun { left, wrote } = run;
-    let Ended {
+    let EndedStation {
         machine,
         link,
         clock,
@@ -174,10 +125,10 @@ fn ran<L: Link, C, K: Sink>(run: NodeRun<NodeMachine<'_>, Sieved<L>, C, K>) -> N
     } = left;
     let endpoint = machine.into_endpoint();
     let violated = endpoint.log().count() != 0;
-    let end = NodeEnd::of(end, wrote, violated);
-    NodeRan {
+    EndedJobNode {
         end,
-        node: end.node(endpoint),
+        violated,
+        node: node_for(end, endpoint),
         link: link.into_inner(),
         clock,
         sink: recorder.into_sink(),
@@ -204,25 +155,26 @@ pub fn run_job_node<
 >(
     rt: &R,
     alloc: Global,
-    node: NodeOf<'_>,
-    devices: Devices<'_, L, C, G>,
-    sink: BufferedSink<K>,
-) -> NodeRan<L, C, K>
-    requires job { IsJob node.job.now }
-    requires rank { node.rank < node.job.now.settings.nodes }
-    ensures { EndsNode (post_of node.entry.job.now node.entry.rank node.entry.port)
+    job: &Script,
+    address: NodeAddress,
+    devices: Devices<'_, L, C, K, G>,
+) -> EndedJobNode<L, C, K>
+    requires job { IsJob job.now }
+    requires rank { address.rank < job.now.settings.nodes }
+    ensures { EndsNode (post_of job.now address.rank address.port)
         (devices_seen L.Link C.Clock devices.entry.link devices.entry.clock)
         (devices_seen L.Link C.Clock result.link result.clock)
-        (outbox K.taken K.faults sink) (outbox K.taken K.faults result.sink)
-        result.end result.node }
+        (outbox K.taken K.faults devices.entry.sink) (outbox K.taken K.faults result.sink)
+        result.end result.violated result.node }
 {
     let Devices {
         link,
         clock,
+        sink,
         waiter,
     } = devices;
-    match ready(alloc, node, link, clock) {
-        Ok(node) => ran(run_node(rt, alloc, node, waiter, sink)),
-        Err((link, clock)) => NodeRan::unmade(link, clock, sink),
+    match ready(alloc, job, address, link, clock) {
+        Ok(node) => ended_node(run_node(rt, alloc, node, waiter, sink)),
+        Err((link, clock)) => EndedJobNode::unmade(link, clock, sink),
     }
 }

@@ -5,7 +5,7 @@
 //! - `run_job_node` [`EndsNode`]: the end, what the node is then, and what was written. By what is seen of link and
 //!   clock before and after (`LinkSeen`, `ClockSeen`), the node's threads left what `RunsOver` of `station_run` says
 //!   (`NodeLeaves`): there is a journal, and the machine stands for its replay from the node's opening (`opening_state`
-//!   of `node_machine`); the link was bound to the node's place; where it tells them, the datagrams received are the
+//!   of `node_machine`); the link was bound to the node's address; where it tells them, the datagrams received are the
 //!   journal's; and each end has its cause. Or the link failed as it was to be bound; then nothing was done, and the end
 //!   is `LinkFault`.
 //! - What was handed to the job's sieve are the datagrams of the replay, with `LinkFault` and `WriteFault` without those
@@ -22,4 +22,4 @@ mod calling;
 mod handed;
 mod sieved;
 
-pub use calling::{Devices, NodeEnd, NodeOf, NodeRan, run_job_node};
+pub use calling::{Devices, EndedJobNode, run_job_node};

@@ -43,7 +43,7 @@ use Rattle.node_machine.specs.Kept.{MachineKept, progress_or_none, own_scripts, 
 use Rattle.node_machine.specs.Kept.{IsMachine}
 use Rattle.node_machine.specs.NodeState.{NodeState, state_of, script_job, after_turn, turned, datagram_at, as_there}
 use Rattle.node_machine.specs.NodeState.{NodeStands}
-use Rattle.node_machine.specs.Turns.{slots_sent, job_of_endpoint, TurnTaken, turn_by, is_changed, GoesAsTurn, TakesTurn}
+use Rattle.node_machine.specs.Turns.{job_of_endpoint, TurnTaken, turn_by, is_changed, GoesAsTurn, TakesTurn}
 use Rattle.node_machine.specs.declared.turn.Done.{Done}
 
 -- ---- scripts
@@ -159,7 +159,7 @@ own_then it T state S =
 -- a turn that changed something
 pub changed_stands : (it : Turning) → IsTurning it → (state : NodeState) → NodeStands it.machine state
     → is_changed it.taken it.done ≡ true
-    → NodeStands (machine_with it (slots_sent it.done.outgoing) it.done.ended)
+    → NodeStands (machine_with it it.done.outgoing it.done.ended)
     (after_turn state it.taken.thread it.taken.now it.taken.got)
 changed_stands it T state S changed =
     let F = facts_of it T state S in
@@ -172,7 +172,7 @@ changed_stands it T state S changed =
       node = F.node;
       own_is = own_then it T state S;
       outgoing_is = ap₂ (λ (text : JobState) (me : ℕ).
-          map (datagram_at text.settings me next.after.node) (slots_sent it.done.outgoing))
+          map (datagram_at text.settings me next.after.node) it.done.outgoing)
           (sym S.job_is) (sym (me_then it T state S))
           ∙ (F.goes.sent
           ∙ ap (map as_there) (sym (ap (λ (b : Bool).
@@ -204,10 +204,10 @@ pub record IsQuiet (taken : TurnTaken) (done : Done) : Type 0 where
 
 pub quiet_is : (taken : TurnTaken) (done : Done) → is_changed taken done ≡ false → IsQuiet taken done
 quiet_is taken done quiet =
-    let a = or_parts (is_some taken.got || is_some_there (slots_sent done.outgoing) || is_some done.ended) done.began
+    let a = or_parts (is_some taken.got || is_some_there done.outgoing || is_some done.ended) done.began
     quiet in
-    let b = or_parts (is_some taken.got || is_some_there (slots_sent done.outgoing)) (is_some done.ended) a.0 in
-    let c = or_parts (is_some taken.got) (is_some_there (slots_sent done.outgoing)) b.0 in
+    let b = or_parts (is_some taken.got || is_some_there done.outgoing) (is_some done.ended) a.0 in
+    let c = or_parts (is_some taken.got) (is_some_there done.outgoing) b.0 in
     record { got = none_got taken.got c.0; ended = b.1 }
 
 -- what a turn told
@@ -216,7 +216,7 @@ pub told_is : (it : Turning) → IsTurning it → (state : NodeState) → NodeSt
     ≡ record {
       changed = is_changed it.taken it.done;
       stepped = is_some it.done.ended;
-      sends = cond (is_changed it.taken it.done) (length (slots_sent it.done.outgoing)) 0;
+      sends = cond (is_changed it.taken it.done) (length it.done.outgoing) 0;
     }
 told_is it T state S =
     let F = facts_of it T state S in
@@ -465,14 +465,14 @@ told_quiet old taken done new M quiet state S =
     ∙ ap₂ (λ (changed stepped : Bool). record {
       changed = changed;
       stepped = stepped;
-      sends = cond changed (length (slots_sent done.outgoing)) 0;
+      sends = cond changed (length done.outgoing) 0;
     }) quiet (quiet_is taken done quiet).ended)
 
 -- what is told of another turn
 pub told_changed : (old : MachineKept) (taken : TurnTaken) (done : Done) (new : MachineKept) (stepped : Bool)
     (count : ℕ)
     → MachineTakes old taken done new → is_changed taken done ≡ true → stepped ≡ is_some done.ended
-    → count ≡ length (slots_sent done.outgoing) → (state : NodeState) → NodeStands old state
+    → count ≡ length done.outgoing → (state : NodeState) → NodeStands old state
     → ◌≡◌ {A = Turned} (record { changed = true; stepped = stepped; sends = count })
     (turned state taken.thread taken.now taken.got)
 told_changed old taken done new stepped count M changed ends counts state S =
@@ -481,16 +481,16 @@ told_changed old taken done new stepped count M changed ends counts state S =
     ∙ ap (λ (b : Bool). record {
       changed = b;
       stepped = is_some done.ended;
-      sends = cond b (length (slots_sent done.outgoing)) 0;
+      sends = cond b (length done.outgoing) 0;
     }) changed)
 
 -- the test of the code
 pub change_is : (taken : TurnTaken) (done : Done) (got : Option (Bor (List ℕ))) (result came value : Bool)
     → taken.got ≡ option_copied got
-    → result ≡ (came || is_some_there (slots_sent done.outgoing) || is_some done.ended || done.began)
+    → result ≡ (came || is_some_there done.outgoing || is_some done.ended || done.began)
     → came ≡ is_some got → result ≡ value → is_changed taken done ≡ value
 change_is taken done got result came value is test says e =
-    ap (λ (b : Bool). b || is_some_there (slots_sent done.outgoing) || is_some done.ended || done.began)
+    ap (λ (b : Bool). b || is_some_there done.outgoing || is_some done.ended || done.began)
     (ap is_some is ∙ (sym (copied_some got) ∙ sym says))
     ∙ (sym test ∙ e)
 

@@ -38,7 +38,7 @@ use Rattle.node_machine.specs.Kept.{CanBeSaid}
 use Rattle.node_machine.specs.Parts.{at_once}
 use Rattle.node_machine.specs.Scripted.{NextTrial, TriesNext, events_of_next, tried_next, as_said, progress_after}
 use Rattle.node_machine.specs.NodeState.{datagram_at, as_there}
-use Rattle.node_machine.specs.Turns.{slots_sent, job_of_endpoint, TurnTaken, turn_by, GoesAsTurn, TakesTurn}
+use Rattle.node_machine.specs.Turns.{job_of_endpoint, TurnTaken, turn_by, GoesAsTurn, TakesTurn}
 use Rattle.node_machine.specs.declared.turn.Done.{Done}
 use Rattle.node_machine.proofs.Happening.{happen_then, at_same, run-append, same_then}
 use Rattle.node_machine.proofs.Locks.{turn_keeps}
@@ -169,7 +169,7 @@ state_goes : (meaning : Meaning) (old mid : EndpointState) (new : Found) (taken 
     (at_once taken.now (first_events (job_of_endpoint meaning old) state taken.thread taken.got) slots) mid
     → TriesNext meaning (record { endpoint = mid; collectives = state.own.collectives })
     (record { now = taken.now; thread = taken.thread; progress = state.own.threads taken.thread }) tried new
-    → slots_sent done.outgoing ≡ slots ++ option_to_list tried.sent → done.ended ≡ tried.ended
+    → done.outgoing ≡ slots ++ option_to_list tried.sent → done.ended ≡ tried.ended
     → done.began ≡ is_some tried.began
     → GoesAsTurn (job_of_endpoint meaning old) old.core.me taken state done
     × EndpointStands new.endpoint (turn_by (job_of_endpoint meaning old) old.core.me taken state).after.node
@@ -181,10 +181,10 @@ state_goes : (meaning : Meaning) (old mid : EndpointState) (new : Found) (taken 
 state_goes meaning old mid new taken state slots tried done lawful bytes stands before tries slots_is ended_is
     began_is =
     let it = turn_by job me taken state in
-    let sent : slots_sent done.outgoing ≡ map slot_of_packet it.packets = slots_is ∙ all.slots_are in (
+    let sent : done.outgoing ≡ map slot_of_packet it.packets = slots_is ∙ all.slots_are in (
       record {
         ended = ap (λ (t : FormTried (Progress ScriptStep)). t.ended) went ∙ sym ended_is;
-        changed = same_changed (is_some taken.got) (is_some_there (slots_sent done.outgoing)) (is_some_there it.packets)
+        changed = same_changed (is_some taken.got) (is_some_there done.outgoing) (is_some_there it.packets)
             (is_some done.ended) done.began _ _
             (ap is_some_there sent ∙ some_there it.packets)
             (ap is_some (ended_is ∙ sym (ap (λ (t : FormTried (Progress ScriptStep)). t.ended) went)))
@@ -298,7 +298,7 @@ pub turn_goes : (meaning : Meaning) (old : Found) (mid : EndpointState) (new : F
     (at_once taken.now (before_try old.endpoint.core.settings.version polls taken.got) slots) mid
     → TriesNext meaning (record { endpoint = mid; collectives = old.collectives })
     (record { now = taken.now; thread = taken.thread; progress = progress }) tried new
-    → slots_sent done.outgoing ≡ slots ++ option_to_list tried.sent → done.ended ≡ tried.ended
+    → done.outgoing ≡ slots ++ option_to_list tried.sent → done.ended ≡ tried.ended
     → done.began ≡ is_some tried.began
     → TakesTurn meaning (old, progress) taken done (new, progress_after progress tried)
 turn_goes meaning old mid new taken progress polls slots tried done lawful bytes polled before tries slots_is ended_is

@@ -4,19 +4,19 @@ use Rattle.std.specs.Prelude.{ℕ, ◌≡◌, true, false, if◌then◌else◌, 
 use Rattle.machine.specs.declared.turns.Turned.{Turned}
 use Rattle.node_machine.specs.Kept.{MachineKept, polls_at}
 use Rattle.node_machine.specs.NodeState.{NodeState, NodeStands, after_turn, turned}
-use Rattle.node_machine.specs.Turns.{slots_sent, TurnTaken, is_changed}
+use Rattle.node_machine.specs.Turns.{TurnTaken, is_changed}
 use Rattle.node_machine.specs.declared.turn.Done.{Done}
 
 -- the machine keeps what that turn sent, and the answer of the step that it ended
 abbrev pub with_done : MachineKept → Done → MachineKept
-with_done machine done = record machine { outgoing = slots_sent done.outgoing; answer = done.ended }
+with_done machine done = record machine { outgoing = done.outgoing; answer = done.ended }
 
 -- what it tells
 abbrev pub turned_of : TurnTaken → Done → Turned
 turned_of taken done = record {
   changed = is_changed taken done;
   stepped = is_some done.ended;
-  sends = if is_changed taken done then length (slots_sent done.outgoing) else 0;
+  sends = if is_changed taken done then length done.outgoing else 0;
 }
 
 -- a machine took a turn: of every state for which it stood it stands for the state after it, where it keeps what that

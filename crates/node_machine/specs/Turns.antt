@@ -1,11 +1,9 @@
 -- What a turn of a thread does to the endpoint of its node, and to the thread's script.
 -- Origin: this project's profile.
-use Rattle.std.specs.Prelude.{ℕ, ◌≡◌, ◌||◌, Bool, List, ◌++◌, length, map, Option, None, is_some}
-use Rattle.std.specs.Option.{option_to_list}
+use Rattle.std.specs.Prelude.{ℕ, ◌≡◌, ◌||◌, Bool, List, length, map, Option, None, is_some}
 use Rattle.datagram_grammar.specs.Parameters.{Parameters}
 use Rattle.handler_rules.specs.Runs.{Meaning}
 use Rattle.lists.specs.Put.{put}
-use Rattle.node_record.specs.declared.answer.SlotRef.{SlotRef}
 use Rattle.endpoint_rules.specs.EndpointLocal.{EndpointLocal}
 use Rattle.gas_endpoint.specs.EndpointState.{EndpointState, EndpointStands}
 use Rattle.step_text.specs.declared.steps.ScriptStep.{ScriptStep}
@@ -17,12 +15,7 @@ use Rattle.script_steps.specs.Forms.{step_form}
 use Rattle.script_steps.specs.Tries.{Found, IsAtSameNode}
 use Rattle.node_machine.specs.Kept.{CanBeSaid}
 use Rattle.node_machine.specs.NodeState.{datagram_at, as_there}
-use Rattle.node_machine.specs.declared.outgoing.Outgoing.{Outgoing}
 use Rattle.node_machine.specs.declared.turn.Done.{Done}
-
--- the slots, in the order in which their messages go
-abbrev pub slots_sent : Outgoing → List SlotRef
-slots_sent outgoing = option_to_list outgoing.reply ++ option_to_list outgoing.tick ++ option_to_list outgoing.call
 
 -- the job of an endpoint with handlers that do this
 abbrev pub job_of_endpoint : Meaning → EndpointState → NodeJob EndpointLocal (OwnScripts ScriptStep)
@@ -43,7 +36,7 @@ turn_by job me taken state = turn job me state taken.thread taken.now taken.got
 -- something was got or sent, or the step ended or began
 abbrev pub is_changed : TurnTaken → Done → Bool
 is_changed taken done =
-    is_some taken.got || is_some_there (slots_sent done.outgoing) || is_some done.ended || done.began
+    is_some taken.got || is_some_there done.outgoing || is_some done.ended || done.began
 
 -- of a state of the node: the turn goes to what the endpoint stands for then, and what it told is the turn's
 pub record GoesAsTurn
@@ -51,9 +44,9 @@ pub record GoesAsTurn
     (state : MachineState EndpointLocal (OwnScripts ScriptStep)) (done : Done) : Type 0 where
   pub ended : (try_of job me state taken.thread taken.now taken.got).ended ≡ done.ended
   pub changed : (turn_by job me taken state).changed ≡ is_changed taken done
-  pub sends : length (turn_by job me taken state).packets ≡ length (slots_sent done.outgoing)
+  pub sends : length (turn_by job me taken state).packets ≡ length done.outgoing
   -- each datagram stands in its slot
-  pub sent : map (datagram_at job.job.settings me (turn_by job me taken state).after.node) (slots_sent done.outgoing)
+  pub sent : map (datagram_at job.job.settings me (turn_by job me taken state).after.node) done.outgoing
       ≡ map as_there (map (datagram job.job.settings) (turn_by job me taken state).packets)
   -- it changes locks only where it ended its step
   pub locks : done.ended ≡ None

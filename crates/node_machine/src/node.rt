@@ -47,14 +47,13 @@ impl<'a> Model for NodeMachine<'a> {
 
     ghost use Rattle.node_machine.specs.Kept.{IsMachine};
     ghost use Rattle.node_machine.specs.Cursors.{progress_of_all};
-    ghost use Rattle.node_machine.specs.Turns.{slots_sent};
 
     ghost view = { λ m. record {
       job = m.job.now;
       endpoint = m.endpoint;
       collectives = m.collectives;
       scripts = progress_of_all m.cursors.items;
-      outgoing = slots_sent m.outgoing;
+      outgoing = m.outgoing;
       answer = m.answer;
     } };
 
@@ -63,7 +62,7 @@ impl<'a> Model for NodeMachine<'a> {
       endpoint = m.endpoint;
       collectives = m.collectives;
       scripts = progress_of_all m.cursors.items;
-      outgoing = slots_sent m.outgoing;
+      outgoing = m.outgoing;
       answer = m.answer;
     }) };
 }
@@ -128,7 +127,7 @@ impl<'a> NodeMachine<'a> {
             endpoint,
             collectives: collectives_of(job, me),
             cursors,
-            outgoing: Outgoing::NONE,
+            outgoing: Outgoing::none(),
             answer: None,
         })
     }
@@ -233,12 +232,13 @@ impl<'a> Machine for NodeMachine<'a> {
                 sends: 0,
             };
         }
+        let sends = done.outgoing.count();
         self.outgoing = done.outgoing;
         self.answer = done.ended;
         Turned {
             changed: true,
             stepped: done.ended.is_some(),
-            sends: done.outgoing.count(),
+            sends,
         }
     }
 

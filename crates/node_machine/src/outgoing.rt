@@ -1,74 +1,97 @@
 //! The messages that a turn sent.
 
-ghost use Rattle.std.specs.Prelude.{◌≡◌, ◌≤◌, length, slice_get};
+ghost use Rattle.std.specs.Prelude.{◌≡◌, ◌<◌, ◌≤◌, ◌+◌, ◌++◌, List, [], length, slice_get};
 ghost use Rattle.std.specs.Option.{option_to_list};
 ghost use Rattle.node_runs.specs.Turn.{is_some_there};
-ghost use Rattle.node_machine.specs.Turns.{slots_sent};
 
-use am_core::SlotRef;
+use am_core::{Side, SlotRef};
+use std::marker::Model;
 
-/// The slots of the messages that a turn sent, in the order in which they go.
-#[derive(Clone, Copy)]
+/// What stands at the places of the list that are empty.
+const NO_SLOT: SlotRef = SlotRef {
+    side: Side::Request,
+    peer: 0,
+    slot: 0,
+};
+
+/// The slots of the messages that a turn sent, in the order in which they go; at most three.
+///
+/// Contracts see it as the list of these slots.
+#[derive(Drop)]
 pub struct Outgoing {
-    /// Of the reply to what was got.
-    pub reply: Option<SlotRef>,
-    /// Of the request that the tick sent.
-    pub tick: Option<SlotRef>,
-    /// Of the request that the step's call sent.
-    pub call: Option<SlotRef>,
+    slots: [SlotRef; 3],
+    count: u8,
 }
 
-/// One for a slot, 0 for none.
-fn count_of(slot: Option<SlotRef>) -> u8
-    ensures count { result ≡ length (option_to_list slot) }
-    ensures few { result ≤ 1 }
-{
-    if slot.is_some() { 1 } else { 0 }
+impl Model for Outgoing {
+    ghost use Rattle.std.specs.Prelude.{List, take, length, ◌≡◌, ◌≤◌};
+    ghost use Rattle.node_record.specs.declared.answer.SlotRef.{SlotRef as SlotState};
+
+    ghost Value = { List SlotState };
+
+    ghost view = { λ o. take o.count o.slots };
+
+    ghost invariant = { λ o. (o.count ≤ 3) × (length o.slots ≡ 3) };
 }
 
 impl Outgoing {
-    /// Nothing was sent.
-    pub const NONE: Outgoing = Outgoing {
-        reply: None,
-        tick: None,
-        call: None,
-    };
+    /// No message.
+    pub fn none() -> Outgoing
+        ensures { result ≡ [] }
+    {
+        Outgoing {
+            slots: [NO_SLOT; 3],
+            count: 0,
+        }
+    }
+
+    /// The messages of a turn: the reply to what was got, the request that the tick sent, and the
+    /// one that the step's call sent, as far as there are such.
+    pub fn of(reply: Option<SlotRef>, tick: Option<SlotRef>, call: Option<SlotRef>) -> Outgoing
+        ensures { result ≡ option_to_list reply ++ option_to_list tick ++ option_to_list call }
+    {
+        let mut outgoing = Outgoing::none();
+        outgoing.add(reply);
+        outgoing.add(tick);
+        outgoing.add(call);
+        outgoing
+    }
+
+    /// Puts a message behind the others, if there is one.
+    fn add(&mut self, slot: Option<SlotRef>)
+        requires { length self.old < 3 }
+        ensures slots { self.new ≡ self.old ++ option_to_list slot }
+        ensures few { length self.new ≤ length self.old + 1 }
+    {
+        if let Some(slot) = slot {
+            self.slots[usize::from(self.count)] = slot;
+            self.count += 1;
+        }
+    }
 
     /// A message was sent.
     pub fn is_any(&self) -> bool
-        ensures { result ≡ is_some_there (slots_sent self.now) }
+        ensures { result ≡ is_some_there self.now }
     {
-        self.reply.is_some() || self.tick.is_some() || self.call.is_some()
+        self.count() != 0
     }
 
     /// How many messages there are.
     pub fn count(&self) -> u8
-        ensures count { result ≡ length (slots_sent self.now) }
+        ensures count { result ≡ length self.now }
         ensures few { result ≤ 3 }
     {
-        count_of(self.reply) + count_of(self.tick) + count_of(self.call)
+        self.count
     }
 
     /// The slot of message `i`, counted from 0, if there are more than `i`.
     pub fn slot(&self, i: u8) -> Option<SlotRef>
-        ensures { result ≡ slice_get (slots_sent self.now) i }
+        ensures { result ≡ slice_get self.now i }
     {
-        match (self.reply, self.tick) {
-            (Some(reply), Some(tick)) => match i {
-                0 => Some(reply),
-                1 => Some(tick),
-                2 => self.call,
-                _ => None,
-            },
-            (Some(first), None) | (None, Some(first)) => match i {
-                0 => Some(first),
-                1 => self.call,
-                _ => None,
-            },
-            (None, None) => match i {
-                0 => self.call,
-                _ => None,
-            },
+        if i < self.count {
+            Some(self.slots[usize::from(i)])
+        } else {
+            None
         }
     }
 }

@@ -8,7 +8,7 @@ ghost use Rattle.node_machine.specs.Cursors.{progress_of};
 ghost use Rattle.node_machine.specs.Scripted.{TriesNext};
 ghost use Rattle.node_runs.specs.Turn.{is_some_there};
 ghost use Rattle.script_steps.specs.Tries.{AreThere};
-ghost use Rattle.node_machine.specs.Turns.{TakesTurn, slots_sent};
+ghost use Rattle.node_machine.specs.Turns.{TakesTurn};
 
 use crate::cursor::Cursor;
 use crate::outgoing::Outgoing;
@@ -34,7 +34,7 @@ pub struct ThreadTurn<'a> {
 }
 
 /// What a turn did.
-#[derive(Clone, Copy)]
+#[derive(Drop)]
 pub struct Done {
     /// The messages that it sent.
     pub outgoing: Outgoing,
@@ -47,7 +47,7 @@ pub struct Done {
 impl Done {
     /// Something was got or sent, or the step ended or began.
     pub fn is_change(&self, came: bool) -> bool
-        ensures { result ≡ (came || is_some_there (slots_sent self.now.outgoing)
+        ensures { result ≡ (came || is_some_there self.now.outgoing
             || is_some self.now.ended || self.now.began) }
     {
         came || self.outgoing.is_any() || self.ended.is_some() || self.began
@@ -126,11 +126,7 @@ pub fn take_turn<H: Handlers>(
     let tried = try_next(endpoint, handlers, collectives, cursor, turn);
     cursor.go_on(&tried);
     Done {
-        outgoing: Outgoing {
-            reply: sent.reply,
-            tick: sent.tick,
-            call: tried.sent,
-        },
+        outgoing: Outgoing::of(sent.reply, sent.tick, tried.sent),
         ended: tried.ended,
         began: tried.began.is_some(),
     }

@@ -6,7 +6,7 @@
 //!
 //! What is proved, by the names of clauses (in `src/`) and definitions (in `specs/`):
 //!
-//! - What is left (`RunsOver`): the link was bound to the node's place, and the threads left what `Leaves` of
+//! - What is left (`RunsOver`): the link was bound to the node's address, and the threads left what `Leaves` of
 //!   `endpoint_lock` says: there is a journal, machine and journal are the replay of the machine handed in, no datagram
 //!   went before the lines of its turn and of those before it had, and each end has its cause. Or the link failed as it
 //!   was to be bound; then nothing was done, and the end is `LinkFault`.
@@ -18,5 +18,5 @@
 mod node;
 mod recorder;
 
-pub use node::{Node, NodeRun, Place, run_node};
+pub use node::{Node, NodeAddress, run_node};
 pub use recorder::TraceSink;

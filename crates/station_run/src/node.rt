@@ -3,10 +3,11 @@
 ghost use Rattle.std.specs.Prelude.{◌≡◌, ◌≤◌, [], Some};
 ghost use Rattle.gas_outside.specs.Buffered.{outbox};
 ghost use Rattle.endpoint_lock.specs.Leaving.{StationLeaves};
-ghost use Rattle.station_run.specs.NodeRuns.{RunsSome, RunsStation, Finishes, opening_over};
+ghost use Rattle.station_run.specs.NodeRuns.{RunsSome, RunsStation, Finishes, has_last_line, opening_over, written_end};
 
 use crate::recorder::TraceSink;
-use endpoint_lock::{End, Ended, Recorder, Station, Unmade, run_threads};
+use datagram_grammar::Settings;
+use endpoint_lock::{EndedStation, Recorder, Station, StationEnd, run_threads};
 use gas_outside::{BufferedSink, Clock, Link, LinkAnswer, Sink, Waiter, Wrote};
 use gasnet_trace::print_head;
 use machine::Machine;
@@ -14,26 +15,22 @@ use std::alloc::Global;
 use std::sync::Wait;
 use std::thread::Threads;
 
-/// Which node of which job it is.
+/// Which node of a job it is, and where the links of its nodes are bound.
 #[derive(Clone, Copy)]
-pub struct Place {
-    /// The version of its trace's text.
-    pub version: u8,
-    /// The number of the job.
-    pub job: u64,
+pub struct NodeAddress {
     /// The number of the node.
     pub rank: u16,
-    /// How many nodes the job has.
-    pub nodes: u16,
-    /// The port of rank 0.
+    /// The port of rank 0; that of each other node is by its rank higher.
     pub port: u16,
 }
 
 /// A node before it runs.
 #[derive(Drop)]
 pub struct Node<M, L, C> {
-    /// Which node it is.
-    pub place: Place,
+    /// The settings of its job.
+    pub settings: Settings,
+    /// Which node of the job it is.
+    pub address: NodeAddress,
     /// Its machine.
     pub machine: M,
     /// Its link, which isn't bound yet.
@@ -44,15 +41,6 @@ pub struct Node<M, L, C> {
     pub patience: u32,
 }
 
-/// A node that ran.
-#[derive(Drop)]
-pub struct NodeRun<M, L, C, K: Sink> {
-    /// What its threads left, with the sink that has its trace.
-    pub left: Ended<M, L, C, TraceSink<K>>,
-    /// Whether its trace was written.
-    pub wrote: Wrote,
-}
-
 /// Runs the threads of a node whose link is bound. Where memory for a station runs out, no turn is taken.
 fn run_bound<
     R: Threads + Wait + Sync,
@@ -61,13 +49,14 @@ fn run_bound<
     C: Clock + Send,
     D: Recorder + Send,
     G: Waiter + Sync,
->(rt: &R, alloc: Global, node: Node<M, L, C>, recorder: D, waiter: &G) -> Ended<M, L, C, D>
+>(rt: &R, alloc: Global, node: Node<M, L, C>, recorder: D, waiter: &G) -> EndedStation<M, L, C, D>
     requires { 1 ≤ node.patience }
     ensures { StationLeaves M.Machine L.Link C.Clock D.Recorder
         (opening_over node.link recorder node) result }
 {
     let Node {
-        place: _,
+        settings: _,
+        address: _,
         machine,
         link,
         clock,
@@ -76,20 +65,7 @@ fn run_bound<
     let threads = machine.threads();
     match Station::new(alloc, machine, link, clock, recorder, patience) {
         Ok(station) => run_threads(rt, alloc, station, threads, waiter),
-        Err(
-            Unmade {
-                machine,
-                link,
-                clock,
-                recorder,
-            },
-        ) => Ended {
-            machine,
-            link,
-            clock,
-            recorder,
-            end: End::NoMemory,
-        },
+        Err(ended) => ended,
     }
 }
 
@@ -101,22 +77,24 @@ fn run_to_end<
     C: Clock + Send,
     D: Recorder + Send,
     G: Waiter + Sync,
->(rt: &R, alloc: Global, node: Node<M, L, C>, recorder: D, waiter: &G) -> Ended<M, L, C, D>
+>(rt: &R, alloc: Global, node: Node<M, L, C>, recorder: D, waiter: &G) -> EndedStation<M, L, C, D>
     requires { 1 ≤ node.patience }
     ensures { RunsSome M.Machine L.Link C.Clock D.Recorder node recorder result }
 {
     let Node {
-        place,
+        settings,
+        address,
         machine,
         link,
         clock,
         patience,
     } = node;
     let mut link = link;
-    match link.bind(place.rank, place.nodes, place.port) {
+    match link.bind(address.rank, settings.nodes(), address.port) {
         LinkAnswer::Done => {
             let bound = Node {
-                place,
+                settings,
+                address,
                 machine,
                 link,
                 clock,
@@ -124,32 +102,51 @@ fn run_to_end<
             };
             run_bound(rt, alloc, bound, recorder, waiter)
         }
-        LinkAnswer::Failed => Ended {
+        LinkAnswer::Failed => EndedStation {
             machine,
             link,
             clock,
             recorder,
-            end: End::LinkFault,
+            end: StationEnd::LinkFault,
         },
     }
 }
 
+/// Whether the last line of the trace is written where the turns ended so.
+fn has_last_line(end: StationEnd) -> bool
+    ensures { result ≡ has_last_line end }
+{
+    match end {
+        StationEnd::NoMemory | StationEnd::WriteFault => false,
+        _ => true,
+    }
+}
+
+/// How a node ended whose turns ended so, by whether the last line of its trace was written.
+fn written_end(end: StationEnd, wrote: Wrote) -> StationEnd
+    ensures { result ≡ written_end end wrote }
+{
+    match (end, wrote) {
+        (StationEnd::NoMemory, _) => StationEnd::NoMemory,
+        (StationEnd::WriteFault, _) | (_, Wrote::Fault) => StationEnd::WriteFault,
+        (StationEnd::Over, Wrote::Done) => StationEnd::Over,
+        (StationEnd::Stuck, Wrote::Done) => StationEnd::Stuck,
+        (StationEnd::LinkFault, Wrote::Done) => StationEnd::LinkFault,
+        (StationEnd::JournalFull, Wrote::Done) => StationEnd::JournalFull,
+    }
+}
+
 /// Writes the last line of the trace of what a node's threads left; nothing where memory ran out or the sink failed.
-fn write_end<M, L, C, K: Sink>(left: Ended<M, L, C, TraceSink<K>>) -> NodeRun<M, L, C, K>
+/// Where the sink fails at that line, the end is `WriteFault`.
+fn write_end<M, L, C, K: Sink>(
+    left: EndedStation<M, L, C, TraceSink<K>>,
+) -> EndedStation<M, L, C, TraceSink<K>>
     ensures { Finishes K.Sink left result }
 {
-    match left.end {
-        End::NoMemory => return NodeRun {
-            left,
-            wrote: Wrote::Done,
-        },
-        End::WriteFault => return NodeRun {
-            left,
-            wrote: Wrote::Fault,
-        },
-        _ => {}
+    if !has_last_line(left.end) {
+        return left;
     }
-    let Ended {
+    let EndedStation {
         machine,
         link,
         clock,
@@ -158,14 +155,13 @@ fn write_end<M, L, C, K: Sink>(left: Ended<M, L, C, TraceSink<K>>) -> NodeRun<M,
     } = left;
     let mut sink = recorder.into_sink();
     let wrote = sink.write_all(b"end\n");
-    let left = Ended {
+    EndedStation {
         machine,
         link,
         clock,
         recorder: TraceSink::over(sink),
-        end,
-    };
-    NodeRun { left, wrote }
+        end: written_end(end, wrote),
+    }
 }
 
 /// Runs a node to its end, and writes the trace of what it did as it grows.
@@ -174,7 +170,7 @@ fn write_end<M, L, C, K: Sink>(left: Ended<M, L, C, TraceSink<K>>) -> NodeRun<M,
 /// nothing was done. Then its link is bound; where that fails the end is `LinkFault`, and the trace has no turns. Then
 /// its threads take turns under one lock, as `run_threads` says, and each entry goes into the sink before the datagrams
 /// of its turn are sent. Last comes the line `end`; where memory ran out, and where the sink failed, it isn't written.
-/// `wrote` is `Fault` only where the sink failed; a prefix of the text went in then.
+/// Where the sink failed, the end is `WriteFault`, and a prefix of the text went in.
 pub fn run_node<
     R: Threads + Wait + Sync,
     M: Machine + Send,
@@ -188,38 +184,35 @@ pub fn run_node<
     node: Node<M, L, C>,
     waiter: &G,
     sink: BufferedSink<K>,
-) -> NodeRun<M, L, C, K>
+) -> EndedStation<M, L, C, TraceSink<K>>
     requires { 1 ≤ node.patience }
     ensures { RunsStation M.Machine L.Link C.Clock K.Sink node sink result }
 {
     let mut sink = sink;
+    let settings = node.settings;
     match print_head(
-        node.place.version,
-        node.place.job,
-        node.place.rank,
+        settings.version(),
+        settings.job(),
+        node.address.rank,
         &mut sink,
     ) {
-        Wrote::Done => {}
+        Wrote::Done => write_end(run_to_end(rt, alloc, node, TraceSink::over(sink), waiter)),
         Wrote::Fault => {
             let Node {
-                place: _,
+                settings: _,
+                address: _,
                 machine,
                 link,
                 clock,
                 patience: _,
             } = node;
-            let left = Ended {
+            EndedStation {
                 machine,
                 link,
                 clock,
                 recorder: TraceSink::over(sink),
-                end: End::WriteFault,
-            };
-            return NodeRun {
-                left,
-                wrote: Wrote::Fault,
-            };
+                end: StationEnd::WriteFault,
+            }
         }
     }
-    write_end(run_to_end(rt, alloc, node, TraceSink::over(sink), waiter))
 }

@@ -10,7 +10,7 @@ use Rattle.top_call.specs.Commands.{Asks, AsksNothing, IsAsked, IsCommand, code_
 use Rattle.top_call.specs.HowEnds.{EndMeans}
 use Rattle.top_call.specs.TopCall.{IsComplete, LeavesAlone, StatusMeans}
 use Rattle.top_call.specs.TopParts.{Ends, KeepsOutside}
-use Rattle.top_call.specs.declared.ending.End.{End}
+use Rattle.top_call.specs.declared.ending.CommandEnd.{CommandEnd}
 use Rattle.top_call.specs.declared.words.Command.{Command}
 use Rattle.top_call.specs.declared.words.Command.TheVariants as commands
 use Rattle.top_call.proofs.LastLine.{Weakens}
@@ -78,16 +78,16 @@ none_asked words (Some command) is nothing = absurd (nothing command is)
 -- ---- exit statuses
 
 -- how what was asked for ended
-abbrev EndedAs : Call → End → Option Command → Type 0
+abbrev EndedAs : Call → CommandEnd → Option Command → Type 0
 EndedAs call end asked = EndMeans (Ends asked (course_in call) (spawning_in call)) (took_in call) call.given end
 
 -- a call with the words of this command ended as the command does
-ended_as : (call : Call) (asked : Option Command) (end : End) (command : Command) → IsAsked call.words asked
+ended_as : (call : Call) (asked : Option Command) (end : CommandEnd) (command : Command) → IsAsked call.words asked
     → EndedAs call end asked → Asks call.words command → EndedAs call end (Some command)
 ended_as call asked end command is h asks =
     subst (EndedAs call end) (is_asked call.words asked command is asks) h
 
-pub status_means : (call : Call) (asked : Option Command) (end : End) → IsAsked call.words asked
+pub status_means : (call : Call) (asked : Option Command) (end : CommandEnd) → IsAsked call.words asked
     → EndedAs call end asked → StatusMeans call (code_of end)
 status_means call asked end is h = record {
   world = λ asks. world_means call end (ended_as call asked end commands.World is h asks);
@@ -100,7 +100,7 @@ status_means call asked end is h = record {
   usage = λ nothing. usage_means call end (subst (EndedAs call end) (none_asked call.words asked is nothing) h);
 }
 
-pub completes : (call : Call) (asked : Option Command) (end : End) → IsAsked call.words asked
+pub completes : (call : Call) (asked : Option Command) (end : CommandEnd) → IsAsked call.words asked
     → EndedAs call end asked → IsComplete call (code_of end)
 completes call asked end is h = record {
   world = λ asks. world_completes call end (ended_as call asked end commands.World is h asks);

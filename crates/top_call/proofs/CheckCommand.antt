@@ -21,15 +21,15 @@ use Rattle.top_call.specs.Commands.{code_of}
 use Rattle.top_call.specs.HowEnds.{After, EndMeans, gives, nothing, unasked}
 use Rattle.top_call.specs.TopParts.{EndsBy, SaysEnd, end_unread}
 use Rattle.top_call.specs.TracesReports.{TracesEnds}
-use Rattle.top_call.specs.declared.ending.End.{End}
-use Rattle.top_call.specs.declared.ending.End.TheVariants as ends
-use Rattle.top_call.specs.declared.ending.Ended.{Ended}
+use Rattle.top_call.specs.declared.ending.CommandEnd.{CommandEnd}
+use Rattle.top_call.specs.declared.ending.CommandEnd.TheVariants as ends
+use Rattle.top_call.specs.declared.ending.EndedCommand.{EndedCommand}
 use Rattle.top_call.specs.declared.ending.Given.{Given}
 use Rattle.top_call.proofs.LastLine.{Weakens, Widens, alone, says_alone, weak_alone, widened}
 use Rattle.top_call.proofs.Statuses.{code_means}
 use Rattle.top_call.proofs.TracesTold.{weak_traces}
 
-weak_checked : (reading : Reading) (end : End) (given : Given) (said : List ℕ)
+weak_checked : (reading : Reading) (end : CommandEnd) (given : Given) (said : List ℕ)
     → ChecksInput reading end (gives given) said → ChecksInput reading end unasked said
 weak_checked reading end given said h = record {
   job = h.job;
@@ -70,7 +70,7 @@ checks : (reading : Reading) (job : JobState) (outputs : List Output) → GivesI
     → AreOver outputs → Widens (TracesEnds job (traces_in outputs)) (CheckEnds reading)
 checks reading job outputs read over = by_end
   where
-    checked : (end : End) (after : After) (said : List ℕ) → TracesEnds job (traces_in outputs) end after said
+    checked : (end : CommandEnd) (after : After) (said : List ℕ) → TracesEnds job (traces_in outputs) end after said
         → ChecksInput reading end after said
     checked end after said h = record { job = job; outputs = outputs; read = read; over = over; checked = h }
 
@@ -90,7 +90,7 @@ checks reading job outputs read over = by_end
     by_end (ends.Child rank code) after said h = absurd h
 
 -- the check of the traces in outputs that were read so ended so
-pub check_told : (reading : Reading) (job : JobState) (outputs : List Output) (old new : Outbox) (ended : Ended)
+pub check_told : (reading : Reading) (job : JobState) (outputs : List Output) (old new : Outbox) (ended : EndedCommand)
     → GivesInput reading job outputs → AreOver outputs
     → EndsBy (TracesEnds job (traces_in outputs)) old new ended → EndsBy (CheckEnds reading) old new ended
 check_told reading job outputs old new ended read over told =
@@ -99,7 +99,7 @@ check_told reading job outputs old new ended read over told =
 
 -- a node of them failed, and so its status line was said
 pub child_told : (reading : Reading) (job : JobState) (outputs : List Output) (rank code : ℕ) (old new : Outbox)
-    (ended : Ended) → GivesInput reading job outputs → IsFirstFailed outputs rank code
+    (ended : EndedCommand) → GivesInput reading job outputs → IsFirstFailed outputs rank code
     → SaysEnd (ends.Child rank code) nothing old new ended → EndsBy (CheckEnds reading) old new ended
 child_told reading job outputs rank code old new ended read failed says =
     says_alone (CheckEnds reading) old new (ends.Child rank code) ended (weak_check reading) tt (record {
@@ -111,7 +111,7 @@ child_told reading job outputs rank code old new ended read failed says =
     }) says
 
 -- no input was read, and so the status line was said
-pub unread_told : (reading : Reading) (fault : InputFault) (old new : Outbox) (ended : Ended)
+pub unread_told : (reading : Reading) (fault : InputFault) (old new : Outbox) (ended : EndedCommand)
     → IsUnread reading.before.left reading.after.left reading.before.faults reading.after.faults fault
     → SaysEnd (end_unread fault) nothing old new ended → EndsBy (CheckEnds reading) old new ended
 unread_told reading (inputs.Bad line reason) old new ended none says =
@@ -125,7 +125,7 @@ unread_told reading inputs.NoMemory old new ended short says =
 
 -- ---- exit statuses
 
-check_codes : (call : Call) (end : End) → EndMeans (CheckEnds (read_in call)) (took_in call) call.given end
+check_codes : (call : Call) (end : CommandEnd) → EndMeans (CheckEnds (read_in call)) (took_in call) call.given end
     → Contains (0 ∷ 1 ∷ 3 ∷ 4 ∷ 5 ∷ 8 ∷ 11 ∷ 12 ∷ []) (code_of end)
 check_codes call ends.Done h = (0, lit< tt, refl)
 check_codes call ends.Violations h = (1, lit< tt, refl)
@@ -141,7 +141,7 @@ check_codes call ends.SpawnFault h = absurd h.ends
 check_codes call ends.Stuck h = absurd h.ends
 check_codes call ends.JournalFull h = absurd h.ends
 
-pub check_means : (call : Call) (end : End) → EndMeans (CheckEnds (read_in call)) (took_in call) call.given end
+pub check_means : (call : Call) (end : CommandEnd) → EndMeans (CheckEnds (read_in call)) (took_in call) call.given end
     → CheckMeans call (code_of end)
 check_means call end h = code_means call (CheckEnds (read_in call)) _ end (check_codes call end h) h
 
@@ -165,7 +165,7 @@ was_no_input source left line reason holds none =
     not_no_input holds.bytes left holds.job holds.outputs line reason holds.text
     (subst (λ (before : Option (List ℕ)). TakesNone before left line reason) holds.told none)
 
-check_judges : (call : Call) (end : End) → EndMeans (CheckEnds (read_in call)) (took_in call) call.given end
+check_judges : (call : Call) (end : CommandEnd) → EndMeans (CheckEnds (read_in call)) (took_in call) call.given end
     → HoldsInput call.before.source → IsFaultless call → Contains (0 ∷ 1 ∷ 8 ∷ 11 ∷ 12 ∷ []) (code_of end)
 check_judges call ends.Done h holds faultless = (0, lit< tt, refl)
 check_judges call ends.Violations h holds faultless = (1, lit< tt, refl)
@@ -211,7 +211,7 @@ none_failed outputs rank code over failed =
     let one = all_at (λ (output : Output). is_over output.status ≡ true) outputs rank failed.output over failed.at in
     absurd (true≢false (sym one ∙ failed.failed))
 
-check_finds : (call : Call) (end : End) → EndMeans (CheckEnds (read_in call)) (took_in call) call.given end
+check_finds : (call : Call) (end : CommandEnd) → EndMeans (CheckEnds (read_in call)) (took_in call) call.given end
     → HoldsRun call.before.source → IsFaultless call → Contains (0 ∷ 1 ∷ 8 ∷ []) (code_of end)
 check_finds call ends.Done h run faultless = (0, lit< tt, refl)
 check_finds call ends.Violations h run faultless = (1, lit< tt, refl)
@@ -232,6 +232,6 @@ check_finds call ends.WriteFault h run faultless = absurd (faultless.sink h.cut.
 check_finds call (ends.BadJob line reason) h run faultless =
     absurd (was_no_input call.before.source call.after.source.left line reason run.holds h.ends.read)
 
-pub check_completes : (call : Call) (end : End) → EndMeans (CheckEnds (read_in call)) (took_in call) call.given end
+pub check_completes : (call : Call) (end : CommandEnd) → EndMeans (CheckEnds (read_in call)) (took_in call) call.given end
     → CheckCompletes call (code_of end)
 check_completes call end h = record { judged = check_judges call end h; is_run = check_finds call end h }

@@ -15,7 +15,7 @@ use Rattle.top_call.specs.Outsides.{Call, Course, Spawning, call_of, course_in, 
 use Rattle.top_call.specs.Outsides.{seen, spawning_in, spawning_of, took_in}
 use Rattle.top_call.specs.TopCall.{IsSaid}
 use Rattle.top_call.specs.TopParts.{Closes, Ends, EndsAs, EndsBy, KeepsOutside, StandsOver, with_sink}
-use Rattle.top_call.specs.declared.ending.Ended.{Ended}
+use Rattle.top_call.specs.declared.ending.EndedCommand.{EndedCommand}
 use Rattle.top_call.specs.declared.ending.Given.{Given}
 use Rattle.top_call.specs.declared.outside.Outside.{Outside}
 use Rattle.top_call.specs.declared.top.Status.{Status}
@@ -28,7 +28,7 @@ pub asks_for : (asked : Option Command) (some this : Command) → asked ≡ Some
 asks_for asked some this is same = is ∙ ap Some same
 
 -- what was asked for is this, and so it ended
-pub ends_as : (asked what : Option Command) (course : Course) (spawning : Spawning) (old new : Outbox) (ended : Ended)
+pub ends_as : (asked what : Option Command) (course : Course) (spawning : Spawning) (old new : Outbox) (ended : EndedCommand)
     → asked ≡ what → EndsBy (Ends what course spawning) old new ended → KeepsOutside what course spawning
     → EndsAs asked course spawning old new ended
 ends_as asked what course spawning old new ended is ends keeps =
@@ -38,7 +38,7 @@ ends_as asked what course spawning old new ended is ends keeps =
 module _ {S K L P C G : Type 0} (sources : SourceGhosts S) (sinks : SinkGhosts K) (links : LinkGhosts L)
     (spawners : SpawnerGhosts P) (clocks : ClockGhosts C) (words : List Word) (asked : Option Command) where
   -- the command ran over the outside, and ended so
-  abbrev pub RanOver : (first last : Outside S (Gathering K) L P C G) → Ended → Type 0
+  abbrev pub RanOver : (first last : Outside S (Gathering K) L P C G) → EndedCommand → Type 0
   RanOver first last ended =
       EndsAs asked
       (course_with (reading_over sources.left sources.faults first.source last.source)
@@ -50,7 +50,7 @@ module _ {S K L P C G : Type 0} (sources : SourceGhosts S) (sinks : SinkGhosts K
   call_over first last given =
       call_of words (seen sources sinks links spawners clocks first) (seen sources sinks links spawners clocks last) given
 
-  pub closed_call : (outside back : Outside S K L P C G) (first last : Outside S (Gathering K) L P C G) (ended : Ended)
+  pub closed_call : (outside back : Outside S K L P C G) (first last : Outside S (Gathering K) L P C G) (ended : EndedCommand)
       (status : Status) → IsAsked words asked → StandsOver outside first → RanOver first last ended
       → Closes sinks.taken sinks.faults ended last status back
       → IsSaid (call_over outside back (given_with status)) status.code

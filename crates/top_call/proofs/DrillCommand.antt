@@ -10,8 +10,8 @@ use Rattle.top_call.specs.Commands.{code_of, end_of}
 use Rattle.top_call.specs.HowEnds.{After, EndMeans, gives, unasked}
 use Rattle.top_call.specs.RunReports.{EndsRun}
 use Rattle.top_call.specs.DrillCommand.{DrillCompletes, DrillEnds, DrillMeans}
-use Rattle.top_call.specs.declared.ending.End.{End}
-use Rattle.top_call.specs.declared.ending.End.TheVariants as ends
+use Rattle.top_call.specs.declared.ending.CommandEnd.{CommandEnd}
+use Rattle.top_call.specs.declared.ending.CommandEnd.TheVariants as ends
 use Rattle.top_call.proofs.LastLine.{Weakens}
 use Rattle.top_call.proofs.RunTold.{Runs, weak_left, weak_run}
 use Rattle.top_call.proofs.Statuses.{code_means}
@@ -48,7 +48,7 @@ drill_runs seed laws calm = record {
 
 -- ---- exit statuses
 
-drill_codes : (call : Call) (seed : ℕ) (end : End) → EndMeans (DrillEnds seed) (took_in call) call.given end
+drill_codes : (call : Call) (seed : ℕ) (end : CommandEnd) → EndMeans (DrillEnds seed) (took_in call) call.given end
     → Contains (0 ∷ 5 ∷ 8 ∷ []) (code_of end)
 drill_codes call seed ends.Done h = (0, lit< tt, refl)
 drill_codes call seed ends.WriteFault h = (1, lit< tt, refl)
@@ -64,11 +64,11 @@ drill_codes call seed (ends.Child rank code) h = absurd h.ends
 drill_codes call seed (ends.BadJob line reason) h = absurd h.ends
 drill_codes call seed ends.ReadFault h = absurd h.ends
 
-pub drill_means : (call : Call) (seed : ℕ) (end : End) → EndMeans (DrillEnds seed) (took_in call) call.given end
+pub drill_means : (call : Call) (seed : ℕ) (end : CommandEnd) → EndMeans (DrillEnds seed) (took_in call) call.given end
     → DrillMeans call seed (code_of end)
 drill_means call seed end h = code_means call (DrillEnds seed) _ end (drill_codes call seed end h) h
 
-pub drill_completes : (call : Call) (seed : ℕ) (end : End) → EndMeans (DrillEnds seed) (took_in call) call.given end
+pub drill_completes : (call : Call) (seed : ℕ) (end : CommandEnd) → EndMeans (DrillEnds seed) (took_in call) call.given end
     → DrillCompletes call (code_of end)
 drill_completes call seed ends.Done h faultless = (0, lit< tt, refl)
 drill_completes call seed ends.NoMemory h faultless = (1, lit< tt, refl)

@@ -16,9 +16,9 @@ use Rattle.top_call.specs.Outsides.{Input, Reading}
 use Rattle.top_call.specs.HowEnds.{After, EndsHow, gives, nothing, said_last}
 use Rattle.top_call.specs.JobReads.{HoldsJob, ReadsJob, ReadsNoJob, ReadsNone}
 use Rattle.top_call.specs.TopParts.{EndsBy, IsUnreadJob, SaysEnd}
-use Rattle.top_call.specs.declared.ending.End.{End}
-use Rattle.top_call.specs.declared.ending.End.TheVariants as ends
-use Rattle.top_call.specs.declared.ending.Ended.{Ended}
+use Rattle.top_call.specs.declared.ending.CommandEnd.{CommandEnd}
+use Rattle.top_call.specs.declared.ending.CommandEnd.TheVariants as ends
+use Rattle.top_call.specs.declared.ending.EndedCommand.{EndedCommand}
 use Rattle.top_call.proofs.LastLine.{IsSaid, Weakens, alone, says_alone, weak_alone}
 
 -- ---- the bytes read
@@ -114,10 +114,10 @@ weak_none reading (ends.Child rank code) given said h = h
 
 -- it is one of the ends of a command that reads a job
 abbrev pub MayReadNone : EndsHow → Reading → Type 1
-MayReadNone Ends reading = (end : End) (after : After) (said : List ℕ) → ReadsNone reading end after said
+MayReadNone Ends reading = (end : CommandEnd) (after : After) (said : List ℕ) → ReadsNone reading end after said
     → Ends end after said
 
-unread_said : (reading : Reading) (end : End) → IsUnreadJob reading end → IsSaid end
+unread_said : (reading : Reading) (end : CommandEnd) → IsUnreadJob reading end → IsSaid end
 unread_said reading (ends.BadJob line reason) h = tt
 unread_said reading ends.ReadFault h = tt
 unread_said reading ends.NoMemory h = tt
@@ -132,7 +132,7 @@ unread_said reading ends.JournalFull h = tt
 unread_said reading (ends.NotARun node entry) h = tt
 unread_said reading (ends.Child rank code) h = tt
 
-reads_none : (reading : Reading) (end : End) → IsUnreadJob reading end
+reads_none : (reading : Reading) (end : CommandEnd) → IsUnreadJob reading end
     → ReadsNone reading end (gives nothing) (said_last [] end)
 reads_none reading (ends.BadJob line reason) h = record { read = h; alone = alone (ends.BadJob line reason) }
 reads_none reading ends.ReadFault h = record { rose = h; alone = alone ends.ReadFault }
@@ -149,7 +149,7 @@ reads_none reading (ends.NotARun node entry) h = h
 reads_none reading (ends.Child rank code) h = h
 
 -- it says so
-pub unread_told : (Ends : EndsHow) (reading : Reading) (old new : Outbox) (end : End) (ended : Ended)
+pub unread_told : (Ends : EndsHow) (reading : Reading) (old new : Outbox) (end : CommandEnd) (ended : EndedCommand)
     → Weakens Ends → MayReadNone Ends reading → IsUnreadJob reading end → SaysEnd end nothing old new ended
     → EndsBy Ends old new ended
 unread_told Ends reading old new end ended weak may h says =

@@ -11,48 +11,48 @@ use Rattle.top_call.specs.Outsides.{Output, TakesBytes}
 use Rattle.top_call.specs.Commands.{status_line}
 use Rattle.top_call.specs.HowEnds.{After, Cut, EndsHow, EndMeans, SaysAlone, Told, gives, nothing, said_last, unasked}
 use Rattle.top_call.specs.TopParts.{EndsBy, GivesOn, SaysEnd}
-use Rattle.top_call.specs.declared.ending.End.{End}
-use Rattle.top_call.specs.declared.ending.End.TheVariants as ends
-use Rattle.top_call.specs.declared.ending.Ended.{Ended}
+use Rattle.top_call.specs.declared.ending.CommandEnd.{CommandEnd}
+use Rattle.top_call.specs.declared.ending.CommandEnd.TheVariants as ends
+use Rattle.top_call.specs.declared.ending.EndedCommand.{EndedCommand}
 use Rattle.top_call.specs.declared.ending.Given.{Given}
 
 -- ---- what is claimed of what is given
 
 -- what a command says where something is claimed of what it gives it says where nothing is
 abbrev pub Weakens : EndsHow → Type 0
-Weakens Ends = (end : End) (given : Given) (said : List ℕ) → Ends end (gives given) said → Ends end unasked said
+Weakens Ends = (end : CommandEnd) (given : Given) (said : List ℕ) → Ends end (gives given) said → Ends end unasked said
 
-pub weak_alone : (end : End) (given : Given) (said : List ℕ) → SaysAlone end (gives given) said
+pub weak_alone : (end : CommandEnd) (given : Given) (said : List ℕ) → SaysAlone end (gives given) said
     → SaysAlone end unasked said
 weak_alone end given said h = record { nothing_given = tt; said_is = h.said_is }
 
 -- ---- the last line
 
 -- an end whose line is said
-abbrev pub IsSaid : End → Type 0
+abbrev pub IsSaid : CommandEnd → Type 0
 IsSaid ends.WriteFault = ⊥
 IsSaid _ = Unit {0}
 
 -- all that it says went in
-all_told : (Ends : EndsHow) (took : List ℕ → Wrote → Type 0) (end : End) (given : Given) → IsSaid end
+all_told : (Ends : EndsHow) (took : List ℕ → Wrote → Type 0) (end : CommandEnd) (given : Given) → IsSaid end
     → Told Ends took end given → EndMeans Ends took given end
 all_told Ends took ends.WriteFault given said h = absurd said
 all_told Ends took end given said h = h
 
 -- a command says the line of such an end behind these lines
-pub says_last : (Ends : EndsHow) (old middle new : Outbox) (front : List Line) (end : End) (given : Given)
-    (ended : Ended)
+pub says_last : (Ends : EndsHow) (old middle new : Outbox) (front : List Line) (end : CommandEnd) (given : Given)
+    (ended : EndedCommand)
     → Weakens Ends → IsSaid end → Ends end (gives given) (said_last front end) → Gathers old middle (spell front)
     → SaysEnd end given middle new ended → EndsBy Ends old new ended
 says_last Ends old middle new front end given ended weak is_said ends_so h says = elim says [
-  | inl done ↦ subst (λ (e : Ended). EndsBy Ends old new e) (sym done.0)
+  | inl done ↦ subst (λ (e : EndedCommand). EndsBy Ends old new e) (sym done.0)
       (all_told Ends (GathersAll old new) end given is_said (record {
         said = said_last front end;
         ends = ends_so;
         written = rw (one_more front (status_line end))
             (gathers_more old middle new (spell front) (line_text (status_line end)) h done.1);
       }))
-  | inr failed ↦ subst (λ (e : Ended). EndsBy Ends old new e) (sym failed.0) (record {
+  | inr failed ↦ subst (λ (e : EndedCommand). EndsBy Ends old new e) (sym failed.0) (record {
     end = end;
     said = said_last front end;
     ends = weak end given (said_last front end) ends_so;
@@ -66,9 +66,9 @@ says_last Ends old middle new front end given ended weak is_said ends_so h says 
 
 -- what the one says the other says
 abbrev pub Widens : (part whole : EndsHow) → Type 1
-Widens part whole = (end : End) (after : After) (said : List ℕ) → part end after said → whole end after said
+Widens part whole = (end : CommandEnd) (after : After) (said : List ℕ) → part end after said → whole end after said
 
-pub widened : (part whole : EndsHow) (took : List ℕ → Wrote → Type 0) (given : Given) (end : End) → Widens part whole
+pub widened : (part whole : EndsHow) (took : List ℕ → Wrote → Type 0) (given : Given) (end : CommandEnd) → Widens part whole
     → EndMeans part took given end → EndMeans whole took given end
 widened part whole took given ends.WriteFault wide h = record {
   end = h.end;
@@ -83,20 +83,20 @@ widened part whole took given end wide h =
 -- ---- a status line alone
 
 -- behind nothing
-pub says_alone : (Ends : EndsHow) (old new : Outbox) (end : End) (ended : Ended)
+pub says_alone : (Ends : EndsHow) (old new : Outbox) (end : CommandEnd) (ended : EndedCommand)
     → Weakens Ends → IsSaid end → Ends end (gives nothing) (said_last [] end) → SaysEnd end nothing old new ended
     → EndsBy Ends old new ended
 says_alone Ends old new end ended weak is_said ends_so says =
     says_last Ends old old new [] end nothing ended weak is_said ends_so (gathers_none old) says
 
 -- it says so
-pub alone : (end : End) → SaysAlone end (gives nothing) (said_last [] end)
+pub alone : (end : CommandEnd) → SaysAlone end (gives nothing) (said_last [] end)
 alone end = record { nothing_given = refl; said_is = refl }
 
 -- ---- what waited is given on
 
 -- what the sink took, by another account of it
-means_by : (Ends : EndsHow) (took other : List ℕ → Wrote → Type 0) (given : Given) (end : End)
+means_by : (Ends : EndsHow) (took other : List ℕ → Wrote → Type 0) (given : Given) (end : CommandEnd)
     → ((end ≡ ends.WriteFault → ⊥) → (bytes : List ℕ) → took bytes wrote.Done → other bytes wrote.Done)
     → (end ≡ ends.WriteFault → (bytes : List ℕ) → took bytes wrote.Fault → other bytes wrote.Fault)
     → EndMeans Ends took given end → EndMeans Ends other given end
@@ -106,7 +106,7 @@ means_by Ends took other given end done fault h =
     record { said = h.said; ends = h.ends; written = done (λ e. (cc)) _ h.written }
 
 -- all that it says went in, and then the sink failed
-cut_after : (Ends : EndsHow) (took other : List ℕ → Wrote → Type 0) (given : Given) (end : End)
+cut_after : (Ends : EndsHow) (took other : List ℕ → Wrote → Type 0) (given : Given) (end : CommandEnd)
     → Weakens Ends → (end ≡ ends.WriteFault → ⊥)
     → ((bytes : List ℕ) → took bytes wrote.Done → other bytes wrote.Fault) → EndMeans Ends took given end
     → Cut Ends other nothing
@@ -136,12 +136,12 @@ took_some old middle new bytes none h flush =
     (rose_later old.faults middle.faults new.faults h.later flush.rose, rest.0, rest.1)
 
 -- how a command ended, once what waited was given on
-pub means : (Ends : EndsHow) (old middle new : Outbox) (before after : Ended)
+pub means : (Ends : EndsHow) (old middle new : Outbox) (before after : EndedCommand)
     → Weakens Ends → old.pending ≡ [] → EndsBy Ends old middle before → GivesOn middle new before after
     → EndMeans Ends (TakesBytes (behind old) (behind new)) after.given after.end
 means Ends old middle new before after weak none h given =
     let took = TakesBytes (behind old) (behind new) in
-    let So : Ended → Type 0 = λ ended. EndMeans Ends took ended.given ended.end in
+    let So : EndedCommand → Type 0 = λ ended. EndMeans Ends took ended.given ended.end in
     elim given [
       | inl failed ↦ subst So (sym failed.1)
           (means_by Ends (GathersAll old middle) took before.given before.end

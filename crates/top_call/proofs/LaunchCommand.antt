@@ -19,9 +19,9 @@ use Rattle.top_call.specs.LaunchCommand.{ReadsLaunch, TellsRun, launch_of}
 use Rattle.top_call.specs.Ports.{has_ports}
 use Rattle.top_call.specs.TopParts.{EndsBy, SaysEnd, end_of_fault}
 use Rattle.top_call.specs.TracesReports.{TracesEnds}
-use Rattle.top_call.specs.declared.ending.End.{End}
-use Rattle.top_call.specs.declared.ending.End.TheVariants as ends
-use Rattle.top_call.specs.declared.ending.Ended.{Ended}
+use Rattle.top_call.specs.declared.ending.CommandEnd.{CommandEnd}
+use Rattle.top_call.specs.declared.ending.CommandEnd.TheVariants as ends
+use Rattle.top_call.specs.declared.ending.EndedCommand.{EndedCommand}
 use Rattle.top_call.specs.declared.ending.Given.{Given}
 use Rattle.top_call.proofs.LastLine.{Weakens, Widens, alone, says_alone, weak_alone, widened}
 use Rattle.top_call.proofs.JobRead.{MayReadNone, one_job, was_no_job}
@@ -29,7 +29,7 @@ use Rattle.top_call.proofs.LaunchRun.{gave_run, none_lost}
 use Rattle.top_call.proofs.Statuses.{code_means}
 use Rattle.top_call.proofs.TracesTold.{weak_traces}
 
-weak_checked : (port : ℕ) (reading : Reading) (spawning : Spawning) (end : End) (given : Given) (said : List ℕ)
+weak_checked : (port : ℕ) (reading : Reading) (spawning : Spawning) (end : CommandEnd) (given : Given) (said : List ℕ)
     → ChecksLaunch port reading spawning end (gives given) said → ChecksLaunch port reading spawning end unasked said
 weak_checked port reading spawning end given said h = record {
   reads = h.reads;
@@ -99,7 +99,7 @@ launch_none port reading spawning unused (ends.Child rank code) after said h = a
 
 -- not each node has a port, and so the status line was said
 pub ports_told : (port : ℕ) (reading : Reading) (spawning : Spawning) (job : JobState) (old new : Outbox)
-    (ended : Ended) → GivesJob reading job → has_ports port job.settings.nodes ≡ false → IsUnused spawning
+    (ended : EndedCommand) → GivesJob reading job → has_ports port job.settings.nodes ≡ false → IsUnused spawning
     → SaysEnd ends.Usage nothing old new ended → EndsBy (LaunchEnds port reading spawning) old new ended
 ports_told port reading spawning job old new ended read no_ports unused says =
     says_alone (LaunchEnds port reading spawning) old new ends.Usage ended (weak_launch port reading spawning) tt
@@ -120,7 +120,7 @@ checks : (port : ℕ) (reading : Reading) (spawning : Spawning) (reads : ReadsLa
     → Widens (TracesEnds reads.job (traces_in outputs)) (LaunchEnds port reading spawning)
 checks port reading spawning reads outputs given = by_end
   where
-    checked : (end : End) (after : After) (said : List ℕ) → TracesEnds reads.job (traces_in outputs) end after said
+    checked : (end : CommandEnd) (after : After) (said : List ℕ) → TracesEnds reads.job (traces_in outputs) end after said
         → ChecksLaunch port reading spawning end after said
     checked end after said h = record { reads = reads; outputs = outputs; gives = given; checked = h }
 
@@ -141,7 +141,7 @@ checks port reading spawning reads outputs given = by_end
 
 -- it gave outputs, and the check of the traces in them ended so
 pub checked_told : (port : ℕ) (reading : Reading) (spawning : Spawning) (reads : ReadsLaunch port reading)
-    (launch : Launch) (outputs : List Output) (old new : Outbox) (ended : Ended)
+    (launch : Launch) (outputs : List Output) (old new : Outbox) (ended : EndedCommand)
     → launch ≡ launch_of port reading reads → GivesOutputs launch spawning.before spawning.after outputs
     → EndsBy (TracesEnds reads.job (traces_in outputs)) old new ended
     → EndsBy (LaunchEnds port reading spawning) old new ended
@@ -152,7 +152,7 @@ checked_told port reading spawning reads launch outputs old new ended is given t
 
 -- it gave none, and so the status line was said
 fault_said : (port : ℕ) (reading : Reading) (spawning : Spawning) (reads : ReadsLaunch port reading)
-    (fault : LaunchFault) (old new : Outbox) (ended : Ended)
+    (fault : LaunchFault) (old new : Outbox) (ended : EndedCommand)
     → EndsLaunch (launch_of port reading reads) spawning.before spawning.after (Err fault)
     → SaysEnd (end_of_fault fault) nothing old new ended → EndsBy (LaunchEnds port reading spawning) old new ended
 fault_said port reading spawning reads (launches.Child rank code) old new ended loses says =
@@ -170,7 +170,7 @@ fault_said port reading spawning reads launches.NoMemory old new ended (inr shor
     (inr (inl (record { reads = reads; short = short; alone = alone ends.NoMemory }))) says
 
 pub fault_told : (port : ℕ) (reading : Reading) (spawning : Spawning) (reads : ReadsLaunch port reading)
-    (launch : Launch) (fault : LaunchFault) (old new : Outbox) (ended : Ended)
+    (launch : Launch) (fault : LaunchFault) (old new : Outbox) (ended : EndedCommand)
     → launch ≡ launch_of port reading reads → EndsLaunch launch spawning.before spawning.after (Err fault)
     → SaysEnd (end_of_fault fault) nothing old new ended → EndsBy (LaunchEnds port reading spawning) old new ended
 fault_told port reading spawning reads launch fault old new ended is told says =
@@ -180,11 +180,11 @@ fault_told port reading spawning reads launch fault old new ended is told says =
 -- ---- exit statuses
 
 -- how a call of it ended
-abbrev EndedSo : Call → (port : ℕ) → End → Type 0
+abbrev EndedSo : Call → (port : ℕ) → CommandEnd → Type 0
 EndedSo call port end =
     EndMeans (LaunchEnds port (read_in call) (spawning_in call)) (took_in call) call.given end
 
-launch_codes : (call : Call) (port : ℕ) (end : End) → EndedSo call port end
+launch_codes : (call : Call) (port : ℕ) (end : CommandEnd) → EndedSo call port end
     → Contains (0 ∷ 1 ∷ 2 ∷ 3 ∷ 4 ∷ 5 ∷ 7 ∷ 8 ∷ 11 ∷ 12 ∷ []) (code_of end)
 launch_codes call port ends.Done h = (0, lit< tt, refl)
 launch_codes call port ends.Violations h = (1, lit< tt, refl)
@@ -200,7 +200,7 @@ launch_codes call port ends.LinkFault h = absurd h.ends
 launch_codes call port ends.Stuck h = absurd h.ends
 launch_codes call port ends.JournalFull h = absurd h.ends
 
-pub launch_means : (call : Call) (port : ℕ) (end : End) → EndedSo call port end → LaunchMeans call port (code_of end)
+pub launch_means : (call : Call) (port : ℕ) (end : CommandEnd) → EndedSo call port end → LaunchMeans call port (code_of end)
 launch_means call port end h =
     code_means call (LaunchEnds port (read_in call) (spawning_in call)) _ end (launch_codes call port end h) h
 
@@ -212,7 +212,7 @@ has_them source left port job holds read none =
     (subst (λ (before : Option (List ℕ)). ReadsJob before left job) holds.holds.told read) in
     absurd (true≢false (sym holds.ports ∙ (ap (λ (j : JobState). has_ports port j.settings.nodes) same ∙ none)))
 
-launch_judges : (call : Call) (port : ℕ) (end : End) → EndedSo call port end → HoldsLaunch port call.before.source
+launch_judges : (call : Call) (port : ℕ) (end : CommandEnd) → EndedSo call port end → HoldsLaunch port call.before.source
     → IsFaultless call → (Rose call.before.spawner.faults call.after.spawner.faults → ⊥)
     → Contains (0 ∷ 1 ∷ 8 ∷ 11 ∷ 12 ∷ []) (code_of end)
 launch_judges call port ends.Done h holds faultless spawned = (0, lit< tt, refl)
@@ -239,7 +239,7 @@ tells_read source left port job spawning holds read tells =
     subst (λ (it : JobState). TellsRun it spawning) (one_job holds.holds.bytes left holds.holds.job job
     holds.holds.text (subst (λ (before : Option (List ℕ)). ReadsJob before left job) holds.holds.told read)) tells
 
-launch_finds : (call : Call) (port : ℕ) (end : End) → EndedSo call port end
+launch_finds : (call : Call) (port : ℕ) (end : CommandEnd) → EndedSo call port end
     → (holds : HoldsLaunch port call.before.source) → TellsRun holds.holds.job (spawning_in call) → IsFaultless call
     → (Rose call.before.spawner.faults call.after.spawner.faults → ⊥) → Contains (0 ∷ 1 ∷ 8 ∷ []) (code_of end)
 launch_finds call port ends.Done h holds tells faultless spawned = (0, lit< tt, refl)
@@ -267,7 +267,7 @@ launch_finds call port (ends.BadJob line reason) h holds tells faultless spawned
 launch_finds call port ends.Usage h holds tells faultless spawned =
     absurd (has_them call.before.source call.after.source.left port h.ends.job holds h.ends.read h.ends.no_ports)
 
-pub launch_completes : (call : Call) (port : ℕ) (end : End) → EndedSo call port end
+pub launch_completes : (call : Call) (port : ℕ) (end : CommandEnd) → EndedSo call port end
     → LaunchCompletes call port (code_of end)
 launch_completes call port end h =
     record { judged = launch_judges call port end h; is_run = launch_finds call port end h }

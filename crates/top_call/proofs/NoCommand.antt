@@ -5,15 +5,15 @@ use Rattle.top_call.specs.Outsides.{Call, took_in}
 use Rattle.top_call.specs.Commands.{code_of}
 use Rattle.top_call.specs.HowEnds.{EndMeans}
 use Rattle.top_call.specs.NoCommand.{UsageEnds, UsageMeans}
-use Rattle.top_call.specs.declared.ending.End.{End}
-use Rattle.top_call.specs.declared.ending.End.TheVariants as ends
+use Rattle.top_call.specs.declared.ending.CommandEnd.{CommandEnd}
+use Rattle.top_call.specs.declared.ending.CommandEnd.TheVariants as ends
 use Rattle.top_call.proofs.LastLine.{Weakens, weak_alone}
 use Rattle.top_call.proofs.Statuses.{code_means}
 
 pub weak_usage : Weakens UsageEnds
 weak_usage end given said h = (h.0, weak_alone end given said h.1)
 
-usage_codes : (call : Call) (end : End) → EndMeans UsageEnds (took_in call) call.given end
+usage_codes : (call : Call) (end : CommandEnd) → EndMeans UsageEnds (took_in call) call.given end
     → Contains (2 ∷ 5 ∷ []) (code_of end)
 usage_codes call ends.Usage h = (0, lit< tt, refl)
 usage_codes call ends.WriteFault h = (1, lit< tt, refl)
@@ -29,6 +29,6 @@ usage_codes call ends.JournalFull h = absurd (let other = h.ends.0 in cc)
 usage_codes call (ends.NotARun node entry) h = absurd (let other = h.ends.0 in cc)
 usage_codes call (ends.Child rank code) h = absurd (let other = h.ends.0 in cc)
 
-pub usage_means : (call : Call) (end : End) → EndMeans UsageEnds (took_in call) call.given end
+pub usage_means : (call : Call) (end : CommandEnd) → EndMeans UsageEnds (took_in call) call.given end
     → UsageMeans call (code_of end)
 usage_means call end h = code_means call UsageEnds _ end (usage_codes call end h) h

@@ -9,13 +9,11 @@ use Rattle.machine.specs.declared.entry.Entry.{Entry}
 use Rattle.text_lines.specs.LineTexts.{Line, spell, line_text}
 use Rattle.gas_endpoint.specs.EndpointState.{EndpointState}
 use Rattle.job_text.specs.declared.job.Job.{Job as JobState}
-use Rattle.endpoint_lock.specs.declared.ends.End.{End as StationEnd}
-use Rattle.endpoint_lock.specs.declared.ends.End.TheVariants as stations
+use Rattle.endpoint_lock.specs.declared.ends.StationEnd.{StationEnd}
+use Rattle.endpoint_lock.specs.declared.ends.StationEnd.TheVariants as stations
 use Rattle.node_call.specs.NodeLeaves.{has_noted, node_lines, node_open, post_of, record_after}
 use Rattle.node_call.specs.NodeEnds.{EndsAt, EndsCut, EndsOpen, EndsUnmade, EndsUnopened, RunsTo}
 use Rattle.node_call.specs.NodeEnds.{EndsNode as NodeEndsSo}
-use Rattle.node_call.specs.declared.calling.NodeEnd.{NodeEnd}
-use Rattle.node_call.specs.declared.calling.NodeEnd.TheVariants as nodes
 use Rattle.drill_run.proofs.LinesWritten.{one_more}
 use Rattle.top_call.specs.Outsides.{Call, Course, Input, course_in, took_in}
 use Rattle.top_call.specs.Commands.{code_of, end_of, status_line}
@@ -24,16 +22,16 @@ use Rattle.top_call.specs.JobReads.{GivesJob, ReadsJob}
 use Rattle.top_call.specs.NodeCommand.{HoldsNode, LosesLink, NodeCompletes, NodeEnds, NodeMeans, has_node_place}
 use Rattle.top_call.specs.NodeCommand.{RunsNode, StopsAt}
 use Rattle.top_call.specs.TopParts.{EndsBy, SaysEnd, SaysNode, cut_short}
-use Rattle.top_call.specs.declared.ending.End.{End}
-use Rattle.top_call.specs.declared.ending.End.TheVariants as ends
-use Rattle.top_call.specs.declared.ending.Ended.{Ended}
+use Rattle.top_call.specs.declared.ending.CommandEnd.{CommandEnd}
+use Rattle.top_call.specs.declared.ending.CommandEnd.TheVariants as ends
+use Rattle.top_call.specs.declared.ending.EndedCommand.{EndedCommand}
 use Rattle.top_call.specs.declared.ending.Given.{Given}
 use Rattle.top_call.proofs.LastLine.{IsSaid, Weakens, alone, says_alone, says_last, weak_alone}
 use Rattle.top_call.proofs.JobRead.{MayReadNone, one_job, was_no_job}
 use Rattle.top_call.proofs.RunTold.{end_said}
 use Rattle.top_call.proofs.Statuses.{code_means}
 
-abbrev weak_runs : (rank port : ℕ) (course : Course) (station : StationEnd) (end : End) (given : Given) (said : List ℕ)
+abbrev weak_runs : (rank port : ℕ) (course : Course) (station : StationEnd) (end : CommandEnd) (given : Given) (said : List ℕ)
     → RunsNode rank port course station end (gives given) said → RunsNode rank port course station end unasked said
 weak_runs rank port course station end given said h = record {
   job = h.job;
@@ -108,7 +106,7 @@ node_none rank port course (ends.Child child code) after said h = absurd h
 module _ (rank port : ℕ) (course : Course) (job : JobState) (read : GivesJob course.reading job)
     (place : has_node_place rank port job.settings.nodes ≡ true) where
   -- its lines, and its run, as the command says them
-  abbrev ran : (station : StationEnd) (end : End) (after : After)
+  abbrev ran : (station : StationEnd) (end : CommandEnd) (after : After)
       (run : RunsTo (post_of job rank port) course.before course.after station)
       → after.left run.left.machine.endpoint
       → RunsNode rank port course station end after
@@ -157,7 +155,7 @@ module _ (rank port : ℕ) (course : Course) (job : JobState) (read : GivesJob c
   given_node left endpoint is = ap (λ (n : Option EndpointState). node_given n) is
 
   -- a whole trace, and the status line behind it
-  told : (station : StationEnd) (end : End) (left : Option EndpointState) (old middle new : Outbox) (ended : Ended)
+  told : (station : StationEnd) (end : CommandEnd) (left : Option EndpointState) (old middle new : Outbox) (ended : EndedCommand)
       (h : EndsAt (post_of job rank port) course.before course.after station old middle left) → IsSaid end
       → NodeEnds rank port course end (gives (node_given left))
       (said_last (node_lines (post_of job rank port) h.run.journal) end)
@@ -167,7 +165,7 @@ module _ (rank port : ℕ) (course : Course) (job : JobState) (read : GivesJob c
       (node_given left) ended (weak_node rank port course) is_said so h.written says
 
   -- a front of the lines of a run that ended so, and nothing behind it
-  untold_by : (lines : List Line) (old new : Outbox) (end : End)
+  untold_by : (lines : List Line) (old new : Outbox) (end : CommandEnd)
       → NodeEnds rank port course end unasked (said_last lines end) → GathersFront old new (spell lines)
       → EndsBy (NodeEnds rank port course) old new cut_short
   untold_by lines old new end so front = record {
@@ -212,7 +210,7 @@ module _ (rank port : ℕ) (course : Course) (job : JobState) (read : GivesJob c
   untold stations.NoMemory old new other run front = absurd (other refl)
 
   -- memory ran out as the node ran
-  open_told : (old middle new : Outbox) (ended : Ended)
+  open_told : (old middle new : Outbox) (ended : EndedCommand)
       → EndsOpen (post_of job rank port) course.before course.after old middle
       → SaysEnd ends.NoMemory nothing middle new ended → EndsBy (NodeEnds rank port course) old new ended
   open_told old middle new ended h says =
@@ -228,14 +226,14 @@ module _ (rank port : ℕ) (course : Course) (job : JobState) (read : GivesJob c
       })) h.written says
 
   -- or before it
-  unmade_told : (old middle new : Outbox) (ended : Ended)
+  unmade_told : (old middle new : Outbox) (ended : EndedCommand)
       → EndsUnmade course.before course.after old middle → SaysEnd ends.NoMemory nothing middle new ended
       → EndsBy (NodeEnds rank port course) old new ended
   unmade_told old middle new ended h says =
       says_last (NodeEnds rank port course) old middle new [] ends.NoMemory nothing ended (weak_node rank port course)
       tt (inl (alone ends.NoMemory)) h.written says
 
-  early_told : (old middle new : Outbox) (ended : Ended)
+  early_told : (old middle new : Outbox) (ended : EndedCommand)
       → (EndsOpen (post_of job rank port) course.before course.after old middle
       ⊎ EndsUnmade course.before course.after old middle)
       → SaysEnd ends.NoMemory nothing middle new ended → EndsBy (NodeEnds rank port course) old new ended
@@ -250,35 +248,36 @@ module _ (rank port : ℕ) (course : Course) (job : JobState) (read : GivesJob c
   unwritten_told old new (inr h) = stopped [] old new (inr (h.kept, refl)) h.written
 
   -- the run ended so, and then its status line was said
-  pub node_told : (old middle new : Outbox) (end : NodeEnd) (left : Option EndpointState) (ended : Ended)
-      → NodeEndsSo (post_of job rank port) course.before course.after old middle end left
-      → SaysNode end left middle new ended → EndsBy (NodeEnds rank port course) old new ended
-  node_told old middle new (nodes.Over violated) left ended h says =
+  pub node_told : (old middle new : Outbox) (end : StationEnd) (violated : Bool) (left : Option EndpointState)
+      (ended : EndedCommand)
+      → NodeEndsSo (post_of job rank port) course.before course.after old middle end violated left
+      → SaysNode end violated left middle new ended → EndsBy (NodeEnds rank port course) old new ended
+  node_told old middle new stations.Over violated left ended h says =
       told stations.Over (end_of violated) left old middle new ended h.ends (end_said violated)
       (over violated (gives (node_given left)) h.ends.run h.violated_is
       (given_node left h.ends.run.left.machine.endpoint h.ends.node_is)) says
-  node_told old middle new nodes.Stuck left ended h says =
+  node_told old middle new stations.Stuck violated left ended h says =
       told stations.Stuck ends.Stuck left old middle new ended h tt
       (ran stations.Stuck ends.Stuck (gives (node_given left)) h.run
       (given_node left h.run.left.machine.endpoint h.node_is)) says
-  node_told old middle new nodes.LinkFault left ended h says =
+  node_told old middle new stations.LinkFault violated left ended h says =
       told stations.LinkFault ends.LinkFault left old middle new ended h tt
       (lost (gives (node_given left)) h.run (given_node left h.run.left.machine.endpoint h.node_is)) says
-  node_told old middle new nodes.JournalFull left ended h says =
+  node_told old middle new stations.JournalFull violated left ended h says =
       told stations.JournalFull ends.JournalFull left old middle new ended h tt
       (ran stations.JournalFull ends.JournalFull (gives (node_given left)) h.run
       (given_node left h.run.left.machine.endpoint h.node_is)) says
-  node_told old middle new nodes.NoMemory left ended h says =
+  node_told old middle new stations.NoMemory violated left ended h says =
       let given = ap (λ (n : Option EndpointState). node_given n) h.no_node in
       early_told old middle new ended h.how
       (subst (λ (g : Given). SaysEnd ends.NoMemory g middle new ended) given says)
-  node_told old middle new nodes.WriteFault left ended h says =
-      subst (λ (e : Ended). EndsBy (NodeEnds rank port course) old new e) (sym says.0)
+  node_told old middle new stations.WriteFault violated left ended h says =
+      subst (λ (e : EndedCommand). EndsBy (NodeEnds rank port course) old new e) (sym says.0)
       (subst (λ (out : Outbox). EndsBy (NodeEnds rank port course) old out cut_short) (sym says.1)
       (unwritten_told old middle h.how))
 
 -- no node of the job is asked for
-pub no_node_told : (rank port : ℕ) (course : Course) (job : JobState) (old new : Outbox) (ended : Ended)
+pub no_node_told : (rank port : ℕ) (course : Course) (job : JobState) (old new : Outbox) (ended : EndedCommand)
     → GivesJob course.reading job → has_node_place rank port job.settings.nodes ≡ false
     → SaysEnd ends.Usage nothing old new ended
     → EndsBy (NodeEnds rank port course) old new ended
@@ -288,7 +287,7 @@ no_node_told rank port course job old new ended read none says =
 
 -- ---- exit statuses
 
-node_codes : (rank port : ℕ) (call : Call) (end : End)
+node_codes : (rank port : ℕ) (call : Call) (end : CommandEnd)
     → EndMeans (NodeEnds rank port (course_in call)) (took_in call) call.given end
     → Contains (0 ∷ 1 ∷ 2 ∷ 3 ∷ 4 ∷ 5 ∷ 6 ∷ 8 ∷ 9 ∷ 10 ∷ []) (code_of end)
 node_codes rank port call ends.Done h = (0, lit< tt, refl)
@@ -305,7 +304,7 @@ node_codes rank port call ends.JournalFull h = (9, lit< tt, refl)
 node_codes rank port call (ends.NotARun node entry) h = absurd h.ends
 node_codes rank port call (ends.Child child code) h = absurd h.ends
 
-pub node_means : (call : Call) (rank port : ℕ) (end : End)
+pub node_means : (call : Call) (rank port : ℕ) (end : CommandEnd)
     → EndMeans (NodeEnds rank port (course_in call)) (took_in call) call.given end
     → NodeMeans call rank port (code_of end)
 node_means call rank port end h =
@@ -320,7 +319,7 @@ is_no_node source left rank port job holds read none =
     absurd (true≢false
     (sym holds.place ∙ (ap (λ (j : JobState). has_node_place rank port j.settings.nodes) same ∙ none)))
 
-pub node_completes : (call : Call) (rank port : ℕ) (end : End)
+pub node_completes : (call : Call) (rank port : ℕ) (end : CommandEnd)
     → EndMeans (NodeEnds rank port (course_in call)) (took_in call) call.given end
     → NodeCompletes call rank port (code_of end)
 node_completes call rank port ends.Done h holds faultless linked = (0, lit< tt, refl)

@@ -15,8 +15,8 @@ use Rattle.top_call.specs.Commands.{end_of, status_line}
 use Rattle.top_call.specs.HowEnds.{EndsHow, gives, nothing, said_last, unasked, world_given}
 use Rattle.top_call.specs.RunReports.{EndsRun, LeavesRun}
 use Rattle.top_call.specs.TopParts.{EndsBy, SaysRun}
-use Rattle.top_call.specs.declared.ending.End.TheVariants as ends
-use Rattle.top_call.specs.declared.ending.Ended.{Ended}
+use Rattle.top_call.specs.declared.ending.CommandEnd.TheVariants as ends
+use Rattle.top_call.specs.declared.ending.EndedCommand.{EndedCommand}
 use Rattle.top_call.specs.declared.ending.Given.{Given}
 use Rattle.top_call.proofs.LastLine.{IsSaid, Weakens, says_last}
 
@@ -52,7 +52,7 @@ end_said false = tt
 
 -- the run ended so, and then its status line was said
 pub run_told : (Ends : EndsHow) (job : JobState) (lines : List Line) (old middle new : Outbox) (run : RunEnd)
-    (ended : Ended)
+    (ended : EndedCommand)
     → Runs Ends job lines → EndsSaying job lines old middle run → SaysRun run middle new ended
     → EndsBy Ends old new ended
 run_told Ends job lines old middle new (runs.Done violated world) ended by h says =
@@ -67,7 +67,7 @@ run_told Ends job lines old middle new runs.Fault ended by h says =
     let end = end_of (is_violated job) in
     let went : GathersAll old new (spell lines) wrote.Fault =
     subst (λ (out : Outbox). GathersAll old out (spell lines) wrote.Fault) (sym says.1) h in
-    subst (λ (e : Ended). EndsBy Ends old new e) (sym says.0) (record {
+    subst (λ (e : EndedCommand). EndsBy Ends old new e) (sym says.0) (record {
       end = end;
       said = said_last lines end;
       ends =

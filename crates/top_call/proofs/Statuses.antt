@@ -7,11 +7,11 @@ use Rattle.top_call.specs.Outsides.{Call, took_in}
 use Rattle.top_call.specs.Commands.{code_of}
 use Rattle.top_call.specs.HowEnds.{EndsHow, EndMeans}
 use Rattle.top_call.specs.Statuses.{CodeMeans}
-use Rattle.top_call.specs.declared.ending.End.{End}
-use Rattle.top_call.specs.declared.ending.End.TheVariants as ends
+use Rattle.top_call.specs.declared.ending.CommandEnd.{CommandEnd}
+use Rattle.top_call.specs.declared.ending.CommandEnd.TheVariants as ends
 
 -- the end with this exit status, if there is just one
-abbrev end_at : ℕ → Option End
+abbrev end_at : ℕ → Option CommandEnd
 end_at code =
     if code == 0 then Some ends.Done else
     if code == 1 then Some ends.Violations else
@@ -24,7 +24,7 @@ end_at code =
     if code == 9 then Some ends.Stuck else
     if code == 10 then Some ends.JournalFull else None
 
-known : (end : End) → (end_at (code_of end) ≡ Some end) ⊎ (end_at (code_of end) ≡ None)
+known : (end : CommandEnd) → (end_at (code_of end) ≡ Some end) ⊎ (end_at (code_of end) ≡ None)
 known ends.Done = inl refl
 known ends.Violations = inl refl
 known ends.Usage = inl refl
@@ -39,7 +39,7 @@ known ends.JournalFull = inl refl
 known (ends.NotARun node entry) = inr refl
 known (ends.Child rank code) = inr refl
 
-one_end : (end other : End) → end_at (code_of other) ≡ Some other → code_of end ≡ code_of other → end ≡ other
+one_end : (end other : CommandEnd) → end_at (code_of other) ≡ Some other → code_of end ≡ code_of other → end ≡ other
 one_end end other is same =
     let told = ap end_at same in
     elim (known end) [
@@ -48,7 +48,7 @@ one_end end other is same =
     ]
 
 -- that of a bad job
-a_bad_job : (end : End) → code_of end ≡ 3 → (line : ℕ) × (reason : LineWhy) × (end ≡ ends.BadJob line reason)
+a_bad_job : (end : CommandEnd) → code_of end ≡ 3 → (line : ℕ) × (reason : LineWhy) × (end ≡ ends.BadJob line reason)
 a_bad_job (ends.BadJob line reason) e = (line, reason, refl)
 a_bad_job ends.Done e = absurd (omega (arith, e))
 a_bad_job ends.Violations e = absurd (omega (arith, e))
@@ -64,7 +64,7 @@ a_bad_job (ends.NotARun node entry) e = absurd (omega (arith, e))
 a_bad_job (ends.Child rank code) e = absurd (omega (arith, e))
 
 -- that of traces that are no run
-not_a_run : (end : End) → code_of end ≡ 11 → (node entry : ℕ) × (end ≡ ends.NotARun node entry)
+not_a_run : (end : CommandEnd) → code_of end ≡ 11 → (node entry : ℕ) × (end ≡ ends.NotARun node entry)
 not_a_run (ends.NotARun node entry) e = (node, entry, refl)
 not_a_run (ends.BadJob line reason) e = absurd (omega (arith, e))
 not_a_run (ends.Child rank code) e = absurd (omega (arith, e))
@@ -80,7 +80,7 @@ not_a_run ends.Stuck e = absurd (omega (arith, e))
 not_a_run ends.JournalFull e = absurd (omega (arith, e))
 
 -- that of a node that ended badly
-a_child : (end : End) → code_of end ≡ 12 → (rank status : ℕ) × (end ≡ ends.Child rank status)
+a_child : (end : CommandEnd) → code_of end ≡ 12 → (rank status : ℕ) × (end ≡ ends.Child rank status)
 a_child (ends.Child rank status) e = (rank, status, refl)
 a_child (ends.BadJob line reason) e = absurd (omega (arith, e))
 a_child (ends.NotARun node entry) e = absurd (omega (arith, e))
@@ -96,10 +96,10 @@ a_child ends.Stuck e = absurd (omega (arith, e))
 a_child ends.JournalFull e = absurd (omega (arith, e))
 
 -- how a call ended, by its end
-abbrev EndedBy : Call → EndsHow → End → Type 0
+abbrev EndedBy : Call → EndsHow → CommandEnd → Type 0
 EndedBy call Ends end = EndMeans Ends (took_in call) call.given end
 
-pub code_means : (call : Call) (Ends : EndsHow) (codes : List ℕ) (end : End) → Contains codes (code_of end)
+pub code_means : (call : Call) (Ends : EndsHow) (codes : List ℕ) (end : CommandEnd) → Contains codes (code_of end)
     → EndedBy call Ends end → CodeMeans call Ends codes (code_of end)
 code_means call Ends codes end is_status h = record {
   is_status = is_status;

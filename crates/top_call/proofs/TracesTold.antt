@@ -16,8 +16,8 @@ use Rattle.top_call.specs.Commands.{end_of, status_line}
 use Rattle.top_call.specs.HowEnds.{After, gives, nodes_given, nothing, said_last, unasked}
 use Rattle.top_call.specs.TopParts.{EndsBy, SaysEnd, SaysTraces}
 use Rattle.top_call.specs.TracesReports.{RunsTraces, TracesEnds}
-use Rattle.top_call.specs.declared.ending.End.TheVariants as ends
-use Rattle.top_call.specs.declared.ending.Ended.{Ended}
+use Rattle.top_call.specs.declared.ending.CommandEnd.TheVariants as ends
+use Rattle.top_call.specs.declared.ending.EndedCommand.{EndedCommand}
 use Rattle.top_call.proofs.LastLine.{Weakens, alone, says_alone, says_last, weak_alone}
 use Rattle.top_call.proofs.RunTold.{end_said}
 
@@ -66,14 +66,14 @@ by_end job these true after said h = h
 by_end job these false after said h = h
 
 -- memory ran out before anything was said
-pub traces_unknown : (job : JobState) (these : List Trace) (old new : Outbox) (ended : Ended)
+pub traces_unknown : (job : JobState) (these : List Trace) (old new : Outbox) (ended : EndedCommand)
     → SaysEnd ends.NoMemory nothing old new ended → EndsBy (TracesEnds job these) old new ended
 traces_unknown job these old new ended says =
     says_alone (TracesEnds job these) old new ends.NoMemory ended (weak_traces job these) tt (inl (alone ends.NoMemory))
     says
 
 -- their check ended so, and then its status line was said
-pub traces_told : (job : JobState) (these : List Trace) (old middle new : Outbox) (end : TracesEnd) (ended : Ended)
+pub traces_told : (job : JobState) (these : List Trace) (old middle new : Outbox) (end : TracesEnd) (ended : EndedCommand)
     → EndsTraces job these old middle end → SaysTraces end middle new ended
     → EndsBy (TracesEnds job these) old new ended
 traces_told job these old middle new (traces.Done violated nodes) ended told says =
@@ -97,7 +97,7 @@ traces_told job these old middle new traces.Fault ended told says =
     let lines = run_lines job (struck_traces job these) in
     let went : GathersAll old new (spell lines) wrote.Fault =
     subst (λ (out : Outbox). GathersAll old out (spell lines) wrote.Fault) (sym says.1) told.lines in
-    subst (λ (e : Ended). EndsBy (TracesEnds job these) old new e) (sym says.0) (record {
+    subst (λ (e : EndedCommand). EndsBy (TracesEnds job these) old new e) (sym says.0) (record {
       end = end;
       said = said_last lines end;
       ends = by_end job these violated unasked (said_last lines end)
@@ -122,7 +122,7 @@ traces_told job these old middle new traces.NoMemory ended (inr told) says =
     })) told.lines.gathered says
 
 -- so of the job of a script
-pub script_told : (job own : JobState) (these : List Trace) (old middle new : Outbox) (end : TracesEnd) (ended : Ended)
+pub script_told : (job own : JobState) (these : List Trace) (old middle new : Outbox) (end : TracesEnd) (ended : EndedCommand)
     → own ≡ job → EndsTraces own these old middle end → SaysTraces end middle new ended
     → EndsBy (TracesEnds job these) old new ended
 script_told job own these old middle new end ended same told says =
@@ -130,7 +130,7 @@ script_told job own these old middle new end ended same told says =
     (subst (λ (j : JobState). EndsTraces j these old middle end) same told) says
 
 -- so of traces that are those
-pub same_told : (job : JobState) (these all : List Trace) (old new : Outbox) (ended : Ended) → these ≡ all
+pub same_told : (job : JobState) (these all : List Trace) (old new : Outbox) (ended : EndedCommand) → these ≡ all
     → EndsBy (TracesEnds job these) old new ended → EndsBy (TracesEnds job all) old new ended
 same_told job these all old new ended same told =
     subst (λ (traces : List Trace). EndsBy (TracesEnds job traces) old new ended) same told

@@ -12,8 +12,8 @@ use Rattle.top_call.specs.HowEnds.{After, EndMeans, gives, nothing, unasked}
 use Rattle.top_call.specs.JobReads.{GivesJob}
 use Rattle.top_call.specs.TopParts.{EndsBy, cut_short}
 use Rattle.top_call.specs.UpgradeCommand.{UpgradeCompletes, UpgradeEnds, UpgradeMeans, UpgradesJob}
-use Rattle.top_call.specs.declared.ending.End.{End}
-use Rattle.top_call.specs.declared.ending.End.TheVariants as ends
+use Rattle.top_call.specs.declared.ending.CommandEnd.{CommandEnd}
+use Rattle.top_call.specs.declared.ending.CommandEnd.TheVariants as ends
 use Rattle.top_call.proofs.LastLine.{Weakens, weak_alone}
 use Rattle.top_call.proofs.JobRead.{MayReadNone, was_no_job}
 use Rattle.top_call.proofs.Statuses.{code_means}
@@ -87,7 +87,7 @@ upgrade_cut reading job old new read h = record {
 
 -- ---- exit statuses
 
-upgrade_codes : (call : Call) (end : End) → EndMeans (UpgradeEnds (read_in call)) (took_in call) call.given end
+upgrade_codes : (call : Call) (end : CommandEnd) → EndMeans (UpgradeEnds (read_in call)) (took_in call) call.given end
     → Contains (0 ∷ 3 ∷ 4 ∷ 5 ∷ 8 ∷ []) (code_of end)
 upgrade_codes call ends.Done h = (0, lit< tt, refl)
 upgrade_codes call (ends.BadJob line reason) h = (1, lit< tt, refl)
@@ -103,11 +103,11 @@ upgrade_codes call ends.JournalFull h = absurd h.ends
 upgrade_codes call (ends.NotARun node entry) h = absurd h.ends
 upgrade_codes call (ends.Child rank code) h = absurd h.ends
 
-pub upgrade_means : (call : Call) (end : End) → EndMeans (UpgradeEnds (read_in call)) (took_in call) call.given end
+pub upgrade_means : (call : Call) (end : CommandEnd) → EndMeans (UpgradeEnds (read_in call)) (took_in call) call.given end
     → UpgradeMeans call (code_of end)
 upgrade_means call end h = code_means call (UpgradeEnds (read_in call)) _ end (upgrade_codes call end h) h
 
-pub upgrade_completes : (call : Call) (end : End) → EndMeans (UpgradeEnds (read_in call)) (took_in call) call.given end
+pub upgrade_completes : (call : Call) (end : CommandEnd) → EndMeans (UpgradeEnds (read_in call)) (took_in call) call.given end
     → UpgradeCompletes call (code_of end)
 upgrade_completes call ends.Done h holds faultless = (0, lit< tt, refl)
 upgrade_completes call ends.NoMemory h holds faultless = (1, lit< tt, refl)

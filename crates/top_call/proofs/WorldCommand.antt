@@ -10,8 +10,8 @@ use Rattle.top_call.specs.HowEnds.{After, EndMeans, gives, unasked}
 use Rattle.top_call.specs.JobReads.{GivesJob}
 use Rattle.top_call.specs.RunReports.{EndsRun}
 use Rattle.top_call.specs.WorldCommand.{WorldCompletes, WorldEnds, WorldMeans}
-use Rattle.top_call.specs.declared.ending.End.{End}
-use Rattle.top_call.specs.declared.ending.End.TheVariants as ends
+use Rattle.top_call.specs.declared.ending.CommandEnd.{CommandEnd}
+use Rattle.top_call.specs.declared.ending.CommandEnd.TheVariants as ends
 use Rattle.top_call.proofs.LastLine.{Weakens, weak_alone}
 use Rattle.top_call.proofs.JobRead.{MayReadNone, was_no_job}
 use Rattle.top_call.proofs.RunTold.{Runs, weak_left, weak_run}
@@ -73,7 +73,7 @@ world_runs reading job read laws = record {
 
 -- ---- exit statuses
 
-world_codes : (call : Call) (end : End) → EndMeans (WorldEnds (read_in call)) (took_in call) call.given end
+world_codes : (call : Call) (end : CommandEnd) → EndMeans (WorldEnds (read_in call)) (took_in call) call.given end
     → Contains (0 ∷ 1 ∷ 3 ∷ 4 ∷ 5 ∷ 8 ∷ []) (code_of end)
 world_codes call ends.Done h = (0, lit< tt, refl)
 world_codes call ends.Violations h = (1, lit< tt, refl)
@@ -89,11 +89,11 @@ world_codes call ends.JournalFull h = absurd h.ends
 world_codes call (ends.NotARun node entry) h = absurd h.ends
 world_codes call (ends.Child rank code) h = absurd h.ends
 
-pub world_means : (call : Call) (end : End) → EndMeans (WorldEnds (read_in call)) (took_in call) call.given end
+pub world_means : (call : Call) (end : CommandEnd) → EndMeans (WorldEnds (read_in call)) (took_in call) call.given end
     → WorldMeans call (code_of end)
 world_means call end h = code_means call (WorldEnds (read_in call)) _ end (world_codes call end h) h
 
-pub world_completes : (call : Call) (end : End) → EndMeans (WorldEnds (read_in call)) (took_in call) call.given end
+pub world_completes : (call : Call) (end : CommandEnd) → EndMeans (WorldEnds (read_in call)) (took_in call) call.given end
     → WorldCompletes call (code_of end)
 world_completes call ends.Done h holds faultless = (0, lit< tt, refl)
 world_completes call ends.Violations h holds faultless = (1, lit< tt, refl)

@@ -13,15 +13,15 @@ use Rattle.top_call.specs.HowEnds.{After, EndsHow, SaysAlone}
 use Rattle.top_call.specs.JobReads.{FailsToRead}
 use Rattle.top_call.specs.Statuses.{CodeMeans}
 use Rattle.top_call.specs.TracesReports.{TracesEnds}
-use Rattle.top_call.specs.declared.ending.End.{End}
-use Rattle.top_call.specs.declared.ending.End.TheVariants as ends
+use Rattle.top_call.specs.declared.ending.CommandEnd.{CommandEnd}
+use Rattle.top_call.specs.declared.ending.CommandEnd.TheVariants as ends
 
 -- a job was read with an output of each of its nodes, in rising order of ranks
 abbrev pub GivesInput : Reading → JobState → List Output → Type 0
 GivesInput reading job outputs = TakesInput reading.before.left reading.after.left job outputs
 
 -- it was read so, each node ended with status 0 or 1, and the check of their traces ended so
-pub record ChecksInput (reading : Reading) (end : End) (after : After) (said : List ℕ) : Type 0 where
+pub record ChecksInput (reading : Reading) (end : CommandEnd) (after : After) (said : List ℕ) : Type 0 where
   pub job : JobState
   pub outputs : List Output
   pub read : GivesInput reading job outputs

@@ -5,8 +5,8 @@ use Rattle.text_lines.specs.declared.why.LineWhy.{LineWhy}
 use Rattle.text_lines.specs.declared.why.LineWhy.TheVariants as why
 use Rattle.text_lines.specs.Lines.{Word}
 use Rattle.text_lines.specs.LineTexts.{Line}
-use Rattle.top_call.specs.declared.ending.End.{End}
-use Rattle.top_call.specs.declared.ending.End.TheVariants as ends
+use Rattle.top_call.specs.declared.ending.CommandEnd.{CommandEnd}
+use Rattle.top_call.specs.declared.ending.CommandEnd.TheVariants as ends
 use Rattle.top_call.specs.declared.words.Command.{Command}
 use Rattle.top_call.specs.declared.words.Command.TheVariants as commands
 
@@ -47,7 +47,7 @@ IsAsked words None = AsksNothing words
 -- ---- ends
 
 -- the exit status of an end
-abbrev pub code_of : End → ℕ
+abbrev pub code_of : CommandEnd → ℕ
 code_of ends.Done = 0
 code_of ends.Violations = 1
 code_of ends.Usage = 2
@@ -74,7 +74,7 @@ why_word why.Early = codes "early"
 why_word why.After = codes "after"
 
 -- the words of the last line of an end; that of a failed write is never written
-abbrev pub status_line : End → Line
+abbrev pub status_line : CommandEnd → Line
 status_line ends.Done = codes "status" ∷ codes "0" ∷ codes "ok" ∷ []
 status_line ends.Violations = codes "status" ∷ codes "1" ∷ codes "violations" ∷ []
 status_line ends.Usage = codes "status" ∷ codes "2" ∷ codes "usage" ∷ []
@@ -93,5 +93,5 @@ status_line (ends.Child rank code) =
     codes "status" ∷ codes "12" ∷ codes "child" ∷ decimal rank ∷ decimal code ∷ []
 
 -- the end of a run that came to its end
-abbrev pub end_of : (violated : Bool) → End
+abbrev pub end_of : (violated : Bool) → CommandEnd
 end_of violated = if violated then ends.Violations else ends.Done

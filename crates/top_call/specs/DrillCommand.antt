@@ -7,7 +7,7 @@ use Rattle.top_call.specs.Outsides.{Call, IsFaultless}
 use Rattle.top_call.specs.HowEnds.{EndsHow}
 use Rattle.top_call.specs.RunReports.{EndsRun, LeavesRun}
 use Rattle.top_call.specs.Statuses.{CodeMeans}
-use Rattle.top_call.specs.declared.ending.End.TheVariants as ends
+use Rattle.top_call.specs.declared.ending.CommandEnd.TheVariants as ends
 
 -- how it may end; no node notes a violation in it
 abbrev pub DrillEnds : (seed : ℕ) → EndsHow

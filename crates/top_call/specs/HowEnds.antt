@@ -12,8 +12,8 @@ use Rattle.drill_run.specs.ScheduleRun.{StandsForRun}
 use Rattle.launch_run.specs.TracesRun.{AreNodesAfter}
 use Rattle.top_call.specs.Outsides.{Call, took_in}
 use Rattle.top_call.specs.Commands.{status_line}
-use Rattle.top_call.specs.declared.ending.End.{End}
-use Rattle.top_call.specs.declared.ending.End.TheVariants as ends
+use Rattle.top_call.specs.declared.ending.CommandEnd.{CommandEnd}
+use Rattle.top_call.specs.declared.ending.CommandEnd.TheVariants as ends
 use Rattle.top_call.specs.declared.ending.Given.{Given}
 
 -- ---- what the caller is given besides the exit status
@@ -76,40 +76,40 @@ unasked = record {
 
 -- how a command may end: so, where it says these bytes, with what is claimed of what its caller is given
 abbrev pub EndsHow : Type 1
-EndsHow = End → After → (said : List ℕ) → Type 0
+EndsHow = CommandEnd → After → (said : List ℕ) → Type 0
 
 -- the status line of this end, behind these lines
-abbrev pub said_last : List Line → End → List ℕ
+abbrev pub said_last : List Line → CommandEnd → List ℕ
 said_last lines end = spell (lines ++ status_line end ∷ [])
 
 -- the status line of this end alone, and nothing is given
-pub record SaysAlone (end : End) (after : After) (said : List ℕ) : Type 0 where
+pub record SaysAlone (end : CommandEnd) (after : After) (said : List ℕ) : Type 0 where
   pub nothing_given : after.none
   pub said_is : said ≡ said_last [] end
 
 -- ---- what is written; `took` is what the sink took of some bytes: all of them, or a front of them where it failed
 
 -- it ended so, gave this, and all that it says was taken
-pub record Told (Ends : EndsHow) (took : List ℕ → Wrote → Type 0) (end : End) (given : Given) : Type 0 where
+pub record Told (Ends : EndsHow) (took : List ℕ → Wrote → Type 0) (end : CommandEnd) (given : Given) : Type 0 where
   pub said : List ℕ
   pub ends : Ends end (gives given) said
   pub written : took said wrote.Done
 
 -- the sink failed, and took a front of what some end says; nothing is given
 pub record Cut (Ends : EndsHow) (took : List ℕ → Wrote → Type 0) (given : Given) : Type 0 where
-  pub end : End
+  pub end : CommandEnd
   pub said : List ℕ
   pub ends : Ends end unasked said
   pub cut : took said wrote.Fault
   pub nothing_given : given ≡ nothing
 
 -- how a command ended, by what its sink took, and what was given
-abbrev pub EndMeans : EndsHow → (took : List ℕ → Wrote → Type 0) → Given → End → Type 0
+abbrev pub EndMeans : EndsHow → (took : List ℕ → Wrote → Type 0) → Given → CommandEnd → Type 0
 EndMeans Ends took given ends.WriteFault = Cut Ends took given
 EndMeans Ends took given end = Told Ends took end given
 
 -- the call ended so
-abbrev pub TellsEnd : Call → EndsHow → End → Type 0
+abbrev pub TellsEnd : Call → EndsHow → CommandEnd → Type 0
 TellsEnd call Ends end = Told Ends (took_in call) end call.given
 
 -- it ended as its sink failed

@@ -10,7 +10,7 @@ use Rattle.text_lines.specs.declared.why.LineWhy.{LineWhy}
 use Rattle.text_lines.specs.declared.why.LineWhy.TheVariants as why
 use Rattle.top_call.specs.Outsides.{Input, Reading}
 use Rattle.top_call.specs.HowEnds.{After, EndsHow, SaysAlone}
-use Rattle.top_call.specs.declared.ending.End.TheVariants as ends
+use Rattle.top_call.specs.declared.ending.CommandEnd.TheVariants as ends
 
 -- a source was read to its end, and its bytes are the text of this job, and of no other
 pub record ReadsJob (old new : Option (List ℕ)) (job : JobState) : Type 0 where

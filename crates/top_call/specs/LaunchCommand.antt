@@ -18,8 +18,8 @@ use Rattle.top_call.specs.JobReads.{FailsToRead, GivesJob, HoldsJob, RefusesJob}
 use Rattle.top_call.specs.Ports.{has_ports}
 use Rattle.top_call.specs.Statuses.{CodeMeans}
 use Rattle.top_call.specs.TracesReports.{TracesEnds}
-use Rattle.top_call.specs.declared.ending.End.{End}
-use Rattle.top_call.specs.declared.ending.End.TheVariants as ends
+use Rattle.top_call.specs.declared.ending.CommandEnd.{CommandEnd}
+use Rattle.top_call.specs.declared.ending.CommandEnd.TheVariants as ends
 
 -- a job was read that has a port for each of its nodes
 pub record ReadsLaunch (port : ℕ) (reading : Reading) : Type 0 where
@@ -45,7 +45,7 @@ pub record HasNoPorts (port : ℕ) (reading : Reading) (spawning : Spawning) (af
   pub alone : SaysAlone ends.Usage after said
 
 -- it was launched, each child gave an output of its node, with status 0 or 1, and the check of their traces ended so
-pub record ChecksLaunch (port : ℕ) (reading : Reading) (spawning : Spawning) (end : End) (after : After)
+pub record ChecksLaunch (port : ℕ) (reading : Reading) (spawning : Spawning) (end : CommandEnd) (after : After)
     (said : List ℕ) : Type 0 where
   pub reads : ReadsLaunch port reading
   pub outputs : List Output

@@ -3,7 +3,7 @@ use Rattle.std.specs.Prelude.{◌≡◌, [], ◌∷◌, ℕ}
 use Rattle.top_call.specs.Outsides.{Call}
 use Rattle.top_call.specs.HowEnds.{EndsHow, SaysAlone}
 use Rattle.top_call.specs.Statuses.{CodeMeans}
-use Rattle.top_call.specs.declared.ending.End.TheVariants as ends
+use Rattle.top_call.specs.declared.ending.CommandEnd.TheVariants as ends
 
 -- the status line alone
 abbrev pub UsageEnds : EndsHow

@@ -5,8 +5,8 @@ use Rattle.gas_outside.specs.Faults.{Rose}
 use Rattle.machine.specs.declared.entry.Entry.{Entry}
 use Rattle.text_lines.specs.LineTexts.{spell}
 use Rattle.job_text.specs.declared.job.Job.{Job as JobState}
-use Rattle.endpoint_lock.specs.declared.ends.End.{End as StationEnd}
-use Rattle.endpoint_lock.specs.declared.ends.End.TheVariants as stations
+use Rattle.endpoint_lock.specs.declared.ends.StationEnd.{StationEnd}
+use Rattle.endpoint_lock.specs.declared.ends.StationEnd.TheVariants as stations
 use Rattle.node_call.specs.NodeLeaves.{Post, has_noted, node_lines, node_open, post_of, record_after}
 use Rattle.node_call.specs.NodeEnds.{RunsTo}
 use Rattle.top_call.specs.Outsides.{Call, Course, Input, IsFaultless, course_in}
@@ -15,8 +15,8 @@ use Rattle.top_call.specs.HowEnds.{After, EndsHow, SaysAlone, said_last}
 use Rattle.top_call.specs.JobReads.{FailsToRead, GivesJob, HoldsJob, RefusesJob}
 use Rattle.top_call.specs.Ports.{has_ports}
 use Rattle.top_call.specs.Statuses.{CodeMeans}
-use Rattle.top_call.specs.declared.ending.End.{End}
-use Rattle.top_call.specs.declared.ending.End.TheVariants as ends
+use Rattle.top_call.specs.declared.ending.CommandEnd.{CommandEnd}
+use Rattle.top_call.specs.declared.ending.CommandEnd.TheVariants as ends
 
 -- among so many nodes there is one of this rank, and each has its port where rank 0 has this one
 abbrev pub has_node_place : (rank port nodes : ℕ) → Bool
@@ -31,7 +31,7 @@ pub record HasNoPlace (rank port : ℕ) (course : Course) (after : After) (said 
 
 -- a job was read, and its node of this rank ran until this end of its station: the trace of its journal, and the status
 -- line; and there is the node after its turns
-pub record RunsNode (rank port : ℕ) (course : Course) (station : StationEnd) (end : End) (after : After)
+pub record RunsNode (rank port : ℕ) (course : Course) (station : StationEnd) (end : CommandEnd) (after : After)
     (said : List ℕ) : Type 0 where
   pub job : JobState
   pub read : GivesJob course.reading job

@@ -6,7 +6,7 @@ use Rattle.drill_run.specs.RunText.{is_violated}
 use Rattle.drill_run.specs.RunLaws.{RunLaws}
 use Rattle.top_call.specs.Commands.{end_of}
 use Rattle.top_call.specs.HowEnds.{After, said_last}
-use Rattle.top_call.specs.declared.ending.End.TheVariants as ends
+use Rattle.top_call.specs.declared.ending.CommandEnd.TheVariants as ends
 
 -- the run of a job came to its end, its laws hold, and a node noted a violation or none: these lines of it, and the
 -- status line; and there is the world after the run

@@ -4,7 +4,7 @@ use Rattle.std.specs.List.{Contains}
 use Rattle.text_lines.specs.declared.why.LineWhy.{LineWhy}
 use Rattle.top_call.specs.Outsides.{Call}
 use Rattle.top_call.specs.HowEnds.{EndsHow, IsCutShort, TellsEnd}
-use Rattle.top_call.specs.declared.ending.End.TheVariants as ends
+use Rattle.top_call.specs.declared.ending.CommandEnd.TheVariants as ends
 
 -- what each exit status says of a call whose command may end so, and which ones it may have
 pub record CodeMeans (call : Call) (Ends : EndsHow) (codes : List ℕ) (code : ℕ) : Type 0 where

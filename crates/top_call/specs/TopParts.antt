@@ -1,5 +1,5 @@
 -- The parts of the top call.
-use Rattle.std.specs.Prelude.{◌≡◌, ◌⊎◌, ℕ, List, [], Option, Some, None, Result, Ok, Err, ⊤}
+use Rattle.std.specs.Prelude.{◌≡◌, ◌⊎◌, ℕ, Bool, List, [], Option, Some, None, Result, Ok, Err, ⊤}
 use Rattle.gas_outside.specs.Buffered.{Outbox, Gathering, Gathers, GathersAll, GathersFront, Flushes, outbox}
 use Rattle.gas_outside.specs.declared.writing.Wrote.TheVariants as wrote
 use Rattle.gas_outside.specs.Faults.{Rose}
@@ -8,8 +8,8 @@ use Rattle.text_lines.specs.LineTexts.{line_text}
 use Rattle.job_text.specs.declared.job.Job.{Job as JobState}
 use Rattle.drill_run.specs.RunEnd.{RunEnd}
 use Rattle.drill_run.specs.RunEnd.TheVariants as runs
-use Rattle.node_call.specs.declared.calling.NodeEnd.{NodeEnd}
-use Rattle.node_call.specs.declared.calling.NodeEnd.TheVariants as nodes
+use Rattle.endpoint_lock.specs.declared.ends.StationEnd.{StationEnd}
+use Rattle.endpoint_lock.specs.declared.ends.StationEnd.TheVariants as stations
 use Rattle.gas_endpoint.specs.EndpointState.{EndpointState}
 use Rattle.launch_run.specs.InputFault.{InputFault}
 use Rattle.launch_run.specs.InputFault.TheVariants as inputs
@@ -28,9 +28,9 @@ use Rattle.top_call.specs.LaunchCommand.{IsUnused, LaunchEnds}
 use Rattle.top_call.specs.NodeCommand.{NodeEnds}
 use Rattle.top_call.specs.DrillCommand.{DrillEnds}
 use Rattle.top_call.specs.NoCommand.{UsageEnds}
-use Rattle.top_call.specs.declared.ending.End.{End}
-use Rattle.top_call.specs.declared.ending.End.TheVariants as ends
-use Rattle.top_call.specs.declared.ending.Ended.{Ended}
+use Rattle.top_call.specs.declared.ending.CommandEnd.{CommandEnd}
+use Rattle.top_call.specs.declared.ending.CommandEnd.TheVariants as ends
+use Rattle.top_call.specs.declared.ending.EndedCommand.{EndedCommand}
 use Rattle.top_call.specs.declared.ending.Given.{Given}
 use Rattle.top_call.specs.declared.reading.JobRead.{JobRead}
 use Rattle.top_call.specs.declared.outside.Outside.{Outside}
@@ -52,7 +52,7 @@ Ends (Some (commands.Node rank port)) course spawning = NodeEnds rank port cours
 Ends (Some (commands.Drill seed)) course spawning = DrillEnds seed
 
 -- how a command ended, by what went into a sink that gathers
-abbrev pub EndsBy : EndsHow → (old new : Outbox) → Ended → Type 0
+abbrev pub EndsBy : EndsHow → (old new : Outbox) → EndedCommand → Type 0
 EndsBy Ends old new ended = EndMeans Ends (GathersAll old new) ended.given ended.end
 
 -- what is seen of the source stands as it did
@@ -75,7 +75,7 @@ KeepsOutside (Some (commands.Drill seed)) course spawning =
     KeepsSource course × KeepsDevices course × IsUnused spawning
 
 -- how what was asked for ended, and what it left as it stood
-pub record EndsAs (asked : Option Command) (course : Course) (spawning : Spawning) (old new : Outbox) (ended : Ended)
+pub record EndsAs (asked : Option Command) (course : Course) (spawning : Spawning) (old new : Outbox) (ended : EndedCommand)
     : Type 0 where
   pub ends : EndsBy (Ends asked course spawning) old new ended
   pub keeps : KeepsOutside asked course spawning
@@ -87,7 +87,7 @@ IsNoNode asked = (rank port : ℕ) → asked ≡ Some (commands.Node rank port) 
 -- ---- reading
 
 -- why reading a job gave none
-abbrev pub IsUnreadJob : Reading → End → Type 0
+abbrev pub IsUnreadJob : Reading → CommandEnd → Type 0
 IsUnreadJob reading (ends.BadJob line why) = ReadsNoJob reading.before.left reading.after.left line why
 IsUnreadJob reading ends.ReadFault = Rose reading.before.faults reading.after.faults
 IsUnreadJob reading ends.NoMemory = ⊤
@@ -106,17 +106,17 @@ IsUnreadJob reading (ends.Child rank code) = ⊥
 abbrev pub GivesText : Reading → JobState → List ℕ → Type 0
 GivesText reading job bytes = (read : GivesJob reading job) × (read.bytes ≡ bytes)
 
-abbrev pub ReadsTextOrNot : Reading → Result JobRead End → Type 0
+abbrev pub ReadsTextOrNot : Reading → Result JobRead CommandEnd → Type 0
 ReadsTextOrNot reading (Ok read) = GivesText reading read.job read.bytes.items
 ReadsTextOrNot reading (Err end) = IsUnreadJob reading end
 
 -- what reading a job gave
-abbrev pub ReadsOrNot : Reading → Result JobState End → Type 0
+abbrev pub ReadsOrNot : Reading → Result JobState CommandEnd → Type 0
 ReadsOrNot reading (Ok job) = GivesJob reading job
 ReadsOrNot reading (Err end) = IsUnreadJob reading end
 
 -- how `check` ends where no input was read
-abbrev pub end_unread : InputFault → End
+abbrev pub end_unread : InputFault → CommandEnd
 end_unread (inputs.Bad line reason) = ends.BadJob line reason
 end_unread inputs.ReadFault = ends.ReadFault
 end_unread inputs.NoMemory = ends.NoMemory
@@ -124,7 +124,7 @@ end_unread inputs.NoMemory = ends.NoMemory
 -- ---- launching
 
 -- how a command ends whose launch gave no outputs
-abbrev pub end_of_fault : LaunchFault → End
+abbrev pub end_of_fault : LaunchFault → CommandEnd
 end_of_fault (launches.Child rank code) = ends.Child rank code
 end_of_fault launches.SpawnFault = ends.SpawnFault
 end_of_fault launches.NoMemory = ends.NoMemory
@@ -132,43 +132,43 @@ end_of_fault launches.NoMemory = ends.NoMemory
 -- ---- saying
 
 -- how a command ends whose sink failed
-abbrev pub cut_short : Ended
+abbrev pub cut_short : EndedCommand
 cut_short = record { end = ends.WriteFault; given = nothing }
 
 -- the status line of this end went in, and so the command ended, and gave this; or the sink failed, and a front of that
 -- line went in
-abbrev pub SaysEnd : End → Given → (old new : Outbox) → Ended → Type 0
+abbrev pub SaysEnd : CommandEnd → Given → (old new : Outbox) → EndedCommand → Type 0
 SaysEnd end given old new ended =
     ((ended ≡ record { end = end; given = given }) × Gathers old new (line_text (status_line end)))
     ⊎ ((ended ≡ cut_short) × GathersFront old new (line_text (status_line end)))
 
 -- what is said behind the lines of a run that ended so: the status line, with the world after the run; nothing where
 -- the sink failed
-abbrev pub SaysRun : RunEnd → (old new : Outbox) → Ended → Type 0
+abbrev pub SaysRun : RunEnd → (old new : Outbox) → EndedCommand → Type 0
 SaysRun (runs.Done violated world) old new ended = SaysEnd (end_of violated) (world_given world) old new ended
 SaysRun runs.Fault old new ended = (ended ≡ cut_short) × (new ≡ old)
 SaysRun runs.NoMemory old new ended = SaysEnd ends.NoMemory nothing old new ended
 
--- what is said behind the trace of a node whose run ended so: the status line, with this node, where one is left;
+-- what is said behind the trace of a node whose turns ended so: the status line, with this node, where one is left;
 -- nothing where the sink failed
-abbrev pub SaysNode : NodeEnd → Option EndpointState → (old new : Outbox) → Ended → Type 0
-SaysNode (nodes.Over violated) left old new ended = SaysEnd (end_of violated) (node_given left) old new ended
-SaysNode nodes.Stuck left old new ended = SaysEnd ends.Stuck (node_given left) old new ended
-SaysNode nodes.LinkFault left old new ended = SaysEnd ends.LinkFault (node_given left) old new ended
-SaysNode nodes.JournalFull left old new ended = SaysEnd ends.JournalFull (node_given left) old new ended
-SaysNode nodes.NoMemory left old new ended = SaysEnd ends.NoMemory (node_given left) old new ended
-SaysNode nodes.WriteFault left old new ended = (ended ≡ cut_short) × (new ≡ old)
+abbrev pub SaysNode : StationEnd → (violated : Bool) → Option EndpointState → (old new : Outbox) → EndedCommand → Type 0
+SaysNode stations.Over violated left old new ended = SaysEnd (end_of violated) (node_given left) old new ended
+SaysNode stations.Stuck violated left old new ended = SaysEnd ends.Stuck (node_given left) old new ended
+SaysNode stations.LinkFault violated left old new ended = SaysEnd ends.LinkFault (node_given left) old new ended
+SaysNode stations.JournalFull violated left old new ended = SaysEnd ends.JournalFull (node_given left) old new ended
+SaysNode stations.NoMemory violated left old new ended = SaysEnd ends.NoMemory (node_given left) old new ended
+SaysNode stations.WriteFault violated left old new ended = (ended ≡ cut_short) × (new ≡ old)
 
 -- what is said behind the lines of traces whose check ended so: the status line, with the nodes after them; nothing
 -- where the sink failed
-abbrev pub SaysTraces : TracesEnd → (old new : Outbox) → Ended → Type 0
+abbrev pub SaysTraces : TracesEnd → (old new : Outbox) → EndedCommand → Type 0
 SaysTraces (traces.Done violated nodes) old new ended = SaysEnd (end_of violated) (nodes_given nodes) old new ended
 SaysTraces (traces.NotARun node entry) old new ended = SaysEnd (ends.NotARun node entry) nothing old new ended
 SaysTraces traces.Fault old new ended = (ended ≡ cut_short) × (new ≡ old)
 SaysTraces traces.NoMemory old new ended = SaysEnd ends.NoMemory nothing old new ended
 
 -- what waited was given on, and the end stays; or the sink failed at that. After a fault nothing more is given on
-abbrev pub GivesOn : (old new : Outbox) → (before after : Ended) → Type 0
+abbrev pub GivesOn : (old new : Outbox) → (before after : EndedCommand) → Type 0
 GivesOn old new before after =
     ((before.end ≡ ends.WriteFault) × (after ≡ before) × (new ≡ old))
     ⊎ (((before.end ≡ ends.WriteFault → ⊥) × (after ≡ before) × Flushes old new wrote.Done)
@@ -192,10 +192,10 @@ pub record StandsOver {S K L P C G : Type 0} (outside : Outside S K L P C G)
   pub empty : gathering.sink.pending ≡ []
 
 -- what the sink still held back was given on, and so the call of a command that ended ends
-pub record Closes {S K L P C G : Type 0} (taken : K → Option (List ℕ)) (faults : K → ℕ) (ended : Ended)
+pub record Closes {S K L P C G : Type 0} (taken : K → Option (List ℕ)) (faults : K → ℕ) (ended : EndedCommand)
     (gathering : Outside S (Gathering K) L P C G) (status : Status) (outside : Outside S K L P C G) : Type 0 where
   pub sink : Gathering K
-  pub over : Ended
+  pub over : EndedCommand
   pub gives_on : GivesOn (outbox taken faults gathering.sink) (outbox taken faults sink) ended over
   pub code : status.code ≡ code_of over.end
   pub given : given_with status ≡ over.given

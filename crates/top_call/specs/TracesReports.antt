@@ -9,7 +9,7 @@ use Rattle.launch_run.specs.Struck.{struck_traces}
 use Rattle.launch_run.specs.TracesRun.{AreNoRun, RunOfTraces}
 use Rattle.top_call.specs.Commands.{end_of}
 use Rattle.top_call.specs.HowEnds.{After, EndsHow, SaysAlone, said_last}
-use Rattle.top_call.specs.declared.ending.End.TheVariants as ends
+use Rattle.top_call.specs.declared.ending.CommandEnd.TheVariants as ends
 
 -- they are a run, whose laws hold, and a node noted a violation in it or none: the lines of that run, and the status
 -- line. There are the nodes after it, which are those that the traces leave, as they were read

@@ -10,7 +10,7 @@ use Rattle.top_call.specs.Commands.{end_of}
 use Rattle.top_call.specs.HowEnds.{After, EndsHow, SaysAlone, said_last}
 use Rattle.top_call.specs.JobReads.{FailsToRead, GivesJob, HoldsJob, RefusesJob}
 use Rattle.top_call.specs.Statuses.{CodeMeans}
-use Rattle.top_call.specs.declared.ending.End.TheVariants as ends
+use Rattle.top_call.specs.declared.ending.CommandEnd.TheVariants as ends
 
 -- what `world` says of a job whose run comes to its end
 abbrev pub world_says : JobState → List ℕ

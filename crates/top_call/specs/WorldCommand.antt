@@ -8,7 +8,7 @@ use Rattle.top_call.specs.HowEnds.{After, EndsHow, SaysAlone}
 use Rattle.top_call.specs.JobReads.{FailsToRead, GivesJob, HoldsJob, RefusesJob}
 use Rattle.top_call.specs.RunReports.{EndsRun, LeavesRun}
 use Rattle.top_call.specs.Statuses.{CodeMeans}
-use Rattle.top_call.specs.declared.ending.End.TheVariants as ends
+use Rattle.top_call.specs.declared.ending.CommandEnd.TheVariants as ends
 
 -- a job was read, and its run came to its end
 pub record RunsJob (reading : Reading) (violated : Bool) (after : After) (said : List ℕ) : Type 0 where

@@ -8,7 +8,7 @@ ghost use Rattle.top_call.specs.CheckCommand.{CheckEnds, GivesInput};
 ghost use Rattle.top_call.specs.Outsides.{Reading, reading_over};
 ghost use Rattle.top_call.specs.TopParts.{EndsBy, end_unread};
 
-use crate::ending::{End, Ended, Given};
+use crate::ending::{CommandEnd, EndedCommand, Given};
 use crate::status::say;
 use crate::traces::check_outputs;
 use gas_outside::{BufferedSink, Sink, Source};
@@ -16,13 +16,13 @@ use launch_run::{CheckInput, InputFault, Notes, first_failed, read_input};
 use std::alloc::Global;
 
 /// How the command ends where no input was read.
-fn end_unread(fault: InputFault) -> End
+fn end_unread(fault: InputFault) -> CommandEnd
     ensures { result ≡ end_unread fault }
 {
     match fault {
-        InputFault::Bad { line, why } => End::BadJob { line, why },
-        InputFault::ReadFault => End::ReadFault,
-        InputFault::NoMemory => End::NoMemory,
+        InputFault::Bad { line, why } => CommandEnd::BadJob { line, why },
+        InputFault::ReadFault => CommandEnd::ReadFault,
+        InputFault::NoMemory => CommandEnd::NoMemory,
     }
 }
 
@@ -32,7 +32,7 @@ fn check_input<K: Sink, N: Notes>(
     input: CheckInput,
     sink: &mut BufferedSink<K>,
     notes: &mut N,
-) -> Ended
+) -> EndedCommand
     requires job { IsJob input.job }
     requires count { length input.outputs.items ≡ input.job.settings.nodes }
     requires traces { HaveTraces input.job input.outputs.items }
@@ -43,7 +43,7 @@ fn check_input<K: Sink, N: Notes>(
     let CheckInput { job, outputs } = input;
     match first_failed(&outputs) {
         Some(failed) => {
-            let end = End::Child {
+            let end = CommandEnd::Child {
                 rank: failed.rank,
                 code: failed.code,
             };
@@ -60,7 +60,7 @@ pub fn check_command<S: Source, K: Sink, N: Notes>(
     source: &mut S,
     sink: &mut BufferedSink<K>,
     notes: &mut N,
-) -> Ended
+) -> EndedCommand
     ensures { EndsBy
         (CheckEnds (reading_over S.left S.faults source.old source.new))
         (outbox K.taken K.faults sink.old) (outbox K.taken K.faults sink.new) result }

@@ -8,7 +8,7 @@ ghost use Rattle.top_call.specs.TopParts.{EndsAs, IsNoNode};
 
 use crate::check::check_command;
 use crate::drill::drill_command;
-use crate::ending::{End, Ended, Given};
+use crate::ending::{CommandEnd, EndedCommand, Given};
 use crate::launch::{LaunchAt, launch_command};
 use crate::outside::Outside;
 use crate::status::say;
@@ -25,7 +25,7 @@ pub fn returning_command<S: Source, K: Sink, L: Link, P: Spawner, C: Clock, G, N
     asked: Option<Command>,
     outside: &mut Outside<S, BufferedSink<K>, L, P, C, G>,
     notes: &mut N,
-) -> Ended
+) -> EndedCommand
     requires { IsNoNode asked }
     ensures { EndsAs asked
         (course_with (reading_over S.left S.faults outside.old.source outside.new.source)
@@ -51,6 +51,6 @@ pub fn returning_command<S: Source, K: Sink, L: Link, P: Spawner, C: Clock, G, N
         ),
         Some(Command::Node { .. }) => unreachable!(),
         Some(Command::Drill { seed }) => drill_command(alloc, seed, &mut outside.sink),
-        None => say(&mut outside.sink, End::Usage, Given::nothing()),
+        None => say(&mut outside.sink, CommandEnd::Usage, Given::nothing()),
     }
 }

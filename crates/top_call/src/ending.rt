@@ -11,7 +11,7 @@ use text_lines::LineWhy;
 
 /// How a command ends.
 #[derive(Clone, Copy)]
-pub enum End {
+pub enum CommandEnd {
     /// The run came to its end, and no node noted a violation; or the job was written with datagrams of version 2.
     Done,
     /// The run came to its end, and a node noted a violation.
@@ -57,12 +57,16 @@ pub enum End {
     },
 }
 
-impl End {
+impl CommandEnd {
     /// The end of a run that came to its end.
-    pub fn of_run(violated: bool) -> End
+    pub fn of_run(violated: bool) -> CommandEnd
         ensures { result ≡ end_of violated }
     {
-        if violated { End::Violations } else { End::Done }
+        if violated {
+            CommandEnd::Violations
+        } else {
+            CommandEnd::Done
+        }
     }
 
     /// Its exit status.
@@ -70,19 +74,19 @@ impl End {
         ensures { result ≡ code_of self }
     {
         match self {
-            End::Done => 0,
-            End::Violations => 1,
-            End::Usage => 2,
-            End::BadJob { .. } => 3,
-            End::ReadFault => 4,
-            End::WriteFault => 5,
-            End::LinkFault => 6,
-            End::SpawnFault => 7,
-            End::NoMemory => 8,
-            End::Stuck => 9,
-            End::JournalFull => 10,
-            End::NotARun { .. } => 11,
-            End::Child { .. } => 12,
+            CommandEnd::Done => 0,
+            CommandEnd::Violations => 1,
+            CommandEnd::Usage => 2,
+            CommandEnd::BadJob { .. } => 3,
+            CommandEnd::ReadFault => 4,
+            CommandEnd::WriteFault => 5,
+            CommandEnd::LinkFault => 6,
+            CommandEnd::SpawnFault => 7,
+            CommandEnd::NoMemory => 8,
+            CommandEnd::Stuck => 9,
+            CommandEnd::JournalFull => 10,
+            CommandEnd::NotARun { .. } => 11,
+            CommandEnd::Child { .. } => 12,
         }
     }
 }
@@ -147,18 +151,18 @@ impl Given {
 
 /// How a command ended, and what it gives.
 #[derive(Drop)]
-pub struct Ended {
-    pub end: End,
+pub struct EndedCommand {
+    pub end: CommandEnd,
     pub given: Given,
 }
 
-impl Ended {
+impl EndedCommand {
     /// The sink failed.
-    pub fn cut() -> Ended
+    pub fn cut() -> EndedCommand
         ensures { result ≡ cut_short }
     {
-        Ended {
-            end: End::WriteFault,
+        EndedCommand {
+            end: CommandEnd::WriteFault,
             given: Given::nothing(),
         }
     }

@@ -8,7 +8,7 @@ ghost use Rattle.top_call.specs.LaunchCommand.{LaunchEnds};
 ghost use Rattle.top_call.specs.Outsides.{Reading, reading_over, spawning_of};
 ghost use Rattle.top_call.specs.TopParts.{EndsBy, GivesText, end_of_fault};
 
-use crate::ending::{End, Ended, Given};
+use crate::ending::{CommandEnd, EndedCommand, Given};
 use crate::ports::has_ports;
 use crate::reading::{JobRead, text_from};
 use crate::status::say;
@@ -27,13 +27,13 @@ pub struct LaunchAt {
 }
 
 /// How a command ends whose launch gave no outputs.
-fn end_of_fault(fault: LaunchFault) -> End
+fn end_of_fault(fault: LaunchFault) -> CommandEnd
     ensures { result ≡ end_of_fault fault }
 {
     match fault {
-        LaunchFault::Child { rank, code } => End::Child { rank, code },
-        LaunchFault::SpawnFault => End::SpawnFault,
-        LaunchFault::NoMemory => End::NoMemory,
+        LaunchFault::Child { rank, code } => CommandEnd::Child { rank, code },
+        LaunchFault::SpawnFault => CommandEnd::SpawnFault,
+        LaunchFault::NoMemory => CommandEnd::NoMemory,
     }
 }
 
@@ -44,7 +44,7 @@ fn launch_read<P: Spawner, K: Sink, N: Notes>(
     spawner: &mut P,
     sink: &mut BufferedSink<K>,
     notes: &mut N,
-) -> Ended
+) -> EndedCommand
     requires { IsJob read.job }
     ensures { (reading : Reading) → GivesText reading read.job read.bytes.items
         → EndsBy (LaunchEnds at.port reading (spawning_of
@@ -54,7 +54,7 @@ fn launch_read<P: Spawner, K: Sink, N: Notes>(
     let LaunchAt { alloc, port } = at;
     let JobRead { job, bytes } = read;
     if !has_ports(port, job.settings.nodes()) {
-        return say(sink, End::Usage, Given::nothing());
+        return say(sink, CommandEnd::Usage, Given::nothing());
     }
     match launch_nodes(alloc, &job, port, &bytes, spawner) {
         Ok(outputs) => check_outputs(alloc, job, outputs, sink, notes),
@@ -74,7 +74,7 @@ pub fn launch_command<S: Source, P: Spawner, K: Sink, N: Notes>(
     spawner: &mut P,
     sink: &mut BufferedSink<K>,
     notes: &mut N,
-) -> Ended
+) -> EndedCommand
     ensures { EndsBy (LaunchEnds at.port
         (reading_over S.left S.faults source.old source.new)
         (spawning_of (spawner_seen P.Spawner spawner.old) (spawner_seen P.Spawner spawner.new)))

@@ -97,8 +97,8 @@ mod words;
 mod world;
 
 pub use launch_run::{NoNotes, Notes};
-pub use node::AskedNode;
 pub use outside::Outside;
 pub use standard::{ReaderSource, WriterSink};
+pub use station_run::NodeAddress;
 pub use streams::{run_streams, words_of};
 pub use top::{Status, gasnet, returning_call};

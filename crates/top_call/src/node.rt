@@ -10,80 +10,68 @@ ghost use Rattle.top_call.specs.Outsides.{Reading, course_with, reading_over};
 ghost use Rattle.top_call.specs.HowEnds.{nothing};
 ghost use Rattle.top_call.specs.TopParts.{EndsBy, SaysEnd, SaysNode};
 
-use crate::ending::{End, Ended, Given};
+use crate::ending::{CommandEnd, EndedCommand, Given};
 use crate::outside::Outside;
 use crate::ports::has_ports;
 use crate::reading::job_from;
 use crate::status::say;
+use endpoint_lock::StationEnd;
 use gas_endpoint::Endpoint;
 use gas_outside::{BufferedSink, Clock, Link, Sink, Source, Waiter};
 use job_text::Job;
-use node_call::{Devices, NodeEnd, NodeOf, NodeRan, run_job_node};
+use node_call::{Devices, EndedJobNode, run_job_node};
 use node_script::Script;
+use station_run::NodeAddress;
 use std::alloc::{AllocError, Global};
 use std::sync::Wait;
 use std::thread::Threads;
 
-/// Which node is asked for.
-#[derive(Clone, Copy)]
-pub struct AskedNode {
-    /// Its number.
-    pub rank: u16,
-    /// The port of rank 0.
-    pub port: u16,
+/// Whether there is a node of this address among so many, and each of them has its port.
+fn has_node_place(address: NodeAddress, nodes: u16) -> bool
+    ensures { result ≡ has_node_place address.rank address.port nodes }
+{
+    address.rank < nodes && has_ports(address.port, nodes)
 }
 
-impl AskedNode {
-    /// Whether it is among so many nodes, and each of them has its port.
-    fn has_place(&self, nodes: u16) -> bool
-        ensures { result ≡ has_node_place self.now.rank self.now.port nodes }
-    {
-        self.rank < nodes && has_ports(self.port, nodes)
-    }
-}
-
-/// How a node's command ended, and the devices and the sink that it ran over.
+/// How the command `node` ended, and the devices that it ran over.
 #[derive(Drop)]
-struct NodeEnded<L, C, K: Sink> {
-    ended: Ended,
+struct EndedNodeCommand<L, C, K: Sink> {
+    ended: EndedCommand,
     link: L,
     clock: C,
     sink: BufferedSink<K>,
 }
 
-/// Says the status line behind the trace of a node that ran, and answers how the command ended.
-fn say_node<K: Sink>(sink: &mut BufferedSink<K>, end: NodeEnd, node: Option<Endpoint>) -> Ended
-    ensures { SaysNode end node (outbox K.taken K.faults sink.old)
+/// Says the status line behind the trace of a node that ended so, and answers how the command ended.
+fn say_node<K: Sink>(
+    sink: &mut BufferedSink<K>,
+    end: StationEnd,
+    violated: bool,
+    node: Option<Endpoint>,
+) -> EndedCommand
+    ensures { SaysNode end violated node (outbox K.taken K.faults sink.old)
         (outbox K.taken K.faults sink.new) result }
 {
     let given = Given::node(node);
     match end {
-        NodeEnd::Over { violated } => say(sink, End::of_run(violated), given),
-        NodeEnd::Stuck => say(sink, End::Stuck, given),
-        NodeEnd::LinkFault => say(sink, End::LinkFault, given),
-        NodeEnd::JournalFull => say(sink, End::JournalFull, given),
-        NodeEnd::NoMemory => say(sink, End::NoMemory, given),
-        NodeEnd::WriteFault => {
+        StationEnd::Over => say(sink, CommandEnd::of_run(violated), given),
+        StationEnd::Stuck => say(sink, CommandEnd::Stuck, given),
+        StationEnd::LinkFault => say(sink, CommandEnd::LinkFault, given),
+        StationEnd::JournalFull => say(sink, CommandEnd::JournalFull, given),
+        StationEnd::NoMemory => say(sink, CommandEnd::NoMemory, given),
+        StationEnd::WriteFault => {
             drop(given);
-            Ended::cut()
+            EndedCommand::cut()
         }
     }
 }
 
-/// A job that was read, and which of its nodes is asked for.
-#[derive(Drop)]
-struct ReadNode {
-    job: Job,
-    asked: AskedNode,
-}
-
 /// Says the status line of an end alone, and leaves the devices as they are.
-fn say_unrun<K: Sink, L, C, G>(
-    sink: BufferedSink<K>,
-    end: End,
-    devices: Devices<'_, L, C, G>,
-) -> NodeEnded<L, C, K>
-    ensures says { SaysEnd end nothing (outbox K.taken K.faults sink)
+fn say_unrun<L, C, K: Sink, G>(
+    end: CommandEnd,
+    devices: Devices<'_, L, C, K, G>,
+) -> EndedNodeCommand<L, C, K>
+    ensures says { SaysEnd end nothing (outbox K.taken K.faults devices.entry.sink)
         (outbox K.taken K.faults result.sink) result.ended }
     ensures link { result.link ≡ devices.entry.link }
     ensures clock { result.clock ≡ devices.entry.clock }
@@ -91,11 +79,12 @@ fn say_unrun<K: Sink, L, C, G>(
     let Devices {
         link,
         clock,
+        sink,
         waiter: _,
     } = devices;
     let mut sink = sink;
     let ended = say(&mut sink, end, Given::nothing());
-    NodeEnded {
+    EndedNodeCommand {
         ended,
         link,
         clock,
@@ -108,50 +97,46 @@ fn run_read<
     R: Threads + Wait + Sync,
     L: Link + Send,
     C: Clock + Send,
-    G: Waiter + Sync,
     K: Sink + Send,
+    G: Waiter + Sync,
 >(
     rt: &R,
     alloc: Global,
-    read: ReadNode,
-    devices: Devices<'_, L, C, G>,
-    sink: BufferedSink<K>,
-) -> NodeEnded<L, C, K>
-    requires { IsJob read.job }
-    ensures { (reading : Reading) → GivesJob reading read.job
-        → EndsBy (NodeEnds read.asked.rank read.asked.port (course_with reading
+    job: Job,
+    address: NodeAddress,
+    devices: Devices<'_, L, C, K, G>,
+) -> EndedNodeCommand<L, C, K>
+    requires { IsJob job }
+    ensures { (reading : Reading) → GivesJob reading job
+        → EndsBy (NodeEnds address.rank address.port (course_with reading
         (devices_seen L.Link C.Clock devices.entry.link devices.entry.clock)
         (devices_seen L.Link C.Clock result.link result.clock)))
-        (outbox K.taken K.faults sink) (outbox K.taken K.faults result.sink) result.ended }
+        (outbox K.taken K.faults devices.entry.sink) (outbox K.taken K.faults result.sink)
+        result.ended }
 {
-    let ReadNode { job, asked } = read;
-    if !asked.has_place(job.settings.nodes()) {
-        return say_unrun(sink, End::Usage, devices);
+    if !has_node_place(address, job.settings.nodes()) {
+        return say_unrun(CommandEnd::Usage, devices);
     }
     match Script::new(alloc, job) {
         Ok(script) => {
-            let node = NodeOf {
-                job: &script,
-                rank: asked.rank,
-                port: asked.port,
-            };
-            let NodeRan {
+            let EndedJobNode {
                 end,
+                violated,
                 node,
                 link,
                 clock,
                 sink,
-            } = run_job_node(rt, alloc, node, devices, sink);
+            } = run_job_node(rt, alloc, &script, address, devices);
             let mut sink = sink;
-            let ended = say_node(&mut sink, end, node);
-            NodeEnded {
+            let ended = say_node(&mut sink, end, violated, node);
+            EndedNodeCommand {
                 ended,
                 link,
                 clock,
                 sink,
             }
         }
-        Err(AllocError) => say_unrun(sink, End::NoMemory, devices),
+        Err(AllocError) => say_unrun(CommandEnd::NoMemory, devices),
     }
 }
 
@@ -171,10 +156,10 @@ pub fn node_command<
 >(
     rt: &R,
     alloc: Global,
-    asked: AskedNode,
+    address: NodeAddress,
     outside: Outside<S, BufferedSink<K>, L, P, C, G>,
-) -> (Ended, Outside<S, BufferedSink<K>, L, P, C, G>)
-    ensures ends { EndsBy (NodeEnds asked.rank asked.port
+) -> (EndedCommand, Outside<S, BufferedSink<K>, L, P, C, G>)
+    ensures ends { EndsBy (NodeEnds address.rank address.port
         (course_with (reading_over S.left S.faults outside.source result.1.source)
         (devices_seen L.Link C.Clock outside.link outside.clock)
         (devices_seen L.Link C.Clock result.1.link result.1.clock)))
@@ -195,14 +180,15 @@ pub fn node_command<
             let devices = Devices {
                 link,
                 clock,
+                sink,
                 waiter: &waiter,
             };
-            let NodeEnded {
+            let EndedNodeCommand {
                 ended,
                 link,
                 clock,
                 sink,
-            } = run_read(rt, alloc, ReadNode { job, asked }, devices, sink);
+            } = run_read(rt, alloc, job, address, devices);
             (
                 ended,
                 Outside {

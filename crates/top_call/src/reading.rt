@@ -3,7 +3,7 @@
 ghost use Rattle.top_call.specs.Outsides.{reading_over};
 ghost use Rattle.top_call.specs.TopParts.{ReadsOrNot, ReadsTextOrNot};
 
-use crate::ending::End;
+use crate::ending::CommandEnd;
 use gas_outside::{ReadAll, Source, read_all};
 use job_text::{Job, JobFault, read_job};
 use std::alloc::Global;
@@ -23,26 +23,26 @@ pub struct JobRead {
 
 /// Reads all, and the job whose text it is. Else how the command ends: the bytes are no job's text or too many, the
 /// source failed, or memory ran out.
-pub fn text_from<S: Source>(alloc: Global, source: &mut S) -> Result<JobRead, End>
+pub fn text_from<S: Source>(alloc: Global, source: &mut S) -> Result<JobRead, CommandEnd>
     ensures { ReadsTextOrNot (reading_over S.left S.faults source.old source.new) result }
 {
     match read_all(alloc, source, LIMIT) {
         ReadAll::Bytes(bytes) => match read_job(alloc, &bytes) {
             Ok(job) => Ok(JobRead { job, bytes }),
-            Err(JobFault::Bad { line, why }) => Err(End::BadJob { line, why }),
-            Err(JobFault::NoMemory) => Err(End::NoMemory),
+            Err(JobFault::Bad { line, why }) => Err(CommandEnd::BadJob { line, why }),
+            Err(JobFault::NoMemory) => Err(CommandEnd::NoMemory),
         },
-        ReadAll::TooLong => Err(End::BadJob {
+        ReadAll::TooLong => Err(CommandEnd::BadJob {
             line: 0,
             why: LineWhy::Size,
         }),
-        ReadAll::Fault => Err(End::ReadFault),
-        ReadAll::NoMemory => Err(End::NoMemory),
+        ReadAll::Fault => Err(CommandEnd::ReadFault),
+        ReadAll::NoMemory => Err(CommandEnd::NoMemory),
     }
 }
 
 /// The same without the bytes.
-pub fn job_from<S: Source>(alloc: Global, source: &mut S) -> Result<Job, End>
+pub fn job_from<S: Source>(alloc: Global, source: &mut S) -> Result<Job, CommandEnd>
     ensures { ReadsOrNot (reading_over S.left S.faults source.old source.new) result }
 {
     match text_from(alloc, source) {

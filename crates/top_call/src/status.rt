@@ -6,7 +6,7 @@ ghost use Rattle.text_lines.specs.LineTexts.{line_text};
 ghost use Rattle.top_call.specs.Commands.{status_line, why_word};
 ghost use Rattle.top_call.specs.TopParts.{SaysEnd, SaysRun};
 
-use crate::ending::{End, Ended, Given, why_word};
+use crate::ending::{CommandEnd, EndedCommand, Given, why_word};
 use drill_run::RunEnd;
 use gas_outside::{BufferedSink, Sink, Wrote};
 use itoa::Buffer;
@@ -80,52 +80,52 @@ fn write_child<K: Sink>(sink: &mut BufferedSink<K>, rank: u16, code: u8) -> Wrot
 }
 
 /// Writes the status line of an end. There is none for `WriteFault`, of which no line is written.
-pub fn write_status<K: Sink>(sink: &mut BufferedSink<K>, end: End) -> Wrote
+pub fn write_status<K: Sink>(sink: &mut BufferedSink<K>, end: CommandEnd) -> Wrote
     ensures { GathersAll (outbox K.taken K.faults sink.old) (outbox K.taken K.faults sink.new)
         (line_text (status_line end)) result }
 {
     match end {
-        End::Done => write_named(sink, b"0", b"ok"),
-        End::Violations => write_named(sink, b"1", b"violations"),
-        End::Usage => write_named(sink, b"2", b"usage"),
-        End::BadJob { line, why } => write_bad_job(sink, line, why),
-        End::ReadFault => write_named(sink, b"4", b"read-fault"),
-        End::WriteFault => write_named(sink, b"5", b"write-fault"),
-        End::LinkFault => write_named(sink, b"6", b"link-fault"),
-        End::SpawnFault => write_named(sink, b"7", b"spawn-fault"),
-        End::NoMemory => write_named(sink, b"8", b"no-memory"),
-        End::Stuck => write_named(sink, b"9", b"stuck"),
-        End::JournalFull => write_named(sink, b"10", b"journal-full"),
-        End::NotARun { node, entry } => write_not_a_run(sink, node, entry),
-        End::Child { rank, code } => write_child(sink, rank, code),
+        CommandEnd::Done => write_named(sink, b"0", b"ok"),
+        CommandEnd::Violations => write_named(sink, b"1", b"violations"),
+        CommandEnd::Usage => write_named(sink, b"2", b"usage"),
+        CommandEnd::BadJob { line, why } => write_bad_job(sink, line, why),
+        CommandEnd::ReadFault => write_named(sink, b"4", b"read-fault"),
+        CommandEnd::WriteFault => write_named(sink, b"5", b"write-fault"),
+        CommandEnd::LinkFault => write_named(sink, b"6", b"link-fault"),
+        CommandEnd::SpawnFault => write_named(sink, b"7", b"spawn-fault"),
+        CommandEnd::NoMemory => write_named(sink, b"8", b"no-memory"),
+        CommandEnd::Stuck => write_named(sink, b"9", b"stuck"),
+        CommandEnd::JournalFull => write_named(sink, b"10", b"journal-full"),
+        CommandEnd::NotARun { node, entry } => write_not_a_run(sink, node, entry),
+        CommandEnd::Child { rank, code } => write_child(sink, rank, code),
     }
 }
 
 /// Writes the status line of an end behind what was written before, and answers how the command ended: so, and it gives
 /// this; or as the sink failed, and it gives nothing.
-pub fn say<K: Sink>(sink: &mut BufferedSink<K>, end: End, given: Given) -> Ended
+pub fn say<K: Sink>(sink: &mut BufferedSink<K>, end: CommandEnd, given: Given) -> EndedCommand
     ensures { SaysEnd end given (outbox K.taken K.faults sink.old)
         (outbox K.taken K.faults sink.new) result }
 {
     match write_status(sink, end) {
-        Wrote::Done => Ended { end, given },
+        Wrote::Done => EndedCommand { end, given },
         Wrote::Fault => {
             drop(given);
-            Ended::cut()
+            EndedCommand::cut()
         }
     }
 }
 
 /// Says the status line behind the lines of a run, and answers how the command ended.
-pub fn say_run<K: Sink>(sink: &mut BufferedSink<K>, run: RunEnd) -> Ended
+pub fn say_run<K: Sink>(sink: &mut BufferedSink<K>, run: RunEnd) -> EndedCommand
     ensures { SaysRun run (outbox K.taken K.faults sink.old)
         (outbox K.taken K.faults sink.new) result }
 {
     match run {
         RunEnd::Done { violated, world } => {
-            say(sink, End::of_run(violated), Given::world(world))
+            say(sink, CommandEnd::of_run(violated), Given::world(world))
         }
-        RunEnd::Fault => Ended::cut(),
-        RunEnd::NoMemory => say(sink, End::NoMemory, Given::nothing()),
+        RunEnd::Fault => EndedCommand::cut(),
+        RunEnd::NoMemory => say(sink, CommandEnd::NoMemory, Given::nothing()),
     }
 }

@@ -7,14 +7,15 @@ ghost use Rattle.top_call.specs.TopCall.{AsksNode, IsComplete, IsSaid, LeavesAlo
 ghost use Rattle.top_call.specs.TopParts.{Closes, GivesOn, IsNoNode, StandsOver};
 
 use crate::command::returning_command;
-use crate::ending::{End, Ended};
-use crate::node::{AskedNode, node_command};
+use crate::ending::{CommandEnd, EndedCommand};
+use crate::node::node_command;
 use crate::outside::Outside;
 use crate::words::{Command, asked};
 use gas_endpoint::Endpoint;
 use gas_outside::{BufferedSink, Clock, Link, Sink, Source, Spawner, Waiter, Wrote};
 use gas_world::World;
 use launch_run::Notes;
+use station_run::NodeAddress;
 use std::alloc::Global;
 use std::sync::Wait;
 use std::thread::Threads;
@@ -45,18 +46,18 @@ impl Status {
 }
 
 /// Gives on what the sink still holds back; a fault of that is how the call ends. After a fault of the sink it is left.
-pub(crate) fn flushed<K: Sink>(sink: &mut BufferedSink<K>, ended: Ended) -> Ended
+pub(crate) fn flushed<K: Sink>(sink: &mut BufferedSink<K>, ended: EndedCommand) -> EndedCommand
     ensures { GivesOn (outbox K.taken K.faults sink.old) (outbox K.taken K.faults sink.new)
         ended result }
 {
-    if let End::WriteFault = ended.end {
+    if let CommandEnd::WriteFault = ended.end {
         return ended;
     }
     match sink.flush() {
         Wrote::Done => ended,
         Wrote::Fault => {
             drop(ended);
-            Ended::cut()
+            EndedCommand::cut()
         }
     }
 }
@@ -87,7 +88,7 @@ fn gathering<S, K: Sink, L, P, C, G>(
 
 /// Ends the call of a command that ended so: gives on what the sink still holds back, and gives the outside back.
 fn closed<S, K: Sink, L, P, C, G>(
-    ended: Ended,
+    ended: EndedCommand,
     gathering: Outside<S, BufferedSink<K>, L, P, C, G>,
 ) -> (Status, Outside<S, K, L, P, C, G>)
     ensures { Closes K.taken K.faults ended gathering result.0 result.1 }
@@ -101,7 +102,7 @@ fn closed<S, K: Sink, L, P, C, G>(
         waiter,
     } = gathering;
     let mut sink = sink;
-    let Ended { end, given } = flushed(&mut sink, ended);
+    let EndedCommand { end, given } = flushed(&mut sink, ended);
     (
         Status {
             code: end.code(),
@@ -121,12 +122,12 @@ fn closed<S, K: Sink, L, P, C, G>(
 }
 
 /// The node that is asked for, where the command is `node`.
-fn node_of(command: Option<Command>) -> Option<AskedNode>
+fn node_of(command: Option<Command>) -> Option<NodeAddress>
     ensures { MatchOption result (IsNoNode command)
         (λ node. command ≡ Some (Command.Node node.rank node.port)) }
 {
     match command {
-        Some(Command::Node { rank, port }) => Some(AskedNode { rank, port }),
+        Some(Command::Node { rank, port }) => Some(NodeAddress { rank, port }),
         Some(Command::World) => None,
         Some(Command::Upgrade) => None,
         Some(Command::Check) => None,
@@ -147,7 +148,7 @@ pub fn returning_call<S: Source, K: Sink, L: Link, P: Spawner, C: Clock, G, N: N
     words: &[String],
     outside: Outside<S, K, L, P, C, G>,
     notes: &mut N,
-) -> Result<(Status, Outside<S, K, L, P, C, G>), (AskedNode, Outside<S, K, L, P, C, G>)>
+) -> Result<(Status, Outside<S, K, L, P, C, G>), (NodeAddress, Outside<S, K, L, P, C, G>)>
     ensures said { IfOk result (λ done. IsSaid (call_of (map string_bytes words.now)
         (seen S.Source K.Sink L.Link P.Spawner C.Clock outside)
         (seen S.Source K.Sink L.Link P.Spawner C.Clock done.1)
@@ -237,8 +238,8 @@ pub fn gasnet<
 {
     match returning_call(alloc, words, outside, notes) {
         Ok(done) => done,
-        Err((asked, outside)) => {
-            let (ended, after) = node_command(rt, alloc, asked, gathering(outside));
+        Err((address, outside)) => {
+            let (ended, after) = node_command(rt, alloc, address, gathering(outside));
             closed(ended, after)
         }
     }

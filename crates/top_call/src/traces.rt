@@ -7,7 +7,7 @@ ghost use Rattle.launch_run.specs.CheckInputs.{HaveTraces, IsTraceOf, traces_in}
 ghost use Rattle.top_call.specs.TopParts.{EndsBy, SaysTraces};
 ghost use Rattle.top_call.specs.TracesReports.{TracesEnds};
 
-use crate::ending::{End, Ended, Given};
+use crate::ending::{CommandEnd, EndedCommand, Given};
 use crate::status::say;
 use gas_outside::{BufferedSink, Sink};
 use gasnet_trace::{Output, Trace};
@@ -17,21 +17,21 @@ use node_script::Script;
 use std::alloc::{AllocError, Global};
 
 /// Says the status line behind the lines of traces, and answers how the command ended.
-fn say_traces<K: Sink>(sink: &mut BufferedSink<K>, end: TracesEnd) -> Ended
+fn say_traces<K: Sink>(sink: &mut BufferedSink<K>, end: TracesEnd) -> EndedCommand
     ensures { SaysTraces end (outbox K.taken K.faults sink.old)
         (outbox K.taken K.faults sink.new) result }
 {
     match end {
         TracesEnd::Done { violated, nodes } => say(
             sink,
-            End::of_run(violated),
+            CommandEnd::of_run(violated),
             Given::nodes(nodes),
         ),
         TracesEnd::NotARun { node, entry } => {
-            say(sink, End::NotARun { node, entry }, Given::nothing())
+            say(sink, CommandEnd::NotARun { node, entry }, Given::nothing())
         }
-        TracesEnd::Fault => Ended::cut(),
-        TracesEnd::NoMemory => say(sink, End::NoMemory, Given::nothing()),
+        TracesEnd::Fault => EndedCommand::cut(),
+        TracesEnd::NoMemory => say(sink, CommandEnd::NoMemory, Given::nothing()),
     }
 }
 
@@ -42,7 +42,7 @@ fn check_traces<K: Sink, N: Notes>(
     traces: Vec<Trace>,
     sink: &mut BufferedSink<K>,
     notes: &mut N,
-) -> Ended
+) -> EndedCommand
     requires job { IsJob job }
     requires count { length traces.items ≡ job.settings.nodes }
     requires traces { All (IsTraceOf job) traces.items }
@@ -54,7 +54,7 @@ fn check_traces<K: Sink, N: Notes>(
             let end = run_traces(alloc, &script, traces, sink, notes);
             say_traces(sink, end)
         }
-        Err(AllocError) => say(sink, End::NoMemory, Given::nothing()),
+        Err(AllocError) => say(sink, CommandEnd::NoMemory, Given::nothing()),
     }
 }
 
@@ -65,7 +65,7 @@ pub fn check_outputs<K: Sink, N: Notes>(
     outputs: Vec<Output>,
     sink: &mut BufferedSink<K>,
     notes: &mut N,
-) -> Ended
+) -> EndedCommand
     requires job { IsJob job }
     requires count { length outputs.items ≡ job.settings.nodes }
     requires traces { HaveTraces job outputs.items }
@@ -74,6 +74,6 @@ pub fn check_outputs<K: Sink, N: Notes>(
 {
     match traces_of(alloc, outputs) {
         Ok(traces) => check_traces(alloc, job, traces, sink, notes),
-        Err(AllocError) => say(sink, End::NoMemory, Given::nothing()),
+        Err(AllocError) => say(sink, CommandEnd::NoMemory, Given::nothing()),
     }
 }

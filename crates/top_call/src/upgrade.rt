@@ -7,7 +7,7 @@ ghost use Rattle.top_call.specs.Outsides.{Reading, reading_over};
 ghost use Rattle.top_call.specs.TopParts.{EndsBy};
 ghost use Rattle.top_call.specs.UpgradeCommand.{UpgradeEnds};
 
-use crate::ending::{End, Ended, Given};
+use crate::ending::{CommandEnd, EndedCommand, Given};
 use crate::reading::job_from;
 use crate::status::say;
 use gas_outside::{BufferedSink, Sink, Source, Wrote};
@@ -16,17 +16,17 @@ use job_text::Job;
 use std::alloc::Global;
 
 /// Writes a job that was read with datagrams of version 2, without a status line.
-fn write_upgraded<K: Sink>(job: Job, sink: &mut BufferedSink<K>) -> Ended
+fn write_upgraded<K: Sink>(job: Job, sink: &mut BufferedSink<K>) -> EndedCommand
     ensures { (reading : Reading) → GivesJob reading job → EndsBy (UpgradeEnds reading)
         (outbox K.taken K.faults sink.old) (outbox K.taken K.faults sink.new) result }
 {
     let upgraded = job.into_upgraded();
     match print_job(&upgraded, sink) {
-        Wrote::Done => Ended {
-            end: End::Done,
+        Wrote::Done => EndedCommand {
+            end: CommandEnd::Done,
             given: Given::nothing(),
         },
-        Wrote::Fault => Ended::cut(),
+        Wrote::Fault => EndedCommand::cut(),
     }
 }
 
@@ -36,7 +36,7 @@ pub fn upgrade_command<S: Source, K: Sink>(
     alloc: Global,
     source: &mut S,
     sink: &mut BufferedSink<K>,
-) -> Ended
+) -> EndedCommand
     ensures { EndsBy
         (UpgradeEnds (reading_over S.left S.faults source.old source.new))
         (outbox K.taken K.faults sink.old) (outbox K.taken K.faults sink.new) result }

@@ -7,7 +7,7 @@ ghost use Rattle.top_call.specs.Outsides.{Reading, reading_over};
 ghost use Rattle.top_call.specs.TopParts.{EndsBy};
 ghost use Rattle.top_call.specs.WorldCommand.{WorldEnds};
 
-use crate::ending::{End, Ended, Given};
+use crate::ending::{CommandEnd, EndedCommand, Given};
 use crate::reading::job_from;
 use crate::status::{say, say_run};
 use drill_run::run_job;
@@ -17,7 +17,7 @@ use node_script::Script;
 use std::alloc::{AllocError, Global};
 
 /// Runs a job that was read, and says its lines.
-fn run_read<K: Sink>(alloc: Global, job: Job, sink: &mut BufferedSink<K>) -> Ended
+fn run_read<K: Sink>(alloc: Global, job: Job, sink: &mut BufferedSink<K>) -> EndedCommand
     requires { IsJob job }
     ensures { (reading : Reading) → GivesJob reading job → EndsBy (WorldEnds reading)
         (outbox K.taken K.faults sink.old) (outbox K.taken K.faults sink.new) result }
@@ -27,7 +27,7 @@ fn run_read<K: Sink>(alloc: Global, job: Job, sink: &mut BufferedSink<K>) -> End
             let run = run_job(alloc, &script, sink);
             say_run(sink, run)
         }
-        Err(AllocError) => say(sink, End::NoMemory, Given::nothing()),
+        Err(AllocError) => say(sink, CommandEnd::NoMemory, Given::nothing()),
     }
 }
 
@@ -36,7 +36,7 @@ pub fn world_command<S: Source, K: Sink>(
     alloc: Global,
     source: &mut S,
     sink: &mut BufferedSink<K>,
-) -> Ended
+) -> EndedCommand
     ensures { EndsBy
         (WorldEnds (reading_over S.left S.faults source.old source.new))
         (outbox K.taken K.faults sink.old) (outbox K.taken K.faults sink.new) result }

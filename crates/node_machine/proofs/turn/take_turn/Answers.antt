@@ -40,11 +40,7 @@ returns g c =
       got = option_copied c.args.turn.got;
     } in
     let done : Done = record {
-      outgoing = record {
-        reply = c.before_try-sent.result.reply;
-        tick = c.before_try-sent.result.tick;
-        call = c.try_next-tried.result.sent;
-      };
+      outgoing = c.of.result;
       ended = c.try_next-tried.result.ended;
       began = c.is_some.result;
     } in
@@ -56,6 +52,6 @@ returns g c =
           (option_to_list c.before_try-sent.result.reply ++ option_to_list c.before_try-sent.result.tick)
           c.try_next-tried.result done (g.met.H.Handlers.is_lawful c.args.handlers.now)
           c.before_try-sent.ensures.bytes c.requires.polls c.before_try-sent.ensures.happen
-          c.try_next-tried.ensures.tries refl refl c.is_some.ensures);
+          c.try_next-tried.ensures.tries c.of.ensures refl c.is_some.ensures);
       there = c.try_next-tried.ensures.there;
     }

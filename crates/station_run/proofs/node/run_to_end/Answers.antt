@@ -1,4 +1,4 @@
-use Rattle.std.proofs.Common.{[], refl, inl, inr}
+use Rattle.std.proofs.Common.{ℕ, Some, [], ap, ◌∙◌, refl, inl, inr}
 use Rattle.station_run.proofs.node.run_to_end.Goals as goal
 
 -- the link was bound
@@ -9,7 +9,8 @@ returns-in-Done g c =
       inl (
         record {
           link = c.bind.new.self;
-          bound = e.bound;
+          bound = e.bound
+              ∙ ap (λ (n : ℕ). Some (c.args.node.address.rank, n, c.args.node.address.port)) c.nodes.ensures.nodes;
           same = record { sent = e.sent; received = e.received; waiting = e.waiting };
           later = e.later;
           leaves = c.run_bound.ensures;

@@ -1,6 +1,6 @@
 -- Each command that returns, and the words of none.
 use Rattle.std.proofs.Common.{Some, None, refl}
-use Rattle.top_call.specs.declared.ending.End.TheVariants as ends
+use Rattle.top_call.specs.declared.ending.CommandEnd.TheVariants as ends
 use Rattle.top_call.specs.declared.words.Command.TheVariants as commands
 use Rattle.top_call.proofs.Closing.{asks_for, ends_as}
 use Rattle.top_call.proofs.LastLine.{alone, says_alone}

@@ -4,30 +4,30 @@ use Rattle.job_text.specs.JobText.{IsJob}
 use Rattle.job_text.specs.declared.job.Job.{Job as JobState}
 use Rattle.top_call.specs.JobReads.{GivesJob}
 use Rattle.top_call.specs.NodeCommand.{has_node_place}
-use Rattle.top_call.specs.declared.ending.End.TheVariants as ends
+use Rattle.top_call.specs.declared.ending.CommandEnd.TheVariants as ends
 use Rattle.top_call.proofs.LastLine.{alone, says_alone}
 use Rattle.top_call.proofs.NodeCommand.{no_node_told, node_told, weak_node}
 use Rattle.top_call.proofs.node.run_read.Goals as goal
 
-pub returns-then-not-has_place : goal.returns-then-not-has_place
-returns-then-not-has_place g c = λ reading read.
-    let asked = c.args.read.asked in
-    let none : has_node_place asked.rank asked.port c.args.read.job.settings.nodes ≡ false =
-    ap (has_node_place asked.rank asked.port) (sym c.nodes.ensures.nodes)
-    ∙ (sym c.has_place.ensures ∙ c.if-not-has_place.true) in
-    no_node_told asked.rank asked.port _ c.args.read.job _ _ c.say_unrun.result.ended read none
+pub returns-then-not-has_node_place : goal.returns-then-not-has_node_place
+returns-then-not-has_node_place g c = λ reading read.
+    let address = c.args.address in
+    let none : has_node_place address.rank address.port c.args.job.settings.nodes ≡ false =
+    ap (has_node_place address.rank address.port) (sym c.nodes.ensures.nodes)
+    ∙ (sym c.has_node_place.ensures ∙ c.if-not-has_node_place.true) in
+    no_node_told address.rank address.port _ c.args.job _ _ c.say_unrun.result.ended read none
     c.say_unrun.ensures.says
 
 pub returns-in-Ok : goal.returns-in-Ok
 returns-in-Ok g c = λ reading read.
-    let asked = c.args.read.asked in
+    let address = c.args.address in
     let given = subst (λ (j : JobState). GivesJob reading j) (sym c.in-Ok.ensures) read in
     let nodes = c.nodes.ensures.nodes ∙ ap (λ (j : JobState). j.settings.nodes) (sym c.in-Ok.ensures) in
-    let place : has_node_place asked.rank asked.port c.in-Ok.script.settings.nodes ≡ true =
-    ap (has_node_place asked.rank asked.port) (sym nodes) ∙ (sym c.has_place.ensures ∙ c.if-not-has_place.false) in
-    node_told asked.rank asked.port _ c.in-Ok.script given place _ _ _
-    c.run_job_node-end.result.end c.run_job_node-end.result.node c.say_node-ended.result c.run_job_node-end.ensures
-    c.say_node-ended.ensures
+    let place : has_node_place address.rank address.port c.in-Ok.script.settings.nodes ≡ true =
+    ap (has_node_place address.rank address.port) (sym nodes) ∙ (sym c.has_node_place.ensures ∙ c.if-not-has_node_place.false) in
+    node_told address.rank address.port _ c.in-Ok.script given place _ _ _
+    c.run_job_node-end.result.end c.run_job_node-end.result.violated c.run_job_node-end.result.node
+    c.say_node-ended.result c.run_job_node-end.ensures c.say_node-ended.ensures
 
 pub returns-in-Err : goal.returns-in-Err
 returns-in-Err g c = λ reading read.
@@ -40,10 +40,10 @@ run_job_node-end-requires-clause-job g c = λ lifetimes outlive. subst IsJob (sy
 -- the node is one of the job's
 pub run_job_node-end-requires-clause-rank : goal.run_job_node-end-requires-clause-rank
 run_job_node-end-requires-clause-rank g c = λ lifetimes outlive.
-    let asked = c.args.read.asked in
+    let address = c.args.address in
     let nodes = c.nodes.ensures.nodes ∙ ap (λ (j : JobState). j.settings.nodes) (sym c.in-Ok.ensures) in
-    let place : has_node_place asked.rank asked.port c.in-Ok.script.settings.nodes ≡ true =
-    ap (has_node_place asked.rank asked.port) (sym nodes) ∙ (sym c.has_place.ensures ∙ c.if-not-has_place.false) in
-    ltb-true asked.rank c.in-Ok.script.settings.nodes
-    (and_parts (nat_lt asked.rank c.in-Ok.script.settings.nodes)
-    (nat_le (asked.port + c.in-Ok.script.settings.nodes) 65536) place).0
+    let place : has_node_place address.rank address.port c.in-Ok.script.settings.nodes ≡ true =
+    ap (has_node_place address.rank address.port) (sym nodes) ∙ (sym c.has_node_place.ensures ∙ c.if-not-has_node_place.false) in
+    ltb-true address.rank c.in-Ok.script.settings.nodes
+    (and_parts (nat_lt address.rank c.in-Ok.script.settings.nodes)
+    (nat_le (address.port + c.in-Ok.script.settings.nodes) 65536) place).0

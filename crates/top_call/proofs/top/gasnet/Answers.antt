@@ -16,7 +16,7 @@ returns-in-Ok g c = record {
 pub returns-in-Err : goal.returns-in-Err
 returns-in-Err g c =
     let said = closed_call g.S.Source g.K.Sink g.L.Link g.P.Spawner g.C.Clock (map string_bytes c.args.words.now)
-    (Some (commands.Node c.in-Err.asked.rank c.in-Err.asked.port)) c.args.outside _ _ _ _ _ c.in-Err.ensures.node.0
+    (Some (commands.Node c.in-Err.address.rank c.in-Err.address.port)) c.args.outside _ _ _ _ _ c.in-Err.ensures.node.0
     (subst (λ o. StandsOver o c.gathering.result) c.in-Err.ensures.node.1 c.gathering.ensures)
     (record {
       ends = c.node_command-ended.ensures.ends;

@@ -3,7 +3,7 @@ use Rattle.job_text.specs.JobText.{IsJob}
 use Rattle.job_text.specs.declared.job.Job.{Job as JobState}
 use Rattle.drill_run.specs.RunText.{run_lines}
 use Rattle.top_call.specs.JobReads.{GivesJob}
-use Rattle.top_call.specs.declared.ending.End.TheVariants as ends
+use Rattle.top_call.specs.declared.ending.CommandEnd.TheVariants as ends
 use Rattle.top_call.proofs.LastLine.{alone, says_alone}
 use Rattle.top_call.proofs.RunTold.{run_told}
 use Rattle.top_call.proofs.WorldCommand.{weak_world, world_runs}

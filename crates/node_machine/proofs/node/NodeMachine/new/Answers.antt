@@ -1,16 +1,21 @@
 -- A machine that did nothing.
-use Rattle.std.proofs.Common.{◌∙◌, subst}
+use Rattle.std.proofs.Common.{List, ◌∙◌, subst, sym}
 use Rattle.datagram_grammar.specs.Parameters.{Parameters}
 use Rattle.node_record.specs.Record.{opening_node}
+use Rattle.node_record.specs.declared.answer.SlotRef.{SlotRef}
 use Rattle.endpoint_rules.specs.EndpointLocal.{nothing_begun}
 use Rattle.gas_endpoint.specs.EndpointState.{EndpointStands}
 use Rattle.node_machine.specs.Cursors.{progress_of_all}
-use Rattle.node_machine.proofs.Opening.{opened_stands, opened_is}
+use Rattle.node_machine.specs.Kept.{IsMachine}
+use Rattle.node_machine.specs.NodeState.{NodeStands, opening_state}
+use Rattle.node_machine.proofs.Opening.{opened, opened_is, opened_stands}
 use Rattle.node_machine.proofs.node.NodeMachine.new.Goals as goal
 
 pub invariant_of-result : goal.invariant_of-result
 invariant_of-result c =
-    opened_is c.args.job.now c.args.me c.in_ok-endpoint.endpoint c.collectives_of.result
+    subst (λ (slots : List SlotRef). IsMachine (record (opened c.args.job.now c.in_ok-endpoint.endpoint
+    c.collectives_of.result (progress_of_all c.in_ok-cursors.cursors.items)) { outgoing = slots })) (sym c.none.ensures)
+    (opened_is c.args.job.now c.args.me c.in_ok-endpoint.endpoint c.collectives_of.result
     (progress_of_all c.in_ok-cursors.cursors.items)
     c.requires.job (record {
       settings_are = c.in_ok-endpoint.ensures.node.settings_are ∙ c.settings.ensures;
@@ -19,11 +24,14 @@ invariant_of-result c =
     })
     (subst (λ (settings : Parameters).
     EndpointStands c.in_ok-endpoint.endpoint (opening_node (nothing_begun settings))) c.settings.ensures
-    c.in_ok-endpoint.ensures.stands) c.in_ok-cursors.ensures c.collectives_of.ensures
+    c.in_ok-endpoint.ensures.stands) c.in_ok-cursors.ensures c.collectives_of.ensures)
 
 pub returns : goal.returns
 returns c =
-    opened_stands c.args.job.now c.args.me c.in_ok-endpoint.endpoint c.collectives_of.result
+    subst (λ (slots : List SlotRef). NodeStands (record (opened c.args.job.now c.in_ok-endpoint.endpoint
+    c.collectives_of.result (progress_of_all c.in_ok-cursors.cursors.items)) { outgoing = slots })
+    (opening_state c.args.job.now c.args.me)) (sym c.none.ensures)
+    (opened_stands c.args.job.now c.args.me c.in_ok-endpoint.endpoint c.collectives_of.result
     (progress_of_all c.in_ok-cursors.cursors.items)
     c.requires.job (record {
       settings_are = c.in_ok-endpoint.ensures.node.settings_are ∙ c.settings.ensures;
@@ -32,4 +40,4 @@ returns c =
     })
     (subst (λ (settings : Parameters).
     EndpointStands c.in_ok-endpoint.endpoint (opening_node (nothing_begun settings))) c.settings.ensures
-    c.in_ok-endpoint.ensures.stands) c.in_ok-cursors.ensures c.collectives_of.ensures
+    c.in_ok-endpoint.ensures.stands) c.in_ok-cursors.ensures c.collectives_of.ensures)

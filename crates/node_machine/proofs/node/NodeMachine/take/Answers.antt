@@ -4,14 +4,14 @@ use Rattle.std.specs.Prelude.{slice_set}
 use Rattle.script_steps.proofs.Calm.{waiting_is_calm}
 use Rattle.node_machine.specs.Kept.{MachineKept}
 use Rattle.node_machine.specs.Machines.{MachineTakes}
-use Rattle.node_machine.specs.Turns.{slots_sent, TurnTaken}
+use Rattle.node_machine.specs.Turns.{TurnTaken}
 use Rattle.node_machine.proofs.Standing.{found_in, machine_at, reads_is, read_said, took}
 use Rattle.node_machine.proofs.node.NodeMachine.take.Goals as goal
 
 pub take_turn-done-requires-clause-said : goal.take_turn-done-requires-clause-said
 take_turn-done-requires-clause-said c =
     let old = c.self.inside in
-    read_said old.job.now (found_in old.endpoint old.collectives) old.cursors.items (slots_sent old.outgoing) old.answer
+    read_said old.job.now (found_in old.endpoint old.collectives) old.cursors.items old.outgoing old.answer
     c.args.thread c.cursor_at-cursor.result c.self.invariant
     (reads_is c.args.self.now old.job.now old.cursors.items c.deref.result.now c.args.thread c.from-place.result
     c.cursor_at-cursor.result (ap (λ (m : MachineKept). m.job) c.self.view_is) c.requires.thread c.from-place.ensures
@@ -26,7 +26,7 @@ invariant_of-self c =
     c.from-place.result c.cursor_at-cursor.result (ap (λ (m : MachineKept). m.job) c.self.view_is) c.requires.thread
     c.from-place.ensures c.deref.ensures.value c.cursor_at-cursor.ensures in
     let it = took waiting_is_calm old.job.now (found_in old.endpoint old.collectives) old.cursors.items
-    (slots_sent old.outgoing) old.answer taken c.from-place.result c.cursor_at-cursor.result
+    old.outgoing old.answer taken c.from-place.result c.cursor_at-cursor.result
     c.take_turn-done.new.cursor c.handlers.result.now
     c.take_turn-done.result (found_in c.take_turn-done.new.endpoint c.take_turn-done.new.collectives)
     c.self.invariant read c.from-place.ensures c.handlers.ensures c.take_turn-done.ensures.takes
@@ -42,14 +42,14 @@ returns c =
     c.from-place.result c.cursor_at-cursor.result (ap (λ (m : MachineKept). m.job) c.self.view_is) c.requires.thread
     c.from-place.ensures c.deref.ensures.value c.cursor_at-cursor.ensures in
     let it = took waiting_is_calm old.job.now (found_in old.endpoint old.collectives) old.cursors.items
-    (slots_sent old.outgoing) old.answer taken c.from-place.result c.cursor_at-cursor.result
+    old.outgoing old.answer taken c.from-place.result c.cursor_at-cursor.result
     c.take_turn-done.new.cursor c.handlers.result.now
     c.take_turn-done.result (found_in c.take_turn-done.new.endpoint c.take_turn-done.new.collectives)
     c.self.invariant read c.from-place.ensures c.handlers.ensures c.take_turn-done.ensures.takes
     c.take_turn-done.ensures.there in
     subst (λ (m : MachineKept). MachineTakes m taken c.take_turn-done.result
     (machine_at old.job.now (found_in c.take_turn-done.new.endpoint c.take_turn-done.new.collectives)
-    (slice_set old.cursors.items c.from-place.result c.take_turn-done.new.cursor) (slots_sent old.outgoing) old.answer))
+    (slice_set old.cursors.items c.from-place.result c.take_turn-done.new.cursor) old.outgoing old.answer))
     c.self.view_is it.takes
 
 pub take_turn-done-requires-clause-there : goal.take_turn-done-requires-clause-there

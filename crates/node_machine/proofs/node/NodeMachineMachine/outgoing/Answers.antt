@@ -4,7 +4,6 @@ use Rattle.datagram_grammar.specs.Parameters.{Parameters}
 use Rattle.node_record.specs.SlotMessages.{message_at}
 use Rattle.node_machine.specs.Kept.{MachineKept}
 use Rattle.node_machine.specs.NodeState.{NodeStands}
-use Rattle.node_machine.specs.Turns.{slots_sent}
 use Rattle.node_machine.proofs.Standing.{datagram_is, none_there, one_there}
 use Rattle.node_machine.proofs.node.NodeMachineMachine.outgoing.Goals as goal
 
@@ -16,7 +15,7 @@ returns-in-None c = λ r stands.
     let me = it.endpoint.core.me in
     let node = r.ranked.state.node in
     none_there settings me node (slice_get r.ranked.state.outgoing c.args.i)
-    (datagram_is settings me node (slots_sent it.outgoing) r.ranked.state.outgoing c.args.i None S.outgoing_is
+    (datagram_is settings me node it.outgoing r.ranked.state.outgoing c.args.i None S.outgoing_is
     (sym c.in-None.is ∙ c.slot.ensures))
 
 pub returns-in-Some-message : goal.returns-in-Some-message
@@ -28,7 +27,7 @@ returns-in-Some-message c = λ r stands.
     let node = r.ranked.state.node in
     one_there settings me node c.in-Some.at (Some c.in-Some-message.bytes.now)
     (slice_get r.ranked.state.outgoing c.args.i)
-    (datagram_is settings me node (slots_sent it.outgoing) r.ranked.state.outgoing c.args.i (Some c.in-Some.at)
+    (datagram_is settings me node it.outgoing r.ranked.state.outgoing c.args.i (Some c.in-Some.at)
     S.outgoing_is (sym c.in-Some.is ∙ c.slot.ensures))
     (ap option_copied (sym c.in-Some-message.is)
     ∙ (c.message.ensures node S.node
@@ -42,7 +41,7 @@ returns-in-None-message c = λ r stands.
     let me = it.endpoint.core.me in
     let node = r.ranked.state.node in
     one_there settings me node c.in-Some.at None (slice_get r.ranked.state.outgoing c.args.i)
-    (datagram_is settings me node (slots_sent it.outgoing) r.ranked.state.outgoing c.args.i (Some c.in-Some.at)
+    (datagram_is settings me node it.outgoing r.ranked.state.outgoing c.args.i (Some c.in-Some.at)
     S.outgoing_is (sym c.in-Some.is ∙ c.slot.ensures))
     (ap option_copied (sym c.in-None-message.is)
     ∙ (c.message.ensures node S.node

@@ -4,7 +4,7 @@ use Rattle.script_steps.proofs.Calm.{waiting_is_calm}
 use Rattle.node_machine.specs.Kept.{MachineKept, polls_at}
 use Rattle.node_machine.specs.Machines.{with_done}
 use Rattle.node_machine.specs.NodeState.{NodeStands, after_turn}
-use Rattle.node_machine.specs.Turns.{slots_sent, TurnTaken}
+use Rattle.node_machine.specs.Turns.{TurnTaken}
 use Rattle.node_machine.proofs.Standing.{change_is, empty_turn, quiet_is, still_machine, told_changed, told_quiet}
 use Rattle.node_machine.proofs.node.NodeMachineMachine.turn.Goals as goal
 
@@ -45,7 +45,7 @@ returns-then-not-is_change-clause-empty c = λ none unchanged.
     )
 
 pub invariant_of-self : goal.invariant_of-self
-invariant_of-self c = still_machine _ (slots_sent c.take-done.result.outgoing) c.take-done.result.ended c.self.invariant
+invariant_of-self c = still_machine _ c.take-done.result.outgoing c.take-done.result.ended c.self.invariant
 
 pub returns-clause-after : goal.returns-clause-after
 returns-clause-after c = λ r stands.
@@ -63,8 +63,8 @@ returns-clause-turned c =
     record { thread = c.args.thread; now = c.args.now; got = option_copied c.args.got } in
     let changed = change_is taken c.take-done.result c.args.got c.is_change.result c.is_some-came.result true refl
     c.is_change.ensures c.is_some-came.ensures c.if-not-is_change.false in
-    told_changed c.args.self.now taken c.take-done.result c.take-done.new.self c.is_some.result c.count.result
-    c.take-done.ensures changed c.is_some.ensures c.count.ensures.count
+    told_changed c.args.self.now taken c.take-done.result c.take-done.new.self c.is_some.result c.count-sends.result
+    c.take-done.ensures changed c.is_some.ensures c.count-sends.ensures.count
 
 pub returns-clause-polls : goal.returns-clause-polls
 returns-clause-polls c = λ none thread.

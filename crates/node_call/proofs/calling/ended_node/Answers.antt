@@ -2,19 +2,17 @@ use Rattle.std.proofs.Common.{◌∙◌, sym, ap, subst, refl, not, ◌==◌}
 use Rattle.handler_rules.specs.LogState.{Logged}
 use Rattle.gas_endpoint.specs.EndpointState.{EndpointState, EndpointStands}
 use Rattle.node_call.specs.NodeEnds.{node_for}
-use Rattle.node_call.proofs.calling.ran.Goals as goal
+use Rattle.node_call.proofs.calling.ended_node.Goals as goal
 
--- src/calling.rt:154:1
 pub returns : goal.returns
 returns g c = record {
-  violated = not (c.count-violated.result == 0);
   violated_is = λ node stands. ap (λ n. not (n == 0))
       (c.count-violated.ensures ∙ ap (λ (log : Logged). log.count)
       (c.log.ensures node
       (subst (λ (any : EndpointState). EndpointStands any node) (sym c.into_endpoint-endpoint.ensures.is)
       stands)));
-  end_is = c.of-end.ensures;
-  node_is = c.node.ensures ∙ ap (node_for c.of-end.result) c.into_endpoint-endpoint.ensures.is;
+  end_is = refl;
+  node_is = c.node_for.ensures ∙ ap (node_for c.args.left.end) c.into_endpoint-endpoint.ensures.is;
   link = c.into_inner.ensures;
   clock = refl;
   sink = c.into_sink.ensures;
