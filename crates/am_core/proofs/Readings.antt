@@ -15,7 +15,7 @@ use Rattle.node_record.specs.Credits.{limits_of}
 use Rattle.node_record.specs.Step.{request_slot, reply_slot}
 use Rattle.credit_slots.specs.SlotsState.{SlotState, PeerState, is_vacant, vacant_count, is_exhausted}
 use Rattle.credit_slots.specs.SlotsState.{sealed_message_at as request_bytes_at, message_of as request_of}
-use Rattle.reply_slots.specs.RepliesState.{message_at as reply_bytes_at, message_of as reply_of}
+use Rattle.reply_slots.specs.RepliesState.{kept_message_at as reply_bytes_at, message_of as reply_of}
 use Rattle.node_record.specs.declared.answer.SlotRef.{SlotRef}
 use Rattle.node_record.specs.declared.answer.Side.{Side}
 use Rattle.node_record.specs.declared.answer.Side.TheVariants as side

@@ -30,7 +30,7 @@ use Rattle.text_lines.specs.declared.why.LineWhy.TheVariants as why
 use Rattle.job_text.specs.declared.job.Job.{Job as JobState}
 use Rattle.check_run.specs.CheckInputs.{AreOutputs, AreRead, AreUnread, HaveTraces, InputText, IsBadInput, IsInput}
 use Rattle.check_run.specs.CheckInputs.{IsTraceOf, OutputsOf, OutputsRead, StandThere, after_output, all_of, bad_behind}
-use Rattle.check_run.specs.CheckInputs.{input_limit, lines_in, outputs_at, outputs_text, wanted_of, why_of}
+use Rattle.check_run.specs.CheckInputs.{input_limit, lines_in, outputs_at, outputs_text, wanted_of}
 use Rattle.check_run.specs.CheckInputs.{with_outputs, IsRefused, IsUnread, ReadsOutputs, TakesInput, TakesNone}
 use Rattle.check_run.specs.CheckInputs.{HasMoreBehind, fault_behind, lines_until}
 use Rattle.check_run.proofs.InputsTold.{all_once, bad_once, front_fits, meant_there, none_bad}
@@ -294,7 +294,7 @@ pub read_bad : (place : OutputsOf) (outputs : List Output) (rank at : ℕ) (bad 
     → ((other : Output) (size : ℕ) → OutputBegins (wanted_of place.job rank) (drop at place.bytes) other size → ⊥)
     → output_at (wanted_of place.job rank) (drop at place.bytes) ≡ Err bad
     → Means (output_kind (wanted_of place.job rank)) (drop at place.bytes) bad.line bad.why
-    → AreUnread place (lines_in (take at place.bytes) + bad.line) (why_of bad.why)
+    → AreUnread place (lines_in (take at place.bytes) + bad.line) bad.why
 read_bad place outputs rank at bad low so none read means =
     let counted : place.job.settings.nodes - rank ≡ suc (place.job.settings.nodes - (rank + 1)) = omega arith in
     record {

@@ -17,7 +17,7 @@ use Rattle.text_lines.specs.declared.why.LineWhy.{LineWhy}
 use Rattle.job_text.specs.declared.job.Job.{Job as JobState}
 use Rattle.job_text.specs.JobText.{BeginsWith}
 use Rattle.check_run.specs.CheckInputs.{AreOutputs, HasMoreBehind, IsBadOutput, IsMeantBehind, OutputsOf, lines_until}
-use Rattle.check_run.specs.CheckInputs.{outputs_text, wanted_of, why_of}
+use Rattle.check_run.specs.CheckInputs.{outputs_text, wanted_of}
 
 version_fits : (version : ℕ) → is_version version ≡ true → version < 2 ^ 64
 version_fits version is = elim (cases_eq version 1) [
@@ -140,7 +140,7 @@ module _ (place : OutputsOf) (fits : place.job.settings.version < 2 ^ 64) where
       one.own_reason two.own_reason
       (subst (λ (r : List ℕ). Means (output_kind wanted) r one.own_line one.own_reason) rests first) two.means in (
         one.line_is ∙ ap₂ (λ (r : List ℕ) (n : ℕ). lines_until place.bytes r + n) rests same.0 ∙ sym two.line_is,
-        one.reason_is ∙ ap why_of same.1 ∙ sym two.reason_is,
+        one.reason_is ∙ same.1 ∙ sym two.reason_is,
       )
 
   pub bad_once : (line other : ℕ) (reason why : LineWhy) → IsBadOutput place line reason → IsBadOutput place other why

@@ -14,8 +14,6 @@ use Rattle.gasnet_trace.specs.LineRefusals.{Means}
 use Rattle.gasnet_trace.specs.OutputRefusals.{output_kind}
 use Rattle.gasnet_trace.specs.declared.fault.TraceFault.{TraceFault}
 use Rattle.gasnet_trace.specs.declared.fault.TraceFault.TheVariants as tracefaults
-use Rattle.gasnet_trace.specs.declared.fault.TraceWhy.{TraceWhy}
-use Rattle.gasnet_trace.specs.declared.fault.TraceWhy.TheVariants as whys
 use Rattle.gasnet_trace.specs.declared.output.Output.{Output}
 use Rattle.gasnet_trace.specs.declared.output.Wanted.{Wanted}
 use Rattle.gasnet_trace.specs.declared.trace.Trace.{Trace}
@@ -72,20 +70,13 @@ traces_in outputs = map (λ output. output.trace) outputs
 
 -- ---- reading it: the first bad line, and the first reason that applies to it
 
--- a reason why a line of an output is bad, as a reason why one of an input is
-abbrev pub why_of : TraceWhy → LineWhy
-why_of whys.Early = why.Early
-why_of whys.Text = why.Text
-why_of whys.Form = why.Form
-why_of whys.Value = why.Value
-
 -- how many lines end in the bytes
 abbrev pub lines_in : List ℕ → ℕ
 lines_in bytes = count_by (λ byte. byte == 10) bytes
 
 -- a bad line of an output behind these bytes, counted over the whole input
 abbrev pub bad_behind : List ℕ → BadTraceLine → BadLine
-bad_behind before bad = record { line = lines_in before + bad.line; why = why_of bad.why }
+bad_behind before bad = record { line = lines_in before + bad.line; why = bad.why }
 
 -- outputs, and where in the bytes they end
 abbrev pub OutputsRead : Type 0
@@ -140,10 +131,10 @@ pub record IsBadOutput (place : OutputsOf) (line : ℕ) (reason : LineWhy) : Typ
   pub rest : List ℕ
   pub text : drop place.from place.bytes ≡ outputs_text place.job.settings.version outputs ++ rest
   pub own_line : ℕ
-  pub own_reason : TraceWhy
+  pub own_reason : LineWhy
   pub means : Means (output_kind (wanted_of place.job (length outputs))) rest own_line own_reason
   pub line_is : line ≡ lines_until place.bytes rest + own_line
-  pub reason_is : reason ≡ why_of own_reason
+  pub reason_is : reason ≡ own_reason
 
 -- outputs of all nodes stand there, and this is the line behind them
 pub record HasMoreBehind (place : OutputsOf) (line : ℕ) (reason : LineWhy) : Type 0 where
@@ -189,7 +180,7 @@ HaveTraces job outputs = All (λ output. IsTraceOf job output.trace) outputs
 
 -- the fault of an output behind these bytes
 abbrev pub fault_behind : List ℕ → TraceFault → InputFault
-fault_behind before (tracefaults.Bad line reason) = faults.Bad (lines_in before + line) (why_of reason)
+fault_behind before (tracefaults.Bad line reason) = faults.Bad (lines_in before + line) reason
 fault_behind before tracefaults.NoMemory = faults.NoMemory
 
 -- they are outputs of all its nodes, which stand there, before the rest

@@ -4,11 +4,11 @@ ghost use Rattle.std.specs.Prelude.{◌≡◌, ◌≤◌, MatchResult, length};
 ghost use Rattle.gasnet_trace.specs.OutputReading.{IsNear};
 ghost use Rattle.check_run.specs.CheckInputs.{IsInput, IsRefused, IsUnread, TakesInput};
 ghost use Rattle.check_run.specs.CheckInputs.{ReadsOutputs, OutputsOf, fault_behind};
-ghost use Rattle.check_run.specs.CheckInputs.{lines_in, wanted_of, why_of};
+ghost use Rattle.check_run.specs.CheckInputs.{lines_in, wanted_of};
 ghost use Rattle.gas_outside.specs.declared.spawner.TheConstants.{MAX_OUTPUT};
 
 use gas_outside::{MAX_OUTPUT, ReadAll, Source, read_all};
-use gasnet_trace::{Output, TraceFault, TraceWhy, Wanted, read_output};
+use gasnet_trace::{Output, TraceFault, Wanted, read_output};
 use job_text::{Job, JobFault, read_job_front};
 use std::alloc::Global;
 use std::fmt;
@@ -52,18 +52,6 @@ impl fmt::Display for InputFault {
     }
 }
 
-/// A reason why a line of an output is bad, as one why a line of an input is.
-fn why_of(why: TraceWhy) -> LineWhy
-    ensures { result ≡ why_of why }
-{
-    match why {
-        TraceWhy::Early => LineWhy::Early,
-        TraceWhy::Text => LineWhy::Text,
-        TraceWhy::Form => LineWhy::Form,
-        TraceWhy::Value => LineWhy::Value,
-    }
-}
-
 /// How many lines end in the bytes.
 fn lines_in(bytes: &[u8]) -> usize
     ensures is { result ≡ lines_in bytes.now }
@@ -81,7 +69,7 @@ fn fault_behind(before: &[u8], fault: TraceFault) -> InputFault
     match fault {
         TraceFault::Bad { line, why } => InputFault::Bad {
             line: lines_in(before) as u32 + line,
-            why: why_of(why),
+            why,
         },
         TraceFault::NoMemory => InputFault::NoMemory,
     }

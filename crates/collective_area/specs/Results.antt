@@ -14,8 +14,8 @@ pub record Contribution : Type 0 where
   pub bytes : List ℕ
 
 -- the bytes of a node
-abbrev pub bytes_of : List (List ℕ) → (node : ℕ) → List ℕ
-bytes_of given node = elim (slice_get given node) [ Some bytes ↦ bytes | None ↦ [] ]
+abbrev pub contribution_of : List (List ℕ) → (node : ℕ) → List ℕ
+contribution_of given node = elim (slice_get given node) [ Some bytes ↦ bytes | None ↦ [] ]
 
 -- ---- words, taken together
 
@@ -31,13 +31,13 @@ combined kind.AllMax one other = max one other
 combined other_kind one other = sum_of one other
 
 -- the word at a place of bytes, little-endian
-abbrev pub word_at : (place : ℕ) → List ℕ → ℕ
-word_at place bytes = from_le_bytes w64 (part bytes (8 * place) 8)
+abbrev pub word_at_place : (place : ℕ) → List ℕ → ℕ
+word_at_place place bytes = from_le_bytes w64 (part bytes (8 * place) 8)
 
 -- the words of all nodes at a place, taken together
 abbrev pub together_at : (ℕ → ℕ → ℕ) → List (List ℕ) → (place : ℕ) → ℕ
 together_at with [] place = 0
-together_at with (first ∷ others) place = fold (λ word bytes. with word (word_at place bytes)) (word_at place first) others
+together_at with (first ∷ others) place = fold (λ word bytes. with word (word_at_place place bytes)) (word_at_place place first) others
 
 -- at this place and the next ones, so many
 abbrev pub together_from : (ℕ → ℕ → ℕ) → List (List ℕ) → (place count : ℕ) → List ℕ
@@ -58,7 +58,7 @@ at_root shape node pieces = if node == shape.root then pieces else []
 -- what a node gets, in the pieces in which it is written, where all nodes started with this shape and gave these bytes,
 -- in the order of the nodes
 abbrev pub pieces_by : CollectiveKind → Shape → List (List ℕ) → (node : ℕ) → List (List ℕ)
-pieces_by kind.Broadcast shape given node = bytes_of given shape.root ∷ []
+pieces_by kind.Broadcast shape given node = contribution_of given shape.root ∷ []
 pieces_by kind.Gather shape given node = at_root shape node given
 pieces_by kind.AllGather shape given node = given
 pieces_by kind.Sum shape given node = at_root shape node (together sum_of shape.len given ∷ [])

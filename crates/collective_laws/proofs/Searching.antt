@@ -12,7 +12,7 @@ use Rattle.collective_area.specs.declared.shape.CollectiveKind.TheVariants as ki
 use Rattle.collective_area.specs.declared.shape.Shape.{Shape}
 use Rattle.collective_area.specs.Shapes.{kind_code, shape_word, uses}
 use Rattle.collective_area.specs.Area.{Area, data_in}
-use Rattle.collective_area.specs.Results.{bytes_of, pieces_by, sum_of, together}
+use Rattle.collective_area.specs.Results.{contribution_of, pieces_by, sum_of, together}
 use Rattle.gas_collectives.specs.Progress.{Progress, is_ready_from, first_node, data_of_all}
 use Rattle.collective_laws.specs.Groups.{Group}
 use Rattle.collective_laws.specs.CollectiveLaws.{bytes_given, given_bytes}
@@ -116,7 +116,7 @@ same_data area progress segment group node (suc many) each =
 
 -- the bytes of a node
 pub same_at : (one other : List (List ℕ)) (node : ℕ) → slice_get one node ≡ slice_get other node
-    → bytes_of one node ≡ bytes_of other node
+    → contribution_of one node ≡ contribution_of other node
 same_at one other node is =
     ap (λ (found : Option (List ℕ)). elim found [ Some bytes ↦ bytes | None ↦ [] ]) is
 
@@ -125,7 +125,7 @@ pub record SameUsed (k : CollectiveKind) (root len : ℕ) (data_list given : Lis
   pub whole : ((at : ℕ) → at < nodes → uses (record { kind = k; root = root; len = len }) at me ≡ true)
       → data_list ≡ given
   pub at_root : uses (record { kind = k; root = root; len = len }) root me ≡ true
-      → bytes_of data_list root ≡ bytes_of given root
+      → contribution_of data_list root ≡ contribution_of given root
 
 root_pieces : (here : Bool) (one other : List (List ℕ)) → (here ≡ true → one ≡ other)
     → (if here then one else []) ≡ (if here then other else [])

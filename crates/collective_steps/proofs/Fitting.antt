@@ -5,7 +5,7 @@ use Rattle.std.specs.Prelude.{◌==◌, ◌/◌, max, min, nat_le, nat_lt}
 use Rattle.std.specs.List.{AllByRecursion}
 use Rattle.std.specs.Int.{w64, to_le_bytes}
 use Rattle.collective_area.specs.Area.{Area, data_place}
-use Rattle.collective_area.specs.Results.{at_root, bytes_of, pieces_by, sum_of, together_at, together_from}
+use Rattle.collective_area.specs.Results.{at_root, contribution_of, pieces_by, sum_of, together_at, together_from}
 use Rattle.collective_area.specs.Shapes.{shape_word, uses}
 use Rattle.collective_area.specs.declared.shape.CollectiveKind.{CollectiveKind}
 use Rattle.collective_area.specs.declared.shape.CollectiveKind.TheVariants as kind
@@ -38,7 +38,7 @@ use Rattle.collective_steps.proofs.Resting.{from_left, from_open, rest_from}
 abbrev AreAllBytes : List (List ℕ) → Type 0
 AreAllBytes pieces = AllByRecursion AreBytes pieces
 
-bytes_given : (given : List (List ℕ)) (node : ℕ) → AreAllBytes given → AreBytes (bytes_of given node)
+bytes_given : (given : List (List ℕ)) (node : ℕ) → AreAllBytes given → AreBytes (contribution_of given node)
 bytes_given [] node all = bytes_none
 bytes_given (bytes ∷ given) zero all = all.0
 bytes_given (bytes ∷ given) (suc node) all = bytes_given given node all.1

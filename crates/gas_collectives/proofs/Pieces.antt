@@ -8,7 +8,7 @@ use Rattle.collective_area.specs.declared.shape.CollectiveKind.TheVariants as ki
 use Rattle.lists.proofs.Places.{slice_get_there}
 use Rattle.collective_area.specs.Area.{Area, data_in}
 use Rattle.collective_area.specs.Shapes.{is_reduction}
-use Rattle.collective_area.specs.Results.{bytes_of, combined, pieces_by, sum_of, together}
+use Rattle.collective_area.specs.Results.{contribution_of, combined, pieces_by, sum_of, together}
 use Rattle.gas_collectives.specs.Progress.{Progress, data_of_all}
 use Rattle.gas_collectives.specs.CollectivesState.{CollectivesState, progress_of}
 use Rattle.gas_collectives.specs.Ends.{giver_by, result_in}
@@ -62,11 +62,11 @@ data_of it segment node low =
 
 -- what stands at a place of a list
 some_bytes : (given : List (List ℕ)) (node : ℕ) (bytes : List ℕ) → slice_get given node ≡ Some bytes
-    → Some (bytes_of given node) ≡ Some bytes
+    → Some (contribution_of given node) ≡ Some bytes
 some_bytes given node bytes is = ap (λ (one : Option (List ℕ)). Some (elim one [ Some it ↦ it | None ↦ [] ])) is
 
 there : (given : List (List ℕ)) (node : ℕ) → node < length given
-    → slice_get given node ≡ Some (bytes_of given node)
+    → slice_get given node ≡ Some (contribution_of given node)
 there given node low =
     let at = slice_get_there given node low in
     at.1 ∙ sym (some_bytes given node at.0 at.1)
@@ -85,8 +85,8 @@ pub gives : (k : CollectiveKind) (root len : ℕ) (given : List (List ℕ)) (nod
     → root < length given → index < length (pieces_by k (record { kind = k; root = root; len = len }) given node)
     → (giver_by k root index < length given)
     × (slice_get (pieces_by k (record { kind = k; root = root; len = len }) given node) index
-    ≡ Some (bytes_of given (giver_by k root index)))
-gives kind.Broadcast root len given node index none low inside = (low, only_first (bytes_of given root) index inside)
+    ≡ Some (contribution_of given (giver_by k root index)))
+gives kind.Broadcast root len given node index none low inside = (low, only_first (contribution_of given root) index inside)
 gives kind.Gather root len given node index none low inside =
     let here = if_root (node == root) given index inside in
     (here.0, here.1 ∙ there given index here.0)

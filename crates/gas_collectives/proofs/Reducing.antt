@@ -7,14 +7,14 @@ use Rattle.std.proofs.lemmas.List.{append_assoc, length-drop, length-take-le}
 use Rattle.std.proofs.lemmas.Slice.{take-put_mid}
 use borrow.Rule.Slice.PartMut.{mid_of, put_mid, same_len_mid}
 use Rattle.collective_area.specs.Area.{data_in}
-use Rattle.collective_area.specs.Results.{combined, together_at, together_from, word_at}
+use Rattle.collective_area.specs.Results.{combined, together_at, together_from, word_at_place}
 use Rattle.gas_collectives.specs.Progress.{data_of_all}
 use Rattle.gas_collectives.specs.CollectivesState.{CollectivesState, progress_of}
 
 -- the data of this node and the next ones, and what it makes of a word so far
 abbrev folded : CollectivesState → (bytes : List ℕ) → (place node many word : ℕ) → ℕ
 folded it bytes place node many word =
-    fold (λ so_far given. combined it.shape.kind so_far (word_at place given)) word
+    fold (λ so_far given. combined it.shape.kind so_far (word_at_place place given)) word
     (data_of_all it.area (progress_of it) bytes node many)
 
 counted : (node nodes : ℕ) → node < nodes → nodes - node ≡ suc (nodes - (node + 1))
@@ -24,7 +24,7 @@ next_is : (node : ℕ) → suc node ≡ node + 1
 next_is node = omega arith
 
 pub folded_first : (it : CollectivesState) (bytes : List ℕ) (place word : ℕ) → 0 < it.area.nodes
-    → word ≡ word_at place (data_in bytes it.area (it.ended % 2) 0 it.shape.len)
+    → word ≡ word_at_place place (data_in bytes it.area (it.ended % 2) 0 it.shape.len)
     → together_at (combined it.shape.kind) (data_of_all it.area (progress_of it) bytes 0 it.area.nodes) place
     ≡ folded it bytes place 1 (it.area.nodes - 1) word
 folded_first it bytes place word some is =
@@ -34,13 +34,13 @@ folded_first it bytes place word some is =
     ∙ ap (folded it bytes place 1 (it.area.nodes - 1)) (sym is)
 
 pub folded_on : (it : CollectivesState) (bytes : List ℕ) (place node so_far word all : ℕ) → node < it.area.nodes
-    → word ≡ word_at place (data_in bytes it.area (it.ended % 2) node it.shape.len)
+    → word ≡ word_at_place place (data_in bytes it.area (it.ended % 2) node it.shape.len)
     → all ≡ combined it.shape.kind so_far word
     → folded it bytes place node (it.area.nodes - node) so_far
     ≡ folded it bytes place (node + 1) (it.area.nodes - (node + 1)) all
 folded_on it bytes place node so_far word all low is all_is =
     let rest = it.area.nodes - (node + 1) in
-    let taken : combined it.shape.kind so_far (word_at place (data_in bytes it.area (it.ended % 2) node it.shape.len))
+    let taken : combined it.shape.kind so_far (word_at_place place (data_in bytes it.area (it.ended % 2) node it.shape.len))
     ≡ all = ap (combined it.shape.kind so_far) (sym is) ∙ sym all_is in
     ap (λ (many : ℕ). folded it bytes place node many so_far) (counted node it.area.nodes low)
     ∙ (ap (folded it bytes place (suc node) rest) taken

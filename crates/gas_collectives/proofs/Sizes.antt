@@ -13,7 +13,7 @@ use Rattle.collective_area.specs.declared.shape.CollectiveKind.TheVariants as ki
 use Rattle.collective_area.specs.declared.shape.Shape.{Shape}
 use Rattle.collective_area.specs.Shapes.{is_reduction}
 use Rattle.collective_area.specs.Area.{Area, IsArea, SpareArea, area_end, data_place}
-use Rattle.collective_area.specs.Results.{bytes_of, pieces_by, result_len, sum_of, together, together_at, together_from}
+use Rattle.collective_area.specs.Results.{contribution_of, pieces_by, result_len, sum_of, together, together_at, together_from}
 use Rattle.collective_area.proofs.Places.{part_inside}
 use Rattle.gas_collectives.specs.Progress.{Progress, data_of_all, is_bad_dest, share, writes_from}
 
@@ -35,7 +35,7 @@ long_flat len (bytes ∷ later) all =
     omega (arith, whole, rest, product, all.0)
 
 pub long_at : (len : ℕ) (lists : List (List ℕ)) (node : ℕ) → AllLong len lists → node < length lists
-    → length (bytes_of lists node) ≡ len
+    → length (contribution_of lists node) ≡ len
 long_at len [] node all low = absurd (omega (arith, low))
 long_at len (bytes ∷ later) zero all low = all.0
 long_at len (bytes ∷ later) (suc node) all low = long_at len later node all.1 (omega (arith, low))
@@ -70,7 +70,7 @@ pub result_long : (k : CollectiveKind) (root len : ℕ) (given : List (List ℕ)
     → length (flat (pieces_by k (record { kind = k; root = root; len = len }) given node))
     ≡ result_len (record { kind = k; root = root; len = len }) nodes node
 result_long kind.Broadcast root len given nodes node many all low words =
-    ap (λ (bytes : List ℕ). length bytes) (append-nil (bytes_of given root))
+    ap (λ (bytes : List ℕ). length bytes) (append-nil (contribution_of given root))
     ∙ long_at len given root all (omega (arith, many, low))
 result_long kind.Gather root len given nodes node many all low words =
     root_long (node == root) given (nodes * len) (long_flat len given all ∙ ap (λ (n : ℕ). n * len) many)

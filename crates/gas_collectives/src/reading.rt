@@ -6,7 +6,7 @@ ghost use Rattle.std.specs.Int.{w64, from_le_bytes};
 ghost use Rattle.raw_segment.specs.Bytes.{part};
 ghost use Rattle.collective_area.specs.Area.{stamp_in, word_in, data_in};
 ghost use Rattle.collective_area.specs.Shapes.{is_reduction};
-ghost use Rattle.collective_area.specs.Results.{combined, together, together_at, word_at};
+ghost use Rattle.collective_area.specs.Results.{combined, together, together_at, word_at_place};
 ghost use Rattle.gas_collectives.specs.Progress.{data_of_all, end_answer, is_exchanged, is_other};
 ghost use Rattle.gas_collectives.specs.Progress.{is_ready, has_exhausted, other_shape, exhausted_node};
 ghost use Rattle.gas_collectives.specs.CollectivesState.{Stands, progress_of};
@@ -183,7 +183,7 @@ impl Collectives {
         requires long { length bytes.now ≡ self.now.settings.segment }
         requires node { node < self.now.area.nodes }
         requires place { 8 * place + 8 ≤ self.now.shape.len }
-        ensures { result ≡ word_at place
+        ensures { result ≡ word_at_place place
             (data_in bytes.now self.now.area (self.now.ended % 2) node self.now.shape.len) }
     {
         word(self.data(bytes, node), 8 * place)

@@ -41,7 +41,7 @@ use Rattle.endpoint_rules.specs.declared.answer.Local.TheVariants as local
 use Rattle.endpoint_rules.proofs.CoreKept.{segment_fits, written_fits}
 use Rattle.gas_endpoint.specs.declared.extended.Extended.{Extended}
 use Rattle.gas_endpoint.specs.EndpointState.{EndpointStands, NodeSteps}
-use Rattle.gas_endpoint.specs.Parts.{EndpointKeeps, Parts, PartDoes, endpoint_of, whole, caller_in, kind_of, judged_as}
+use Rattle.gas_endpoint.specs.Parts.{EndpointKeeps, Parts, PartDoes, endpoint_of, whole, caller_in, judged_kind, judged_as}
 use Rattle.gas_endpoint.specs.Parts.{allowed_does, CallSteps, IsWhole, IsSameExtended}
 use Rattle.gas_endpoint.proofs.Stepping.{steps_by, stands_by, keeps_of, barrier_of, nothing_runs, nothing_lawful}
 use Rattle.gas_endpoint.proofs.Stepping.{same_node, caller_same, stays_whole, has_next}
@@ -133,12 +133,12 @@ allowed_stands core new extended thread kind node C S =
 
 -- a call that the table forbids
 pub forbidden_steps : (core new : CoreState) (extended : Extended) (thread : ℕ) (kind : CallKind)
-    (forbidden : Forbidden) (call : Call) → kind_of (meant call) ≡ Some kind
+    (forbidden : Forbidden) (call : Call) → judged_kind (meant call) ≡ Some kind
     → CoreChecks core thread kind (Err forbidden) new
     → CallSteps (endpoint_of core extended) thread call (answers.Forbidden forbidden) (endpoint_of new extended)
 forbidden_steps core new extended thread kind forbidden call is C meaning lawful now = by (meant call) is
   where
-    by : (m : Meant) → kind_of m ≡ Some kind
+    by : (m : Meant) → judged_kind m ≡ Some kind
         → NodeSteps meaning (endpoint_of core extended)
         (transition now (node_event thread m) (answers.Forbidden forbidden)) (endpoint_of new extended)
     by (Requests to asking) e = absurd (cc)
@@ -167,13 +167,13 @@ forbidden_steps core new extended thread kind forbidden call is C meaning lawful
 
 -- a call that it allows
 pub allowed_steps : (core mid : CoreState) (extended : Extended) (thread : ℕ) (kind : CallKind) (call : Call)
-    (answer : Answer) (new : Parts) → kind_of (meant call) ≡ Some kind
+    (answer : Answer) (new : Parts) → judged_kind (meant call) ≡ Some kind
     → CoreChecks core thread kind (Ok tt) mid
     → PartDoes (record { core = mid; extended = extended }) thread (allowed_does (meant call)) answer new
     → CallSteps (endpoint_of core extended) thread call answer (whole new)
 allowed_steps core mid extended thread kind call answer new is C P meaning lawful now = by (meant call) is P
   where
-    by : (m : Meant) → kind_of m ≡ Some kind
+    by : (m : Meant) → judged_kind m ≡ Some kind
         → PartDoes (record { core = mid; extended = extended }) thread (allowed_does m) answer new
         → NodeSteps meaning (endpoint_of core extended) (transition now (node_event thread m) answer) (whole new)
     by (Requests to asking) e D = absurd (cc)

@@ -141,9 +141,9 @@ judged_as (OnTransfers call) = Some (transfer_kind call)
 judged_as (OnBarrier call) = Some kinds.Barrier
 
 -- the same of a thread's call
-abbrev pub kind_of : Meant → Option CallKind
-kind_of (Requests to asking) = None
-kind_of (Performs call) = judged_as call
+abbrev pub judged_kind : Meant → Option CallKind
+judged_kind (Requests to asking) = None
+judged_kind (Performs call) = judged_as call
 
 -- what such a call does where it is allowed
 abbrev pub allowed_does : Meant → EndpointOutcome

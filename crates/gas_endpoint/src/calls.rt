@@ -3,7 +3,7 @@
 ghost use Rattle.std.specs.Prelude.{◌≡◌, ◌<◌, ◌≤◌, ◌≢◌, Some, None};
 ghost use Rattle.endpoint_rules.specs.Called.{meant};
 ghost use Rattle.gas_endpoint.specs.EndpointState.{MayBeCalled};
-ghost use Rattle.gas_endpoint.specs.Parts.{IsWhole, PartDoes, kind_of, allowed_does};
+ghost use Rattle.gas_endpoint.specs.Parts.{IsWhole, PartDoes, judged_kind, allowed_does};
 
 use crate::extended::Extended;
 use am_core::Core;
@@ -11,8 +11,8 @@ use endpoint_rules::{Answer, Call};
 use handler_rules::CallKind;
 
 /// As which kind of call the rule table judges a call that makes no request; None where it doesn't.
-pub fn kind_of(call: &Call<'_>) -> Option<CallKind>
-    ensures { result ≡ kind_of (meant call.now) }
+pub fn judged_kind(call: &Call<'_>) -> Option<CallKind>
+    ensures { result ≡ judged_kind (meant call.now) }
 {
     match call {
         Call::Poll => Some(CallKind::Poll),
@@ -37,7 +37,7 @@ impl Extended {
     pub(crate) fn allowed(&mut self, core: &mut Core, thread: u16, call: &Call<'_>) -> Answer
         requires whole { IsWhole core.old self.old }
         requires may { MayBeCalled core.old.settings thread call.now }
-        requires judged { kind_of (meant call.now) ≢ None }
+        requires judged { judged_kind (meant call.now) ≢ None }
         ensures { PartDoes (record { core = core.old; extended = self.old }) thread
             (allowed_does (meant call.now)) result
             (record { core = core.new; extended = self.new }) }

@@ -22,10 +22,10 @@ ghost use Rattle.gas_endpoint.specs.EndpointState.{EndpointStands, ForItsRecord,
 ghost use Rattle.gas_endpoint.specs.EndpointState.{IsNodeOf, MayHappen, MayBeCalled, BytesCome};
 ghost use Rattle.gas_endpoint.specs.EndpointState.{IsTickTarget, RunsNone, WouldAcceptAt};
 ghost use Rattle.gas_endpoint.specs.EndpointState.{IsAnsweredAlways, WouldDeliver};
-ghost use Rattle.gas_endpoint.specs.Parts.{CallSteps, kind_of};
+ghost use Rattle.gas_endpoint.specs.Parts.{CallSteps, judged_kind};
 ghost use Rattle.gas_endpoint.specs.Sends.{StepSends};
 
-use crate::calls::kind_of;
+use crate::calls::judged_kind;
 use crate::extended::Extended;
 use crate::memory;
 use am_core::{Core, Delivered, SlotRef};
@@ -300,7 +300,7 @@ impl Endpoint {
         if let Some(asking) = call.asking(thread) {
             return Answer::of_request(self.core.request(handlers, now, &asking));
         }
-        match kind_of(call) {
+        match judged_kind(call) {
             Some(kind) => self.judged_call(thread, kind, call),
             None => self.own_call(thread, call),
         }
@@ -321,7 +321,7 @@ impl Endpoint {
     #[inline(always)]
     fn judged_call(&mut self, thread: u16, kind: CallKind, call: &Call<'_>) -> Answer
         requires may { MayBeCalled self.old.core.settings thread call.now }
-        requires kind { kind_of (meant call.now) ≡ Some kind }
+        requires kind { judged_kind (meant call.now) ≡ Some kind }
         ensures { CallSteps self.old thread call.now result self.new }
     {
         match self.core.check(thread, kind) {
@@ -334,7 +334,7 @@ impl Endpoint {
     #[inline(always)]
     fn own_call(&mut self, thread: u16, call: &Call<'_>) -> Answer
         requires no_request { IsMeantBy call.now thread None }
-        requires kind { kind_of (meant call.now) ≡ None }
+        requires kind { judged_kind (meant call.now) ≡ None }
         ensures { CallSteps self.old thread call.now result self.new }
     {
         match *call {

@@ -7,11 +7,12 @@ use Rattle.std.proofs.lemmas.Bool.{and_parts, ltb-true, eqb-true, eqb-false}
 use Rattle.std.proofs.lemmas.List.Concat.{flat_map-append}
 use Rattle.gasnet_trace.specs.declared.fault.TraceFault.{TraceFault}
 use Rattle.gasnet_trace.specs.declared.fault.TraceFault.TheVariants as faults
-use Rattle.gasnet_trace.specs.declared.fault.TraceWhy.{TraceWhy}
-use Rattle.gasnet_trace.specs.declared.fault.TraceWhy.TheVariants.{Early, Text, Form, Value}
+use Rattle.text_lines.specs.declared.why.LineWhy.{LineWhy}
+use Rattle.text_lines.specs.declared.why.LineWhy.TheVariants.{Size, Early, Text, Form, Value, Entry, Count, After}
 use Rattle.text_lines.specs.Lines.{Word}
 use Rattle.text_lines.specs.LineTexts.{Line, IsPlain, IsWord, IsLine, joined, line_text, spell}
-use Rattle.gasnet_trace.specs.TraceReading.{BadLine, ◌>>=◌, at_line, is_plain, is_word, line_at, read_line, words_of}
+use Rattle.text_lines.specs.Chains.{◌>>=◌}
+use Rattle.gasnet_trace.specs.TraceReading.{BadLine, at_line, is_plain, is_word, line_at, read_line, words_of}
 use Rattle.gasnet_trace.specs.TraceRead.{FailsAt}
 use Rattle.gasnet_trace.specs.LineRefusals.{Before, EndsEarly, HasNoText, IsAtFault, IsFront, IsMeant, IsNoFront, IsNoMemory}
 use Rattle.gasnet_trace.specs.LineRefusals.{IsWrong, Means, TextKind}
@@ -35,7 +36,7 @@ bind_err {A} {B} {E} (Err w) f bad e = inl (ap (λ (y : E). Err y) (err_is {A = 
 -- ---- lines that aren't read
 
 -- no line of words begins there
-line_at_by : (bytes : List ℕ) (none test : Bool) (found : List ℕ × List ℕ) (why : TraceWhy) → eqb (length bytes) 0
+line_at_by : (bytes : List ℕ) (none test : Bool) (found : List ℕ × List ℕ) (why : LineWhy) → eqb (length bytes) 0
     ≡ none → cond none (Err Early) (cond test (Ok found) (Err Text)) ≡ Err why
     → ((why ≡ Early) × (bytes ≡ [])) ⊎ ((why ≡ Text) × (bytes ≡ [] → ⊥))
 line_at_by [] true test found why e h = inl (sym (err_is {A = List ℕ × List ℕ} h), refl)
@@ -45,7 +46,7 @@ line_at_by bytes false true found why e h = absurd (cc)
 line_at_by bytes false false found why e h =
     inr (sym (err_is {A = List ℕ × List ℕ} h), λ none. eqb-false (length bytes) 0 e (ap length none))
 
-line_at_err : (bytes : List ℕ) (why : TraceWhy) → line_at bytes ≡ Err why
+line_at_err : (bytes : List ℕ) (why : LineWhy) → line_at bytes ≡ Err why
     → ((why ≡ Early) × (bytes ≡ [])) ⊎ ((why ≡ Text) × (bytes ≡ [] → ⊥))
 unfolding line_at
 line_at_err bytes why h = line_at_by bytes (eqb (length bytes) 0) _ _ why refl h
@@ -95,52 +96,52 @@ words_read bytes x h =
     (line_of (words_of front) (some_words front) (words_of_test (words_of front) (and_parts _ _ test.0).1))
 
 -- how the reading of a line fails
-pub data LineFails {A : Type 0} (read : Line → Result A TraceWhy) (line : ℕ) (bytes : List ℕ) (bad : BadLine)
+pub data LineFails {A : Type 0} (read : Line → Result A LineWhy) (line : ℕ) (bytes : List ℕ) (bad : BadLine)
     : Type 0 where
   AtEnd : bytes ≡ [] → bad ≡ record { line = line; why = Early } → LineFails read line bytes bad
   NoWords : (bytes ≡ [] → ⊥) → ((words : Line) (more : List ℕ) → IsLine words → bytes ≡ line_text words ++ more → ⊥)
       → bad ≡ record { line = line; why = Text } → LineFails read line bytes bad
-  Refused : (words : Line) (more : List ℕ) (why : TraceWhy) → IsLine words → bytes ≡ line_text words ++ more
+  Refused : (words : Line) (more : List ℕ) (why : LineWhy) → IsLine words → bytes ≡ line_text words ++ more
       → read words ≡ Err why → bad ≡ record { line = line; why = why } → LineFails read line bytes bad
 
-at_err : {A : Type 0} (line : ℕ) (r : Result A TraceWhy) (bad : BadLine) → at_line line r ≡ Err bad
-    → (why : TraceWhy) × ((r ≡ Err why) × (bad ≡ record { line = line; why = why }))
+at_err : {A : Type 0} (line : ℕ) (r : Result A LineWhy) (bad : BadLine) → at_line line r ≡ Err bad
+    → (why : LineWhy) × ((r ≡ Err why) × (bad ≡ record { line = line; why = why }))
 at_err line (Ok x) bad h = absurd (cc)
 at_err {A} line (Err why) bad h = (why, (refl, sym (err_is {A = A} h)))
 
-no_words : (bytes : List ℕ) (why : TraceWhy) → line_at bytes ≡ Err why → (words : Line) (more : List ℕ)
+no_words : (bytes : List ℕ) (why : LineWhy) → line_at bytes ≡ Err why → (words : Line) (more : List ℕ)
     → IsLine words → bytes ≡ line_text words ++ more → ⊥
 no_words bytes why h words more is e = ok_err (ap line_at e ∙ line_again words more is) h
 
-by_reason : {A : Type 0} (read : Line → Result A TraceWhy) (line : ℕ) (bytes : List ℕ) (bad : BadLine)
-    (why : TraceWhy) → line_at bytes ≡ Err why → bad ≡ record { line = line; why = why }
+by_reason : {A : Type 0} (read : Line → Result A LineWhy) (line : ℕ) (bytes : List ℕ) (bad : BadLine)
+    (why : LineWhy) → line_at bytes ≡ Err why → bad ≡ record { line = line; why = why }
     → ((why ≡ Early) × (bytes ≡ [])) ⊎ ((why ≡ Text) × (bytes ≡ [] → ⊥)) → LineFails read line bytes bad
 by_reason read line bytes bad why h e (inl none) =
-    AtEnd none.1 (e ∙ ap (λ (w : TraceWhy). record { line = line; why = w }) none.0)
+    AtEnd none.1 (e ∙ ap (λ (w : LineWhy). record { line = line; why = w }) none.0)
 by_reason read line bytes bad why h e (inr some) =
-    NoWords some.1 (no_words bytes why h) (e ∙ ap (λ (w : TraceWhy). record { line = line; why = w }) some.0)
+    NoWords some.1 (no_words bytes why h) (e ∙ ap (λ (w : LineWhy). record { line = line; why = w }) some.0)
 
-by_words : {A : Type 0} (read : Line → Result A TraceWhy) (line : ℕ) (bytes : List ℕ) (bad : BadLine)
-    (why : TraceWhy) (x : List ℕ × List ℕ) → line_at bytes ≡ Ok x → bad ≡ record { line = line; why = why }
+by_words : {A : Type 0} (read : Line → Result A LineWhy) (line : ℕ) (bytes : List ℕ) (bad : BadLine)
+    (why : LineWhy) (x : List ℕ × List ℕ) → line_at bytes ≡ Ok x → bad ≡ record { line = line; why = why }
     → (read (words_of x.0) ≡ Err why) ⊎ ((a : A) × ((read (words_of x.0) ≡ Ok a)
-    × (◌≡◌ {A = Result (A × List ℕ) TraceWhy} (Ok (a, x.1)) (Err why)))) → LineFails read line bytes bad
+    × (◌≡◌ {A = Result (A × List ℕ) LineWhy} (Ok (a, x.1)) (Err why)))) → LineFails read line bytes bad
 by_words read line bytes bad why x h e (inl r) =
     Refused (words_of x.0) x.1 why (words_read bytes x h) (line_takes bytes x h) r e
 by_words read line bytes bad why x h e (inr a) = absurd (ok_err refl a.1.1)
 
 -- what the words of a line say, and the bytes after it
-abbrev saying : {A : Type 0} → (Line → Result A TraceWhy) → List ℕ × List ℕ → Result (A × List ℕ) TraceWhy
+abbrev saying : {A : Type 0} → (Line → Result A LineWhy) → List ℕ × List ℕ → Result (A × List ℕ) LineWhy
 saying {A} read x = ◌>>=◌ {B = A × List ℕ} (read (words_of x.0)) (λ a. Ok (a, x.1))
 
-by_parts : {A : Type 0} (read : Line → Result A TraceWhy) (line : ℕ) (bytes : List ℕ) (bad : BadLine)
-    (why : TraceWhy) → bad ≡ record { line = line; why = why } → (line_at bytes ≡ Err why)
+by_parts : {A : Type 0} (read : Line → Result A LineWhy) (line : ℕ) (bytes : List ℕ) (bad : BadLine)
+    (why : LineWhy) → bad ≡ record { line = line; why = why } → (line_at bytes ≡ Err why)
     ⊎ ((x : List ℕ × List ℕ) × ((line_at bytes ≡ Ok x) × (saying read x ≡ Err why))) → LineFails read line bytes bad
 by_parts read line bytes bad why e (inl h) = by_reason read line bytes bad why h e (line_at_err bytes why h)
 by_parts {A} read line bytes bad why e (inr x) =
     by_words read line bytes bad why x.0 x.1.0 e (bind_err {B = A × List ℕ} (read (words_of x.0.0))
     (λ a. Ok (a, x.0.1)) why x.1.1)
 
-pub line_err : {A : Type 0} (line : ℕ) (read : Line → Result A TraceWhy) (bytes : List ℕ) (bad : BadLine)
+pub line_err : {A : Type 0} (line : ℕ) (read : Line → Result A LineWhy) (bytes : List ℕ) (bad : BadLine)
     → read_line line read bytes ≡ Err bad → LineFails read line bytes bad
 line_err {A} line read bytes bad h =
     let told = at_err line (◌>>=◌ {B = A × List ℕ} (line_at bytes) (saying read)) bad h in
@@ -149,7 +150,7 @@ line_err {A} line read bytes bad h =
 
 -- ---- a text has its lines in one way
 
-pair_is : {a b x y : List ℕ} → ◌≡◌ {A = Result (List ℕ × List ℕ) TraceWhy} (Ok (a, x)) (Ok (b, y)) → (a ≡ b) × (x ≡ y)
+pair_is : {a b x y : List ℕ} → ◌≡◌ {A = Result (List ℕ × List ℕ) LineWhy} (Ok (a, x)) (Ok (b, y)) → (a ≡ b) × (x ≡ y)
 pair_is {a} {b} {x} {y} e =
     let same : ◌≡◌ {A = List ℕ × List ℕ} (a, x) (b, y) = ok_is (a, x) (b, y) e in
     (ap (λ (p : List ℕ × List ℕ). p.0) same, ap (λ (p : List ℕ × List ℕ). p.1) same)
@@ -185,13 +186,13 @@ spelled_more lines line rest =
     (append-nil (line_text line))) ∙ append_assoc (spell lines) (line_text line) rest
 
 -- what is wrong with words that may stand at a place
-pub data Wrongly (Form_of May : Line → Type 0) (words : Line) (why : TraceWhy) : Type 0 where
+pub data Wrongly (Form_of May : Line → Type 0) (words : Line) (why : LineWhy) : Type 0 where
   NoForm : why ≡ Form → (Form_of words → ⊥) → Wrongly Form_of May words why
   NoValue : why ≡ Value → Form_of words → (May words → ⊥) → Wrongly Form_of May words why
 
 -- a reader of the lines at a place
-abbrev pub Refuses : {R : Type 0} → (Form_of May : Line → Type 0) → (Line → Result R TraceWhy) → Type 0
-Refuses Form_of May read = (words : Line) (why : TraceWhy) → read words ≡ Err why → Wrongly Form_of May words why
+abbrev pub Refuses : {R : Type 0} → (Form_of May : Line → Type 0) → (Line → Result R LineWhy) → Type 0
+Refuses Form_of May read = (words : Line) (why : LineWhy) → read words ≡ Err why → Wrongly Form_of May words why
 
 -- ---- texts of a kind, as lines
 
@@ -258,7 +259,7 @@ module _ {A : Type 0} (kind : TextKind A) (has : HasLines kind) where
       none (has.stands one is_one lines begun.0 words (begun.1 ∙ append_assoc lines (words ∷ []) begun.0))
 
   wrong_by : (lines : List Line) (bytes rest : List ℕ) (line : ℕ) → Reached kind has lines bytes rest
-      → line ≡ suc (length lines) → (words : Line) (more : List ℕ) (why : TraceWhy) → IsLine words
+      → line ≡ suc (length lines) → (words : Line) (more : List ℕ) (why : LineWhy) → IsLine words
       → rest ≡ line_text words ++ more → Wrongly (kind.HasForm lines) (kind.MayStand lines) words why
       → Means kind bytes line why
   wrong_by lines bytes rest line reached count words more why is text (NoForm form unlike) =
@@ -287,7 +288,7 @@ module _ {A : Type 0} (kind : TextKind A) (has : HasLines kind) where
       subst (Means kind bytes line) (sym value) wrong
 
   -- a line fails behind these
-  pub fails_behind : {R : Type 0} (lines : List Line) (bytes rest : List ℕ) (line : ℕ) (read : Line → Result R TraceWhy)
+  pub fails_behind : {R : Type 0} (lines : List Line) (bytes rest : List ℕ) (line : ℕ) (read : Line → Result R LineWhy)
       (bad : BadLine) → Reached kind has lines bytes rest → line ≡ suc (length lines)
       → Refuses (kind.HasForm lines) (kind.MayStand lines) read → LineFails read line rest bad
       → Means kind bytes bad.line bad.why
@@ -313,21 +314,25 @@ module _ {A : Type 0} (kind : TextKind A) (has : HasLines kind) where
   -- ---- no two refusals
 
   -- how the reading stops behind these lines, before this rest
-  data Stops (lines : List Line) (rest : List ℕ) (why : TraceWhy) : Type 0 where
+  data Stops (lines : List Line) (rest : List ℕ) (why : LineWhy) : Type 0 where
     AtNone : rest ≡ [] → why ≡ Early → Stops lines rest why
     AtBytes : (rest ≡ [] → ⊥) → ((words : Line) (more : List ℕ) → IsLine words → rest ≡ line_text words ++ more → ⊥)
         → why ≡ Text → Stops lines rest why
     AtLine : (words : Line) (more : List ℕ) → IsLine words → rest ≡ line_text words ++ more
         → IsNoFront kind (spell (lines ++ words ∷ [])) → IsAtFault kind why lines words → Stops lines rest why
 
-  record StopsAt (bytes : List ℕ) (line : ℕ) (why : TraceWhy) : Type 0 where
+  record StopsAt (bytes : List ℕ) (line : ℕ) (why : LineWhy) : Type 0 where
     pub before : Before bytes line
     pub front : IsFront kind (spell before.lines)
     pub stops : Stops before.lines before.rest why
 
-  stops_at : (bytes : List ℕ) (line : ℕ) (why : TraceWhy) → Means kind bytes line why → StopsAt bytes line why
+  stops_at : (bytes : List ℕ) (line : ℕ) (why : LineWhy) → Means kind bytes line why → StopsAt bytes line why
   stops_at bytes line Early m = record { before = m.before; front = m.front; stops = AtNone m.none refl }
   stops_at bytes line Text m = record { before = m.before; front = m.front; stops = AtBytes m.some m.no_text refl }
+  stops_at bytes line Size m = absurd m.fault
+  stops_at bytes line Entry m = absurd m.fault
+  stops_at bytes line Count m = absurd m.fault
+  stops_at bytes line After m = absurd m.fault
   stops_at bytes line Form m = record {
     before = m.before;
     front = m.front;
@@ -394,7 +399,7 @@ module _ {A : Type 0} (kind : TextKind A) (has : HasLines kind) where
       on_compared a b one two rest left same.0 (compared one two rest left first.1 second.1 same.1)
 
   -- reading doesn't stop where another line of some text follows
-  no_stop : (lines : List Line) (rest : List ℕ) (why : TraceWhy) → Stops lines rest why → (words : Line)
+  no_stop : (lines : List Line) (rest : List ℕ) (why : LineWhy) → Stops lines rest why → (words : Line)
       (others : List Line) (left more : List ℕ) (one : A) → IsLine words → rest ≡ line_text words ++ left
       → kind.IsOne one → kind.text_of one ≡ spell (lines ++ words ∷ others) ++ more → ⊥
   no_stop lines rest why (AtNone none is_early) words others left more one is text is_one whole =
@@ -410,7 +415,7 @@ module _ {A : Type 0} (kind : TextKind A) (has : HasLines kind) where
       ∙ ap (λ (w : Line). spell (lines ++ w ∷ []) ++ (spell others ++ more)) same.0)
 
   -- at one place one reason applies
-  same_reason : (lines : List Line) (words : Line) (one two : TraceWhy) → IsAtFault kind one lines words
+  same_reason : (lines : List Line) (words : Line) (one two : LineWhy) → IsAtFault kind one lines words
       → IsAtFault kind two lines words → one ≡ two
   same_reason lines words Form Form first second = refl
   same_reason lines words Form Value first second = absurd (first second.0)
@@ -418,12 +423,24 @@ module _ {A : Type 0} (kind : TextKind A) (has : HasLines kind) where
   same_reason lines words Value Value first second = refl
   same_reason lines words Early two first second = absurd first
   same_reason lines words Text two first second = absurd first
+  same_reason lines words Size two first second = absurd first
+  same_reason lines words Entry two first second = absurd first
+  same_reason lines words Count two first second = absurd first
+  same_reason lines words After two first second = absurd first
   same_reason lines words Form Early first second = absurd second
   same_reason lines words Form Text first second = absurd second
   same_reason lines words Value Early first second = absurd second
   same_reason lines words Value Text first second = absurd second
+  same_reason lines words Form Size first second = absurd second
+  same_reason lines words Form Entry first second = absurd second
+  same_reason lines words Form Count first second = absurd second
+  same_reason lines words Form After first second = absurd second
+  same_reason lines words Value Size first second = absurd second
+  same_reason lines words Value Entry first second = absurd second
+  same_reason lines words Value Count first second = absurd second
+  same_reason lines words Value After first second = absurd second
 
-  stop_once : (lines : List Line) (rest : List ℕ) (one two : TraceWhy) → Stops lines rest one → Stops lines rest two
+  stop_once : (lines : List Line) (rest : List ℕ) (one two : LineWhy) → Stops lines rest one → Stops lines rest two
       → one ≡ two
   stop_once lines rest one two (AtNone none first) (AtNone again second) = first ∙ sym second
   stop_once lines rest one two (AtNone none first) (AtBytes some wordless second) = absurd (some none)
@@ -442,10 +459,10 @@ module _ {A : Type 0} (kind : TextKind A) (has : HasLines kind) where
       same_reason lines words one two fault (subst (IsAtFault kind two lines) (sym same.0) wrong)
 
   -- a line and a reason
-  abbrev SameBad : (line other : ℕ) → (why reason : TraceWhy) → Type 0
+  abbrev SameBad : (line other : ℕ) → (why reason : LineWhy) → Type 0
   SameBad line other why reason = (line ≡ other) × (why ≡ reason)
 
-  stops_once : (bytes : List ℕ) (line other : ℕ) (why reason : TraceWhy) (one : StopsAt bytes line why)
+  stops_once : (bytes : List ℕ) (line other : ℕ) (why reason : LineWhy) (one : StopsAt bytes line why)
       (two : StopsAt bytes other reason)
       → Compared one.before.lines two.before.lines one.before.rest two.before.rest → SameBad line other why reason
   stops_once bytes line other why reason one two (Same lines rests) =
@@ -463,7 +480,7 @@ module _ {A : Type 0} (kind : TextKind A) (has : HasLines kind) where
       (spell longer.others ++ two.before.rest) two.front.more two.front.one longer.is longer.rest_is two.front.is
       (two.front.text ∙ ap (λ (ls : List Line). spell ls ++ two.front.more) longer.more_is))
 
-  pub means_once : (bytes : List ℕ) (line other : ℕ) (why reason : TraceWhy) → Means kind bytes line why
+  pub means_once : (bytes : List ℕ) (line other : ℕ) (why reason : LineWhy) → Means kind bytes line why
       → Means kind bytes other reason → SameBad line other why reason
   means_once bytes line other why reason first second =
       let one = stops_at bytes line why first in
@@ -474,7 +491,7 @@ module _ {A : Type 0} (kind : TextKind A) (has : HasLines kind) where
 
   -- ---- where a text is read, none is refused
 
-  stops_no_text : (bytes : List ℕ) (line : ℕ) (why : TraceWhy) (stops : StopsAt bytes line why) (one : A)
+  stops_no_text : (bytes : List ℕ) (line : ℕ) (why : LineWhy) (stops : StopsAt bytes line why) (one : A)
       (rest : List ℕ) → kind.IsOne one
       → Compared stops.before.lines (has.lines_of one) stops.before.rest rest → ⊥
   stops_no_text bytes line why stops one rest is (Same lines rests) =
@@ -498,7 +515,7 @@ module _ {A : Type 0} (kind : TextKind A) (has : HasLines kind) where
       (spell longer.others ++ rest) [] one longer.is longer.rest_is is
       (has.text_is one ∙ ap spell longer.more_is ∙ sym (append-nil (spell (stops.before.lines ++ longer.words ∷ longer.others))))
 
-  pub means_no_text : (bytes : List ℕ) (line : ℕ) (why : TraceWhy) (one : A) (rest : List ℕ)
+  pub means_no_text : (bytes : List ℕ) (line : ℕ) (why : LineWhy) (one : A) (rest : List ℕ)
       → Means kind bytes line why → kind.IsOne one → bytes ≡ kind.text_of one ++ rest → ⊥
   means_no_text bytes line why one rest means is text =
       let stops = stops_at bytes line why means in
@@ -507,9 +524,9 @@ module _ {A : Type 0} (kind : TextKind A) (has : HasLines kind) where
       (sym stops.before.text ∙ text ∙ ap (λ (t : List ℕ). t ++ rest) (has.text_is one)))
 
   -- what a reader told is the only refusal
-  pub told_by : (bytes : List ℕ) (fault : TraceFault) (line : ℕ) (why : TraceWhy) → IsMeant kind bytes fault
+  pub told_by : (bytes : List ℕ) (fault : TraceFault) (line : ℕ) (why : LineWhy) → IsMeant kind bytes fault
       → Means kind bytes line why → IsNoMemory fault ⊎ (fault ≡ faults.Bad line why)
   told_by bytes faults.NoMemory line why meant means = inl tt
   told_by bytes (faults.Bad at reason) line why meant means =
       let same = means_once bytes at line reason why meant means in
-      inr (ap (λ (n : ℕ). faults.Bad n reason) same.0 ∙ ap (λ (w : TraceWhy). faults.Bad line w) same.1)
+      inr (ap (λ (n : ℕ). faults.Bad n reason) same.0 ∙ ap (λ (w : LineWhy). faults.Bad line w) same.1)

@@ -10,8 +10,8 @@ use Rattle.std.proofs.lemmas.List.Splits.{join_with_byte-slice_split}
 use Rattle.machine.specs.declared.entry.Entry.{Entry}
 use Rattle.gasnet_trace.specs.declared.fault.TraceFault.{TraceFault}
 use Rattle.gasnet_trace.specs.declared.fault.TraceFault.TheVariants as faults
-use Rattle.gasnet_trace.specs.declared.fault.TraceWhy.{TraceWhy}
-use Rattle.gasnet_trace.specs.declared.fault.TraceWhy.TheVariants.{Form}
+use Rattle.text_lines.specs.declared.why.LineWhy.{LineWhy}
+use Rattle.text_lines.specs.declared.why.LineWhy.TheVariants.{Form}
 use Rattle.gasnet_trace.specs.declared.output.NodeStatus.{NodeStatus}
 use Rattle.gasnet_trace.specs.declared.output.NodeStatus.TheVariants as status
 use Rattle.gasnet_trace.specs.declared.output.Output.{Output}
@@ -23,10 +23,11 @@ use Rattle.gasnet_trace.specs.OutputRefusals.{AtEntries, AtStatus, HasForm, IsSt
 use Rattle.gasnet_trace.specs.OutputRefusals.{AtVersion, AtJob, AtRank, is_end, place_among, place_behind, status_line}
 use Rattle.gasnet_trace.specs.OutputText.{IsOutput, output_text, status_text}
 use Rattle.gasnet_trace.specs.TraceRead.{FailsAt}
-use Rattle.gasnet_trace.specs.TraceReading.{BadLine, ◌>>=◌, at_line, entries_at, line_at, next_of, read_line, setting_of}
+use Rattle.text_lines.specs.Chains.{◌>>=◌}
+use Rattle.gasnet_trace.specs.TraceReading.{BadLine, at_line, entries_at, line_at, entry_or_end, read_line, setting_of}
 use Rattle.gasnet_trace.specs.TraceReading.{words_of}
 use Rattle.gasnet_trace.specs.TraceRefusals as traces
-use Rattle.gasnet_trace.specs.TraceText.{IsEntry, end_line, entry_line, entry_lines, number_line, trace_lines}
+use Rattle.gasnet_trace.specs.TraceText.{IsEntry, end_line, entry_line, entry_lines, setting_line, trace_lines}
 use Rattle.gasnet_trace.proofs.LineLaws.{joined-join, ok_is}
 use Rattle.gasnet_trace.proofs.LineRefused.{HasLines, NoForm, Reached, Refuses, Walked, Wrongly, bind_err, err_is}
 use Rattle.gasnet_trace.proofs.LineRefused.{fails_behind, line_err, ok_err, reach_on, words_of_test}
@@ -48,17 +49,17 @@ words_text status.Stuck = refl
 words_text status.JournalFull = refl
 
 -- what is said by the words of a line
-abbrev said_by : Line → Result NodeStatus TraceWhy
+abbrev said_by : Line → Result NodeStatus LineWhy
 said_by words = status_of (joined words)
 
 -- a status, and the bytes after its line
 abbrev Said : Type 0
 Said = NodeStatus × List ℕ
 
-abbrev before : Result NodeStatus TraceWhy → List ℕ → Result Said TraceWhy
+abbrev before : Result NodeStatus LineWhy → List ℕ → Result Said LineWhy
 before read rest = read >>= λ ended. Ok (ended, rest)
 
-same_status : (line : ℕ) (r : Result (List ℕ × List ℕ) TraceWhy)
+same_status : (line : ℕ) (r : Result (List ℕ × List ℕ) LineWhy)
     → at_line {A = Said} line (r >>= λ cut. before (status_of cut.0) cut.1)
     ≡ at_line {A = Said} line (r >>= λ cut. before (said_by (words_of cut.0)) cut.1)
 same_status line (Err why) = refl
@@ -70,12 +71,12 @@ by_words : (line : ℕ) (bytes : List ℕ) → status_at line bytes ≡ read_lin
 by_words line bytes = same_status line (line_at bytes)
 
 -- one text that a line may have
-other_of : (same : Bool) (one : NodeStatus) (others : Result NodeStatus TraceWhy) (why : TraceWhy)
+other_of : (same : Bool) (one : NodeStatus) (others : Result NodeStatus LineWhy) (why : LineWhy)
     → (others ≡ Err why → why ≡ Form) → cond same (Ok one) others ≡ Err why → why ≡ Form
 other_of true one others why more e = absurd (cc)
 other_of false one others why more e = more e
 
-form_alone : (line : List ℕ) (why : TraceWhy) → status_of line ≡ Err why → why ≡ Form
+form_alone : (line : List ℕ) (why : LineWhy) → status_of line ≡ Err why → why ≡ Form
 unfolding status_of
 form_alone line why e =
     other_of (bytes_eq line (codes "status 0 ok")) status.Ok _ why
@@ -145,9 +146,9 @@ pub stands : (wanted : Wanted) (output : Output) → IsOutput wanted output → 
     → lines_of wanted output ≡ lines ++ words ∷ others → MayStand wanted (place_behind lines) words
 stands wanted output is [] others words e = sym (first_same e)
 stands wanted output is (a ∷ []) others words e =
-    sym (first_same (rest_same e)) ∙ ap (number_line (codes "job")) is.job_is
+    sym (first_same (rest_same e)) ∙ ap (setting_line (codes "job")) is.job_is
 stands wanted output is (a ∷ b ∷ []) others words e =
-    sym (first_same (rest_same (rest_same e))) ∙ ap (number_line (codes "rank")) is.rank_is
+    sym (first_same (rest_same (rest_same e))) ∙ ap (setting_line (codes "rank")) is.rank_is
 stands wanted output is (a ∷ b ∷ c ∷ lines) others words e =
     later_stands wanted output.status output.trace.entries is.is_trace.entries lines others words
     (rest_same (rest_same (rest_same e)))
@@ -194,13 +195,13 @@ module _ (wanted : Wanted) (fits : wanted.version < 2 ^ 64) (few : wanted.job < 
   head = head_of wanted.version wanted.job wanted.rank
 
   abbrev first : Line
-  first = number_line (codes "trace") wanted.version
+  first = setting_line (codes "trace") wanted.version
 
   abbrev second : Line
-  second = number_line (codes "job") wanted.job
+  second = setting_line (codes "job") wanted.job
 
   abbrev third : Line
-  third = number_line (codes "rank") wanted.rank
+  third = setting_line (codes "rank") wanted.rank
 
   abbrev made : List Entry → Output
   made entries = with_entries wanted entries status.Ok
@@ -225,7 +226,7 @@ module _ (wanted : Wanted) (fits : wanted.version < 2 ^ 64) (few : wanted.job < 
           (mapped_lines wanted.threads entries is);
     };
     refuses = λ entries.
-        subst (λ (p : OutputPlace). Refuses (HasForm p) (MayStand wanted p) (next_of wanted.threads))
+        subst (λ (p : OutputPlace). Refuses (HasForm p) (MayStand wanted p) (entry_or_end wanted.threads))
         (sym (among_entries entries)) (entry_wrong wanted.version wanted.threads);
   }
 
@@ -293,7 +294,7 @@ module _ (wanted : Wanted) (fits : wanted.version < 2 ^ 64) (few : wanted.job < 
       (line_err 3 (setting_of (codes "rank") wanted.rank wanted.rank) rest bad e)
   third_by rest reached (inr x) =
       let s = setting_line 3 (codes "rank") wanted.rank wanted.rank rest x.0 x.1.0 in
-      let text = s.0 ∙ ap (λ (n : ℕ). line_text (number_line (codes "rank") n) ++ (x.0).1)
+      let text = s.0 ∙ ap (λ (n : ℕ). line_text (setting_line (codes "rank") n) ++ (x.0).1)
       (same_number wanted.rank (x.0).0 s.1) in
       entries_by (x.0).1
       (reach_on kind has (first ∷ second ∷ []) third bytes rest (x.0).1 reached text (entered.walked [] tt))
@@ -310,7 +311,7 @@ module _ (wanted : Wanted) (fits : wanted.version < 2 ^ 64) (few : wanted.job < 
       (line_err 2 (setting_of (codes "job") wanted.job wanted.job) rest bad e)
   second_by rest reached (inr x) =
       let s = setting_line 2 (codes "job") wanted.job wanted.job rest x.0 x.1.0 in
-      let text = s.0 ∙ ap (λ (n : ℕ). line_text (number_line (codes "job") n) ++ (x.0).1)
+      let text = s.0 ∙ ap (λ (n : ℕ). line_text (setting_line (codes "job") n) ++ (x.0).1)
       (same_number wanted.job (x.0).0 s.1) in
       let walked : Walked kind has (first ∷ second ∷ []) = record {
         one = made [];
@@ -347,7 +348,7 @@ module _ (wanted : Wanted) (fits : wanted.version < 2 ^ 64) (few : wanted.job < 
       (line_err 1 (setting_of (codes "trace") wanted.version wanted.version) bytes bad e)
   first_by (inr x) =
       let s = setting_line 1 (codes "trace") wanted.version wanted.version bytes x.0 x.1.0 in
-      let text = s.0 ∙ ap (λ (n : ℕ). line_text (number_line (codes "trace") n) ++ (x.0).1)
+      let text = s.0 ∙ ap (λ (n : ℕ). line_text (setting_line (codes "trace") n) ++ (x.0).1)
       (same_number wanted.version (x.0).0 s.1)
       ∙ ap (λ (t : List ℕ). t ++ (x.0).1) (sym (append-nil (line_text first))) in
       second_by (x.0).1 (record {

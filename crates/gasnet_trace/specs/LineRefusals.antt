@@ -3,8 +3,8 @@ use Rattle.std.specs.Prelude.{◌≡◌, ◌⊎◌, ℕ, suc, List, [], ◌∷�
 use Rattle.std.specs.List.{AllByRecursion}
 use Rattle.gasnet_trace.specs.declared.fault.TraceFault.{TraceFault}
 use Rattle.gasnet_trace.specs.declared.fault.TraceFault.TheVariants.{Bad, NoMemory}
-use Rattle.gasnet_trace.specs.declared.fault.TraceWhy.{TraceWhy}
-use Rattle.gasnet_trace.specs.declared.fault.TraceWhy.TheVariants.{Early, Text, Form, Value}
+use Rattle.text_lines.specs.declared.why.LineWhy.{LineWhy}
+use Rattle.text_lines.specs.declared.why.LineWhy.TheVariants.{Early, Text, Form, Value}
 use Rattle.text_lines.specs.LineTexts.{Line, IsLine, line_text, spell}
 
 -- texts of one kind: what they are of, and the text of each; and of a line behind others, whether it has a form of its
@@ -49,13 +49,13 @@ pub record HasNoText {A : Type 0} (kind : TextKind A) (bytes : List ℕ) (line :
   pub no_text : (words : Line) (more : List ℕ) → IsLine words → before.rest ≡ line_text words ++ more → ⊥
 
 -- what is wrong with the words of a line behind others
-abbrev pub IsAtFault : {A : Type 0} → TextKind A → TraceWhy → (before : List Line) → Line → Type 0
+abbrev pub IsAtFault : {A : Type 0} → TextKind A → LineWhy → (before : List Line) → Line → Type 0
 IsAtFault kind Form before words = kind.HasForm before words → ⊥
 IsAtFault kind Value before words = kind.HasForm before words × (kind.MayStand before words → ⊥)
 IsAtFault kind why before words = ⊥
 
 -- the lines before this one begin some text, those with it begin none, and this is wrong with it
-pub record IsWrong {A : Type 0} (kind : TextKind A) (bytes : List ℕ) (line : ℕ) (why : TraceWhy) : Type 0 where
+pub record IsWrong {A : Type 0} (kind : TextKind A) (bytes : List ℕ) (line : ℕ) (why : LineWhy) : Type 0 where
   pub before : Before bytes line
   pub front : IsFront kind (spell before.lines)
   pub words : Line
@@ -66,7 +66,7 @@ pub record IsWrong {A : Type 0} (kind : TextKind A) (bytes : List ℕ) (line : �
   pub fault : IsAtFault kind why before.lines words
 
 -- what a refusal at a line means
-abbrev pub Means : {A : Type 0} → TextKind A → List ℕ → (line : ℕ) → TraceWhy → Type 0
+abbrev pub Means : {A : Type 0} → TextKind A → List ℕ → (line : ℕ) → LineWhy → Type 0
 Means kind bytes line Early = EndsEarly kind bytes line
 Means kind bytes line Text = HasNoText kind bytes line
 Means kind bytes line why = IsWrong kind bytes line why
@@ -82,6 +82,6 @@ IsNoMemory NoMemory = Unit {0}
 IsNoMemory (Bad line why) = ⊥
 
 -- this line and this reason are told, unless memory ran out
-abbrev pub IsTold : {R : Type 0} → Result R TraceFault → (line : ℕ) → TraceWhy → Type 0
+abbrev pub IsTold : {R : Type 0} → Result R TraceFault → (line : ℕ) → LineWhy → Type 0
 IsTold (Ok read) line why = ⊥
 IsTold (Err fault) line why = IsNoMemory fault ⊎ (fault ≡ Bad line why)

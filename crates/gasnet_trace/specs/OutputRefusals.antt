@@ -10,7 +10,7 @@ use Rattle.text_lines.specs.LineTexts.{Line}
 use Rattle.gasnet_trace.specs.OutputText.{IsOutput, output_text}
 use Rattle.gasnet_trace.specs.TraceRefusals as traces
 use Rattle.gasnet_trace.specs.TraceRefusals.{IsNamed}
-use Rattle.gasnet_trace.specs.TraceText.{number_line}
+use Rattle.gasnet_trace.specs.TraceText.{setting_line}
 
 -- the words of the line of a status
 abbrev pub status_line : NodeStatus → Line
@@ -60,9 +60,9 @@ HasForm AtStatus words = IsStatus words
 
 -- an output of the node that is wanted may have such a line there
 abbrev pub MayStand : Wanted → OutputPlace → Line → Type 0
-MayStand wanted AtVersion words = words ≡ number_line (codes "trace") wanted.version
-MayStand wanted AtJob words = words ≡ number_line (codes "job") wanted.job
-MayStand wanted AtRank words = words ≡ number_line (codes "rank") wanted.rank
+MayStand wanted AtVersion words = words ≡ setting_line (codes "trace") wanted.version
+MayStand wanted AtJob words = words ≡ setting_line (codes "job") wanted.job
+MayStand wanted AtRank words = words ≡ setting_line (codes "rank") wanted.rank
 MayStand wanted AtEntries words = traces.MayStand wanted.version wanted.threads traces.AtEntries words
 MayStand wanted AtStatus words = IsStatus words
 

@@ -40,7 +40,7 @@ use Rattle.job_text.specs.JobText.{lines_with_handlers}
 use Rattle.job_text.specs.JobText.{job_lines, job_text, IsHandler, IsNodeScript, AreThreads, IsScheduleOrNone}
 use Rattle.job_text.specs.JobText.{AreUnreserved, atomics_lines, lines_with_atomics, with_first_pairs, IsJob}
 use Rattle.job_text.specs.JobText.{collect_lines, lines_with_collect}
-use Rattle.job_text.specs.JobText.{number_of, all_settings, header_line, script_line, IsSchedule}
+use Rattle.job_text.specs.JobText.{setting_number, all_settings, header_line, script_line, IsSchedule}
 use Rattle.job_text.specs.Refusals.{so_far}
 use Rattle.step_text.specs.declared.steps.Action.{Action}
 use Rattle.job_text.specs.declared.job.CollectArea.{CollectArea}
@@ -269,19 +269,19 @@ abbrev pub HeadLeads : Place → (Job → Job) → Type 0
 HeadLeads place known =
     (job : Job) → IsJob job → Reaches start (so_far place job) (record { place = place; job = known job })
 
-setting_reach : (setting : Setting) (job known : Job) (lines : List Line) → least setting ≤ number_of setting job
-    → number_of setting job ≤ greatest setting
-    → setting_fits setting known.settings (number_of setting job) ≡ true
+setting_reach : (setting : Setting) (job known : Job) (lines : List Line) → least setting ≤ setting_number setting job
+    → setting_number setting job ≤ greatest setting
+    → setting_fits setting known.settings (setting_number setting job) ≡ true
     → Reaches start lines (record { place = AtSetting setting; job = known })
     → Reaches start (lines ++ setting_line job setting ∷ [])
-    (record { place = behind_setting setting; job = with_number setting (number_of setting job) known })
+    (record { place = behind_setting setting; job = with_number setting (setting_number setting job) known })
 setting_reach setting job known lines low high fits before =
     let end : State = record {
       place = behind_setting setting;
-      job = with_number setting (number_of setting job) known;
+      job = with_number setting (setting_number setting job) known;
     } in
     reach_join start (record { place = AtSetting setting; job = known }) end lines (setting_line job setting ∷ []) before
-    (setting_lead setting known (number_of setting job) [] end low high fits refl)
+    (setting_lead setting known (setting_number setting job) [] end low high fits refl)
 
 pub to_job : HeadLeads (AtSetting places.Job) version_said
 to_job job is =

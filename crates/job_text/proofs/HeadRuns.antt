@@ -12,7 +12,8 @@ use Rattle.job_text.specs.Places.{AtSetting, AtSieve, AtPairs, setting_fits}
 use Rattle.job_text.specs.Places.{setting_row, item_form}
 use Rattle.job_text.specs.JobReading.{BadLine, Front, start, least_job, line_at, with_number, behind_setting}
 use Rattle.job_text.specs.JobReading.{read}
-use Rattle.job_text.specs.HeadReading.{◌>>=◌, told, number_line, fitting_line, number_why, number_from}
+use Rattle.text_lines.specs.Chains.{◌>>=◌}
+use Rattle.job_text.specs.HeadReading.{told, number_line, fitting_line, number_why, number_from}
 use Rattle.job_text.specs.HeadReading.{setting_form}
 use Rattle.job_text.specs.HeadReading.{sieve_line, sieve_why, head_at}
 use Rattle.job_text.specs.declared.job.Job.{Job}

@@ -4,7 +4,7 @@ use Rattle.std.proofs.lemmas.Bool.{lt-ltb, le-ltb}
 use Rattle.job_text.specs.JobReading.{BadLine, Front, start, limit, front_with, of_front, alone, sized, read}
 use Rattle.job_text.specs.JobReading.{job_of}
 use Rattle.job_text.specs.JobReading.{front_of}
-use Rattle.job_text.specs.HeadReading.{◌>>=◌}
+use Rattle.text_lines.specs.Chains.{◌>>=◌}
 use Rattle.job_text.specs.Reading.{FailsAt}
 use Rattle.job_text.specs.declared.fault.JobFault.{JobFault}
 use Rattle.job_text.specs.declared.fault.JobFault.TheVariants as faults

@@ -9,7 +9,7 @@ use Rattle.job_text.specs.Places.{AtAtomics, AtCollect}
 use Rattle.job_text.specs.Places.{Place, AtSetting, AtSieve, AtPairs, AtHandlers, AtBody, AtScripts, AtSteps}
 use Rattle.job_text.specs.Places.{AtSchedule, AtDone, Over, Item, item_form, item_text, IsItem}
 use Rattle.job_text.specs.JobReading.{State, BadLine, front_with, line_at, next, step, from_later_lines}
-use Rattle.job_text.specs.JobReading.{from_lines, over_or, run, read}
+use Rattle.job_text.specs.JobReading.{from_lines, over_or, read_lines, read}
 use Rattle.job_text.specs.Reading.{FailsAt}
 use Rattle.job_text.specs.declared.fault.JobFault.{JobFault}
 use Rattle.job_text.specs.declared.fault.JobFault.TheVariants as faults
@@ -123,7 +123,7 @@ open_or_over Over = inr refl
 pub read_on : (place : Place) (job : Job) (line : ℕ) (bytes rest : List ℕ) (item : Item place) (state : State)
     → line_at place (scope_of job) bytes ≡ Some (item, rest) → next place job item ≡ Ok state → read
     (record { place = place; job = job }) line bytes ≡ read state (line + 1) rest
-unfolding read run step
+unfolding read read_lines step
 read_on place job line bytes rest item state h n =
     rw (lines_after place (scope_of job) bytes (item, rest) h) (goes_on place _ _ (open_of place item) ∙ rw (h, n) refl)
 
@@ -131,7 +131,7 @@ read_on place job line bytes rest item state h n =
 pub read_full : (place : Place) (job : Job) (line : ℕ) (bytes rest : List ℕ) (item : Item place) (why : LineWhy)
     → line_at place (scope_of job) bytes ≡ Some (item, rest) → next place job item ≡ Err why → read
     (record { place = place; job = job }) line bytes ≡ Err (record { line = line; why = why })
-unfolding read run step
+unfolding read read_lines step
 read_full place job line bytes rest item why h n =
     rw (lines_after place (scope_of job) bytes (item, rest) h) (goes_on place _ _ (open_of place item) ∙ rw (h, n) refl)
 
@@ -142,14 +142,14 @@ Refuses place = (job : Job) (line : ℕ) (bytes : List ℕ) → line_at place (s
     (record { line = line; why = reason (item_form place (scope_of job)) bytes })
 
 pub line_bad : (place : Place) → IsOpen place → Refuses place
-unfolding read run step from_lines
+unfolding read read_lines step from_lines
 line_bad place open_ job line [] h = goes_on place _ _ open_
 line_bad place open_ job line (b ∷ bytes) h = goes_on place _ _ open_ ∙ rw h refl
 
 -- no line is to come
 pub over_read : (job : Job) (line : ℕ) (bytes : List ℕ) → read (record { place = Over; job = job }) line bytes ≡ Ok
     (front_with job line bytes)
-unfolding read run from_lines
+unfolding read read_lines from_lines
 over_read job line [] = refl
 over_read job line (b ∷ bytes) = refl
 

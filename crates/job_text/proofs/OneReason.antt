@@ -13,7 +13,7 @@ use Rattle.job_text.specs.Places.{AtScripts, AtSteps}
 use Rattle.job_text.specs.Places.{AtCollect, AtSchedule, AtDone, Over, Named, Other, Item, item_form}
 use Rattle.job_text.specs.Places.{HandlerItem, CollectItem, AtomicsItem}
 use Rattle.job_text.specs.JobReading.{BadLine, start, limit, line_at, next, opened, headed, collected, served}
-use Rattle.job_text.specs.JobReading.{front_with, of_front, alone, sized, from_lines, run, read, job_of}
+use Rattle.job_text.specs.JobReading.{front_with, of_front, alone, sized, from_lines, read_lines, read, job_of}
 use Rattle.job_text.specs.JobReading.{front_of}
 use Rattle.job_text.specs.JobReading.{most_handlers}
 use Rattle.job_text.specs.JobReading.{has_pair, has_index, is_reserved}
@@ -99,7 +99,7 @@ unfolding is_text
 no_text_bytes h = cc
 
 early_refused : (place : Place) (job : Job) (line : ℕ) → place ≢ Over → IsRefused place job line [] Early
-unfolding read run from_lines
+unfolding read read_lines from_lines
 early_refused place job line to_come = goes_on place _ _ (open_at place to_come)
 
 text_refused : (place : Place) (job : Job) (line : ℕ) (rest : List ℕ) → HasNoText place job rest

@@ -11,7 +11,7 @@ use Rattle.datagram_grammar.proofs.Credits.{even_sum, sum_with_pair, pairs_added
 use Rattle.job_text.specs.Places.{Setting, Version, Nodes, Credits, Threads, Segment, Last, Resend}
 use Rattle.job_text.specs.Places.{least, greatest, setting_fits, in_place, pair_fits}
 use Rattle.job_text.specs.JobReading.{has_pair}
-use Rattle.job_text.specs.JobText.{number_of}
+use Rattle.job_text.specs.JobText.{setting_number}
 use Rattle.job_text.specs.declared.job.Job.{Job}
 use Rattle.job_text.proofs.PairSums.{sum_in_place}
 
@@ -23,7 +23,7 @@ pub record IsNumber (setting : Setting) (settings : Parameters) (number : ℕ) :
 
 -- so are all numbers of a job
 abbrev pub AreNumbers : Job → Type 0
-AreNumbers job = (setting : Setting) → IsNumber setting job.settings (number_of setting job)
+AreNumbers job = (setting : Setting) → IsNumber setting job.settings (setting_number setting job)
 
 version_is : (version : ℕ) → 1 ≤ version → version ≤ 2 → is_version version ≡ true
 version_is zero low high = absurd (omega arith)

@@ -5,7 +5,7 @@ use Rattle.std.specs.List.{AllByRecursion}
 use Rattle.job_text.specs.Scopes.{scope_of}
 use Rattle.job_text.specs.Places.{Place, Over, Item, item_text}
 use Rattle.job_text.specs.JobReading.{State, BadLine, Front, line_at, why_at, next, onward, stepped, step}
-use Rattle.job_text.specs.JobReading.{from_lines, front_with, over_or, after_step, run, read}
+use Rattle.job_text.specs.JobReading.{from_lines, front_with, over_or, after_step, read_lines, read}
 use Rattle.job_text.specs.JobText.{Line, spell}
 use Rattle.job_text.specs.Refusals.{so_far}
 use Rattle.text_lines.specs.declared.why.LineWhy.{LineWhy}
@@ -206,20 +206,20 @@ no_line state line bytes none (inr over) =
 -- a line follows where lines go on
 run_by : (later : List (List ℕ)) (state : State) (line : ℕ) (bytes : List ℕ) (r : Result (State × List ℕ) LineWhy)
     → IsOpen state.place → step state bytes ≡ r → (bytes ≡ [] → ⊥) → ((to : State) (more : List ℕ)
-    → step state bytes ≡ Ok (to, more) → Outcome to (line + 1) more (run to (line + 1) later))
-    → Outcome state line bytes (after_step line (λ to. run to (line + 1) later) r)
+    → step state bytes ≡ Ok (to, more) → Outcome to (line + 1) more (read_lines to (line + 1) later))
+    → Outcome state line bytes (after_step line (λ to. read_lines to (line + 1) later) r)
 run_by later state line bytes (Err why) open_ h some on =
     at_once state line bytes _ (Fails why open_ some h (ap (λ (n : ℕ). Err (record { line = n; why = why }))
     (omega arith)))
 run_by later state line bytes (Ok x) open_ h some on = one_before state line bytes x.0 x.1
-    (run x.0 (line + 1) later) h (on x.0 x.1 h)
+    (read_lines x.0 (line + 1) later) h (on x.0 x.1 h)
 
 -- a line follows
 some_line : (later : List (List ℕ)) (state : State) (line : ℕ) (bytes : List ℕ)
     → IsOpen state.place ⊎ (state.place ≡ Over) → (bytes ≡ [] → ⊥) → ((to : State) (more : List ℕ)
-    → step state bytes ≡ Ok (to, more) → Outcome to (line + 1) more (run to (line + 1) later))
+    → step state bytes ≡ Ok (to, more) → Outcome to (line + 1) more (read_lines to (line + 1) later))
     → Outcome state line bytes (over_or state.place (Ok (front_with state.job line bytes))
-    (after_step line (λ to. run to (line + 1) later) (step state bytes)))
+    (after_step line (λ to. read_lines to (line + 1) later) (step state bytes)))
 some_line later state line bytes (inl open_) some on =
     subst (Outcome state line bytes) (sym (goes_on state.place _ _ open_))
     (run_by later state line bytes (step state bytes) open_ refl some on)
@@ -228,13 +228,13 @@ some_line later state line bytes (inr over) some on =
     ∙ ap (λ (n : ℕ). Ok (front_with state.job n bytes)) (omega arith)))
 
 run_outcome : (lines : List (List ℕ)) (state : State) (line : ℕ) (bytes : List ℕ) → from_lines bytes ≡ lines
-    → Outcome state line bytes (run state line lines)
-unfolding run
+    → Outcome state line bytes (read_lines state line lines)
+unfolding read_lines
 run_outcome [] state line bytes e = no_line state line bytes (empty_lines bytes e) (open_or_over state.place)
 run_outcome (first ∷ later) state line bytes e =
     let f = first_of bytes first later e in
     subst (λ (b : List ℕ). Outcome state line bytes (over_or state.place (Ok (front_with state.job line b))
-    (after_step line (λ to. run to (line + 1) later) (step state b)))) f.0
+    (after_step line (λ to. read_lines to (line + 1) later) (step state b)))) f.0
     (some_line later state line bytes (open_or_over state.place) f.1 (λ to more h.
     let one = step_of state bytes (to, more) h in
     let lines : from_lines bytes ≡ bytes ∷ from_lines more = lines_after state.place (scope_of state.job) bytes

@@ -1,6 +1,7 @@
 -- Reading the head of a job: the lines of a name and a number, and the sieve.
 use Rattle.std.specs.Prelude.{ℕ, List, [], ◌∷◌, Option, Some, None, Result, Ok, Err, Bool, true, false}
 use Rattle.datagram_grammar.specs.Parameters.{Parameters}
+use Rattle.text_lines.specs.Chains.{◌>>=◌}
 use Rattle.text_lines.specs.Lines.{Word}
 use Rattle.text_lines.specs.Lines as options
 use Rattle.line_forms.specs.Forms.{table_at, none_at, passed}
@@ -13,12 +14,6 @@ use Rattle.job_text.specs.JobReading.{BadLine, least_job, lined}
 use Rattle.text_lines.specs.declared.why.LineWhy.{LineWhy}
 use Rattle.job_text.specs.declared.job.Job.{Job}
 use Rattle.job_text.specs.declared.job.SieveRule.{SieveRule}
-
--- what was read, read on; a bad line stays
-infixl 10 ◌>>=◌
-abbrev pub ◌>>=◌ : {A B : Type 0} → Result A BadLine → (A → Result B BadLine) → Result B BadLine
-(Ok x) >>= f = f x
-(Err bad) >>= f = Err bad
 
 -- what was found in a line, or why it wasn't
 abbrev pub told : {A : Type 0} → (line : ℕ) → LineWhy → Option A → Result A BadLine

@@ -425,16 +425,16 @@ after_step line more (Err why) = Err (record { line = line; why = why })
 after_step line more (Ok x) = more x.0
 
 -- the lines from these places on up to the last one of a job
-unfoldable pub run : State → (line : ℕ) → List (List ℕ) → Result Front BadLine
-run state line [] =
+unfoldable pub read_lines : State → (line : ℕ) → List (List ℕ) → Result Front BadLine
+read_lines state line [] =
     over_or state.place (Ok (front_with state.job line [])) (Err (record { line = line; why = Early }))
-run state line (bytes ∷ later) =
+read_lines state line (bytes ∷ later) =
     over_or state.place (Ok (front_with state.job line bytes))
-    (after_step line (λ then_state. run then_state (line + 1) later) (step state bytes))
+    (after_step line (λ then_state. read_lines then_state (line + 1) later) (step state bytes))
 
 -- the bytes from a line on
 unfoldable pub read : State → (line : ℕ) → List ℕ → Result Front BadLine
-read state line bytes = run state line (from_lines bytes)
+read state line bytes = read_lines state line (from_lines bytes)
 
 -- what is made of a front, unless a line was bad
 abbrev pub of_front : {A : Type 0} → (Front → Result A BadLine) → Result Front BadLine → Result A BadLine

@@ -41,19 +41,19 @@ abbrev pub spell : List Line → List ℕ
 spell lines = flat_map (λ line. line ++ 10 ∷ []) lines
 
 -- the number of a setting
-abbrev pub number_of : Setting → Job → ℕ
-number_of Version job = job.settings.version
-number_of places.Job job = job.settings.job
-number_of Nodes job = job.settings.nodes
-number_of Credits job = job.settings.credits
-number_of Threads job = job.settings.threads
-number_of Segment job = job.settings.segment
-number_of Last job = job.settings.last
-number_of Resend job = job.settings.resend
-number_of Patience job = job.patience
+abbrev pub setting_number : Setting → Job → ℕ
+setting_number Version job = job.settings.version
+setting_number places.Job job = job.settings.job
+setting_number Nodes job = job.settings.nodes
+setting_number Credits job = job.settings.credits
+setting_number Threads job = job.settings.threads
+setting_number Segment job = job.settings.segment
+setting_number Last job = job.settings.last
+setting_number Resend job = job.settings.resend
+setting_number Patience job = job.patience
 
 abbrev pub setting_line : Job → Setting → Line
-setting_line job setting = entry_text none_text (setting_entry setting (number_of setting job))
+setting_line job setting = entry_text none_text (setting_entry setting (setting_number setting job))
 
 abbrev pub all_settings : List Setting
 all_settings = Version ∷ places.Job ∷ Nodes ∷ Credits ∷ Threads ∷ Segment ∷ Last ∷ Resend ∷ Patience ∷ []

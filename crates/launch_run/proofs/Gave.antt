@@ -6,7 +6,7 @@ use Rattle.gas_outside.specs.declared.spawner.Finished.TheVariants as finished
 use Rattle.gasnet_trace.specs.OutputReading.{GivesOutput as ReadsThat}
 use Rattle.gasnet_trace.specs.OutputText.{IsOutput, OutputBegins, output_text, status_code}
 use Rattle.gasnet_trace.specs.declared.fault.TraceFault.TheVariants as tracefaults
-use Rattle.gasnet_trace.specs.declared.fault.TraceWhy.{TraceWhy}
+use Rattle.text_lines.specs.declared.why.LineWhy.{LineWhy}
 use Rattle.gasnet_trace.specs.declared.output.NodeStatus.{NodeStatus}
 use Rattle.gasnet_trace.specs.declared.output.NodeStatus.TheVariants as status
 use Rattle.gasnet_trace.specs.declared.output.Output.{Output}
@@ -53,7 +53,7 @@ whole job end wanted other is given = record {
 }
 
 -- no output stands at the front of what it gave
-pub gave_none : (job : JobState) (end : ChildEnd) (wanted : Wanted) (code line : ℕ) (why : TraceWhy)
+pub gave_none : (job : JobState) (end : ChildEnd) (wanted : Wanted) (code line : ℕ) (why : LineWhy)
     → wanted ≡ wanted_of job end.rank → end.answer ≡ finished.Ended code
     → ((output : Output) (len : ℕ) → OutputBegins wanted end.output output len
     → ReadsThat output len (Err (tracefaults.Bad line why)))

@@ -12,8 +12,8 @@ abbrev pub with_done : MachineKept → Done → MachineKept
 with_done machine done = record machine { outgoing = slots_sent done.outgoing; answer = done.ended }
 
 -- what it tells
-abbrev pub told_of : TurnTaken → Done → Turned
-told_of taken done = record {
+abbrev pub turned_of : TurnTaken → Done → Turned
+turned_of taken done = record {
   changed = is_changed taken done;
   stepped = is_some done.ended;
   sends = if is_changed taken done then length (slots_sent done.outgoing) else 0;
@@ -28,6 +28,6 @@ pub record MachineTakes (old : MachineKept) (taken : TurnTaken) (done : Done) (n
   pub quiet : is_changed taken done ≡ false → (state : NodeState) → NodeStands old state
       → NodeStands new (after_turn state taken.thread taken.now taken.got)
   pub told : (state : NodeState) → NodeStands old state
-      → turned state taken.thread taken.now taken.got ≡ told_of taken done
+      → turned state taken.thread taken.now taken.got ≡ turned_of taken done
   -- whether a thread polls changes only in a turn that ends a step
   pub polls : is_some done.ended ≡ false → (thread : ℕ) → polls_at new thread ≡ polls_at old thread

@@ -4,12 +4,13 @@ ghost use Rattle.std.specs.Prelude.{◌≡◌};
 ghost use Rattle.std.specs.IoError.{error_kind, raw_os_error};
 ghost use Rattle.real_outside.specs.Faults.{bind_fault, call_fault};
 
-use std::io;
+use std::error::Error;
 use std::io::ErrorKind;
 use std::net::SocketAddr;
+use std::{fmt, io};
 
 /// Why a link failed, for a person.
-#[derive(Clone, Copy, Drop)]
+#[derive(Clone, Copy, Debug, Drop)]
 pub enum LinkFault {
     /// There aren't as many hosts as nodes, or a node has no port.
     NoAddress,
@@ -20,6 +21,19 @@ pub enum LinkFault {
     /// Another call of the system failed, by the error of this number; 0 where it told none.
     Other(i32),
 }
+
+impl fmt::Display for LinkFault {
+    fn fmt<W: fmt::Write>(&self, f: &mut fmt::Formatter<W>) -> fmt::Result {
+        match *self {
+            LinkFault::NoAddress => write!(f, "a node has no host or no port"),
+            LinkFault::Unread => write!(f, "nobody reads standard output any more"),
+            LinkFault::Bind(address, code) => write!(f, "{address} can't be bound: error {code}"),
+            LinkFault::Other(code) => write!(f, "the socket failed: error {code}"),
+        }
+    }
+}
+
+impl Error for LinkFault {}
 
 impl LinkFault {
     /// Why the socket couldn't be bound to its own address, if it has one.

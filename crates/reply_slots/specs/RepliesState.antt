@@ -87,8 +87,8 @@ abbrev pub opened_bytes_at : RepliesState → ℕ → ℕ → List ℕ
 opened_bytes_at table from slot = elim (slot_at table from slot) [ Some state ↦ opened_bytes state | None ↦ [] ]
 
 -- the reply that a slot of this node keeps
-abbrev pub message_at : RepliesState → ℕ → ℕ → Option (List ℕ)
-message_at table from slot = option_and_then message_of (slot_at table from slot)
+abbrev pub kept_message_at : RepliesState → ℕ → ℕ → Option (List ℕ)
+kept_message_at table from slot = option_and_then message_of (slot_at table from slot)
 
 -- the number of the request whose reply a slot of this node keeps
 abbrev pub kept_number_at : RepliesState → ℕ → ℕ → Option ℕ

@@ -11,7 +11,7 @@ overflow_add-result c =
     omega (arith, near, c.lines_in.ensures.few, c.requires.few)
 
 pub returns-in-Bad : goal.returns-in-Bad
-returns-in-Bad c = rw (c.in-Bad.is, c.lines_in.ensures.is, c.why_of.ensures)
+returns-in-Bad c = rw (c.in-Bad.is, c.lines_in.ensures.is)
 
 pub returns-in-NoMemory : goal.returns-in-NoMemory
 returns-in-NoMemory c = rw c.in-NoMemory.is

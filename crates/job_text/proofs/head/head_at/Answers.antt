@@ -2,7 +2,7 @@ use Rattle.std.proofs.Common.{refl, []}
 use Rattle.job_text.specs.Places.{Setting, Version, Nodes, Credits, Threads, Segment, Last, Resend, Patience}
 use Rattle.job_text.specs.Places as places
 use Rattle.job_text.specs.JobReading.{least_job}
-use Rattle.job_text.specs.JobText.{number_of}
+use Rattle.job_text.specs.JobText.{setting_number}
 use Rattle.job_text.specs.declared.job.Job.{Job}
 use Rattle.job_text.proofs.Ranges.{AreNumbers, IsNumber, settings_range}
 use Rattle.job_text.proofs.head.head_at.Goals as goal
@@ -23,7 +23,7 @@ returns-in-None-clause-value c =
       };
       patience = c.in_ok-patience.patience;
     } in
-    let all : AreNumbers job = λ setting. elim setting as (λ s. IsNumber s job.settings (number_of s job)) [
+    let all : AreNumbers job = λ setting. elim setting as (λ s. IsNumber s job.settings (setting_number s job)) [
       | Version ↦ record { low = c.in_ok-version.ensures.range.0; high = c.in_ok-version.ensures.range.1; fits = refl }
       | places.Job ↦ record { low = c.in_ok-job.ensures.range.0; high = c.in_ok-job.ensures.range.1; fits = refl }
       | Nodes ↦ record {

@@ -1,5 +1,6 @@
 use Rattle.std.proofs.Common.{◌∙◌, refl, sym, ap, subst, Result, ℕ, List}
-use Rattle.job_text.specs.HeadReading.{◌>>=◌, head_at}
+use Rattle.text_lines.specs.Chains.{◌>>=◌}
+use Rattle.job_text.specs.HeadReading.{head_at}
 use Rattle.job_text.specs.JobReading.{BadLine, Front, behind_scripts, front_with, job_of_head, read}
 use Rattle.job_text.specs.Reading.{FailsAt, GivesAt}
 use Rattle.job_text.specs.declared.job.Job.{Job}

@@ -1,6 +1,6 @@
 use Rattle.std.proofs.Common.{◌≡◌, ◌-◌}
 use Rattle.std.specs.Prelude.{fold}
-use Rattle.collective_area.specs.Results.{combined, together_at, word_at}
+use Rattle.collective_area.specs.Results.{combined, together_at, word_at_place}
 use Rattle.gas_collectives.specs.Progress.{data_of_all}
 use Rattle.gas_collectives.specs.CollectivesState.{progress_of}
 use Rattle.gas_collectives.proofs.collectives.Collectives.word_of_all.Given as goal
@@ -9,5 +9,5 @@ abbrev pub invariant-loop-node : goal.invariant-loop-node
 invariant-loop-node l =
     together_at (combined l.self.shape.kind)
     (data_of_all l.self.area (progress_of l.self) l.bytes 0 l.self.area.nodes) l.place
-    ≡ fold (λ word bytes. combined l.self.shape.kind word (word_at l.place bytes)) l.all
+    ≡ fold (λ word bytes. combined l.self.shape.kind word (word_at_place l.place bytes)) l.all
     (data_of_all l.self.area (progress_of l.self) l.bytes l.node (l.self.area.nodes - l.node))

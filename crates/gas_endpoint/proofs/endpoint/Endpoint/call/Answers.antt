@@ -44,8 +44,8 @@ returns-in-Some g c =
     (transition c.args.now event c.of_request.result) new)
     (sym (asked_event c.args.call.now c.args.thread asking c.in-Some.ensures)) steps)
 
-pub returns-in-Some-kind_of : goal.returns-in-Some-kind_of
-returns-in-Some-kind_of g c =
+pub returns-in-Some-judged_kind : goal.returns-in-Some-judged_kind
+returns-in-Some-judged_kind g c =
     c.judged_call.ensures (g.H.Handlers.meaning c.args.handlers.now)
     (g.met.H.Handlers.is_lawful c.args.handlers.now) c.args.now
 
