@@ -1,8 +1,8 @@
 -- A start: its call, and how it is answered.
-use Rattle.std.proofs.Common.{◌≡◌, ℤ, ℕ, zero, suc, ◌+◌, ◌-◌, ◌%◌, ◌^◌, ◌<◌, Bool, true, false, true≢false, cond, List}
+use Rattle.std.proofs.Common.{◌≡◌, ℤ, ℕ, ◌+◌, ◌-◌, ◌%◌, ◌^◌, ◌<◌, Bool, true, false, true≢false, cond, List}
 use Rattle.std.proofs.Common.{Option, Some, None, refl, sym, subst, arith}
 use Rattle.std.specs.Prelude.{◌==◌, ◌&&◌, nat_le, nat_lt, not}
-use Rattle.std.proofs.lemmas.Bool.{leb-false, ltb-false, or_parts}
+use Rattle.std.proofs.lemmas.Bool.{eqb-true, leb-false, ltb-false, or_parts}
 use Rattle.node_record.specs.Behaviour.{Own}
 use Rattle.am_core.specs.ClientRules.{long_asking}
 use Rattle.endpoint_rules.specs.Called.{Requests}
@@ -45,10 +45,13 @@ unrefused false false false true exhausted same = absurd (cc)
 unrefused false false false false true same = absurd (cc)
 unrefused false false false false false same = (refl, refl, refl, refl, refl)
 
+true_of : (b : Bool) → not b ≡ false → b ≡ true
+true_of true none = refl
+true_of false none = absurd (true≢false none)
+
 even_then : (is : Bool) (rest : ℕ) → (is && not (rest == 0)) ≡ false → is ≡ true → rest ≡ 0
 even_then false rest none same = absurd (true≢false (sym same))
-even_then true zero none same = refl
-even_then true (suc rest) none same = absurd (true≢false none)
+even_then true rest none same = eqb-true rest 0 (true_of (rest == 0) none)
 
 -- what it has
 pub passes_of : (it : CollectivesState) (shape : Shape) (from : ℕ) → Stands it

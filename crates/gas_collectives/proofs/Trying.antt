@@ -48,7 +48,7 @@ pub polls_told : {K : Type 0} (caller : Ghosts K) → Follows caller → (it : C
     (said : Answer) (answer : EndAnswer) (bytes : List ℕ) (new : K) → it.settings ≡ (caller.site old).settings
     → CallsOne caller old (poll_call thread) (Some said) new
     → ((whole : caller.Whole) → caller.stands new whole
-      → bytes ≡ segment_in (caller.site new) (caller.record_in (caller.site new) whole))
+    → bytes ≡ segment_in (caller.site new) (caller.record_in (caller.site new) whole))
     → (length bytes ≡ it.settings.segment → answer ≡ end_told it bytes said) → Polls caller it old thread answer new
 polls_told {K} caller follows it old thread said answer bytes new settings called shown told = record {
   site = called.site;

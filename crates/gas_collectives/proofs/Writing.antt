@@ -1,6 +1,6 @@
 -- The pieces of a result are written one after another.
-use Rattle.std.proofs.Common.{◌≡◌, inl, inr, ℕ, zero, suc, ◌+◌, ◌-◌, ◌*◌, ◌%◌, ◌<◌, ◌≤◌, Bool, true, false, List, [], ◌∷◌}
-use Rattle.std.proofs.Common.{◌++◌, length, drop, map, Option, None, Some, refl, sym, ap, ◌∙◌, subst, arith, length-append}
+use Rattle.std.proofs.Common.{◌≡◌, inl, inr, ℕ, zero, suc, ◌+◌, ◌*◌, ◌%◌, ◌<◌, ◌≤◌, Bool, true, false, List, [], ◌∷◌}
+use Rattle.std.proofs.Common.{◌++◌, length, drop, take, map, Option, None, Some, refl, sym, ap, ◌∙◌, subst, arith, length-append}
 use Rattle.std.specs.Prelude.{◌≢◌, is_some, slice_get}
 use Rattle.std.proofs.lemmas.Bool.{le-ltb, true≢false}
 use Rattle.std.proofs.lemmas.List.{drop_all}
@@ -309,7 +309,7 @@ writing_all {K} caller it old now asked index all writing = record {
 pub piece_lacks : {K : Type 0} (caller : Ghosts K) (it : CollectivesState) (old : K) (thread index offset : ℕ)
     (bytes : List ℕ) → it.settings ≡ (caller.site old).settings
     → ((whole : caller.Whole) → caller.stands old whole
-      → bytes ≡ segment_in (caller.site old) (caller.record_in (caller.site old) whole))
+    → bytes ≡ segment_in (caller.site old) (caller.record_in (caller.site old) whole))
     → length bytes ≢ it.settings.segment → WritesPiece caller it old thread index offset false old
 piece_lacks caller it old thread index offset bytes settings shown short = record {
   site = refl;
@@ -319,27 +319,28 @@ piece_lacks caller it old thread index offset bytes settings shown short = recor
       absurd (short (ap (λ (now : List ℕ). length now) (shown whole stands) ∙ (long ∙ sym size)));
 }
 
--- the call that writes it was made
+-- the call that writes it was made, with so many bytes of the piece
 pub piece_told : {K : Type 0} (caller : Ghosts K) (it : CollectivesState) (old : K) (thread index offset : ℕ)
-    (bytes piece : List ℕ) (told : Option Answer) (new : K)
+    (bytes piece : List ℕ) (len : ℕ) (told : Option Answer) (new : K)
     → ((whole : caller.Whole) → caller.stands old whole
-      → bytes ≡ segment_in (caller.site old) (caller.record_in (caller.site old) whole))
-    → slice_get (result_in it bytes) index ≡ Some piece
-    → CallsOne caller old (set_call thread (record { offset = offset; bytes = piece })) told new
+    → bytes ≡ segment_in (caller.site old) (caller.record_in (caller.site old) whole))
+    → slice_get (result_in it bytes) index ≡ Some (take it.shape.len piece) → len ≡ it.shape.len
+    → CallsOne caller old (set_call thread (record { offset = offset; bytes = take len piece })) told new
     → WritesPiece caller it old thread index offset (is_some told) new
-piece_told caller it old thread index offset bytes piece None new shown is called = record {
+piece_told caller it old thread index offset bytes piece len None new shown is few called = record {
   site = called.site;
   reference = called.reference;
   wrote = λ whole stands long one at. absurd (called.made.1 whole stands).0.1;
 }
-piece_told caller it old thread index offset bytes piece (Some answer) new shown is called = record {
+piece_told caller it old thread index offset bytes piece len (Some answer) new shown is few called = record {
   site = called.site;
   reference = called.reference;
   wrote = λ whole stands long one at.
-      let there = ap (λ (now : List ℕ). slice_get (result_in it now) index) (shown whole stands) ∙ at in (
+      let there = ap (λ (now : List ℕ). slice_get (result_in it now) index) (shown whole stands) ∙ at in
+      let same = same_Some (take it.shape.len piece) one (sym is ∙ there) in (
         refl,
         subst (λ (this : List ℕ). caller.stands new (caller.after (caller.site old) whole
-        (set_call thread (record { offset = offset; bytes = this })))) (same_Some piece one (sym is ∙ there))
-        (called.made.0.whole whole stands),
+            (set_call thread (record { offset = offset; bytes = this }))))
+            (ap (λ (n : ℕ). take n piece) few ∙ same) (called.made.0.whole whole stands),
       );
 }

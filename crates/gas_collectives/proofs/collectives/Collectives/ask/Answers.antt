@@ -17,6 +17,6 @@ returns g c =
     ∙ ap₂ header_arguments (ap (λ (one : CollectivesState). one.ended + 1) c.self.view_is)
     (c.word-word.ensures ∙ ap (λ (one : CollectivesState). shape_word one.shape) c.self.view_is))
     c.payload.ensures
-    (ap (λ (n : ℕ). n + 16) c.part.ensures.place
+    (ap (λ (n : ℕ). n + 16) c.part-offset.ensures.place
     ∙ ap (λ (one : CollectivesState). data_place it.area (one.ended % 2) one.me) c.self.view_is))
     c.call_one.ensures

@@ -1,4 +1,4 @@
-use Rattle.std.proofs.Common.{◌<◌, Bool, true, false, ap, sym, subst, ◌∙◌}
+use Rattle.std.proofs.Common.{◌<◌, Bool, ap, sym, subst, ◌∙◌}
 use Rattle.node_caller.specs.Sites.{IsThere, Site}
 use Rattle.gas_collectives.specs.Ends.{EndAsked, WritesResult}
 use Rattle.gas_collectives.proofs.Trying.{tries_ended, tries_lacks, tries_other}

@@ -1,4 +1,4 @@
-use Rattle.std.proofs.Common.{◌≡◌, ℕ, ◌-◌, ◌<◌, Bool, ap, sym, ◌∙◌, arith}
+use Rattle.std.proofs.Common.{◌≡◌, ◌-◌, ◌<◌, ap, sym, ◌∙◌, arith}
 use Rattle.gas_collectives.specs.CollectivesState.{progress_of}
 use Rattle.gas_collectives.specs.Progress.{is_exchanged, is_ready_from}
 use Rattle.gas_collectives.proofs.Searching.{from_first, ready_all, ready_not, ready_on}

@@ -1,12 +1,10 @@
-use Rattle.std.proofs.Common.{◌<◌, refl, sym, ap, subst, ◌∙◌, arith}
-use Rattle.gas_collectives.specs.CollectivesState.{CollectivesState}
-use Rattle.gas_collectives.specs.Ends.{EndAsked, Tries}
+use Rattle.std.proofs.Common.{refl, sym}
 use Rattle.gas_collectives.proofs.Stepping.{there_of}
 use Rattle.gas_collectives.proofs.Trying.{ends_refused, ends_tried, same_node_ended, tries_so}
 use Rattle.gas_collectives.proofs.collectives.Collectives.try_end.Goals as goal
 
-pub finish-requires : goal.finish-requires
-finish-requires g c = record {
+pub finish-answer-requires : goal.finish-answer-requires
+finish-answer-requires g c = record {
   settings = c.requires.settings;
   there = there_of c.args.self.now (g.K.Caller.site c.args.caller.now) c.in-None.ensures.stands c.requires.settings
       c.requires.me;

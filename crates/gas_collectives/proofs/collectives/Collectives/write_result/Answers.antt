@@ -1,4 +1,4 @@
-use Rattle.std.proofs.Common.{ℕ, ap, sym, subst, ◌∙◌, arith}
+use Rattle.std.proofs.Common.{ℕ, ◌<◌, ap, sym, subst, ◌∙◌, arith}
 use Rattle.node_caller.specs.Sites.{IsThere, Site}
 use Rattle.gas_collectives.specs.Ends.{EndAsked, HasPiece, WritesPiece}
 use Rattle.gas_collectives.proofs.Writing.{writing_all, writing_fails, writing_first, writing_on}
