@@ -5,3 +5,4 @@ pub mod Reducing
 pub mod Stepping
 pub mod Writing
 pub mod Trying
+pub mod Beginning

@@ -10,6 +10,10 @@ counted node nodes low = omega (arith, low)
 next_is : (node : ℕ) → suc node ≡ node + 1
 next_is node = omega arith
 
+-- all of them, from the first on
+pub from_first : (nodes : ℕ) → nodes ≡ nodes - 0
+from_first nodes = omega arith
+
 -- ---- the first node with a test
 
 pub first_on : (test : ℕ → Bool) (node nodes : ℕ) → node < nodes → test node ≡ false

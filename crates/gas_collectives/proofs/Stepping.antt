@@ -1,13 +1,30 @@
 -- Nodes that are asked one after another.
-use Rattle.std.proofs.Common.{◌≡◌, ℕ, suc, ◌+◌, ◌-◌, ◌<◌, Bool, true, false, Option, Some, None, refl, sym, ap}
+use Rattle.std.proofs.Common.{◌≡◌, ℤ, ℕ, suc, ◌+◌, ◌-◌, ◌%◌, ◌<◌, List, Bool, true, false, Option, Some, None, refl, sym, ap}
 use Rattle.std.proofs.Common.{◌∙◌, subst, arith}
 use Rattle.std.proofs.lemmas.Bool.{lt-ltb}
+use Rattle.datagram_grammar.specs.Parameters.{Parameters}
+use Rattle.node_record.specs.Behaviour.{PayloadFrom}
+use Rattle.am_core.specs.ClientRules.{long_asking}
+use Rattle.endpoint_rules.specs.Called.{Requests}
+use Rattle.node_caller.specs.Sites.{IsThere, Site, ThreadCall}
+use Rattle.collective_area.specs.Area.{data_place}
+use Rattle.collective_area.specs.Served.{collective_handler, header_arguments}
+use Rattle.collective_area.specs.Shapes.{shape_word}
 use Rattle.node_caller.specs.declared.caller.Caller.{Ghosts}
 use Rattle.gas_collectives.specs.declared.answers.StepAnswer.{StepAnswer}
 use Rattle.gas_collectives.specs.declared.answers.StepAnswer.TheVariants as step_answers
-use Rattle.gas_collectives.specs.Progress.{is_left}
-use Rattle.gas_collectives.specs.CollectivesState.{CollectivesState, progress_of}
-use Rattle.gas_collectives.specs.Steps.{Rests, Sends, Steps, StepsFrom}
+use Rattle.gas_collectives.specs.Progress.{is_left, is_open}
+use Rattle.gas_collectives.specs.CollectivesState.{CollectivesState, Stands, progress_of}
+use Rattle.gas_collectives.specs.Steps.{Rests, Sends, Steps, StepsFrom, payload_for, step_call}
+
+-- the call that is made is that of the step
+pub step_call_is : (it : CollectivesState) (thread to offset : ℕ) (payload : PayloadFrom) (args : List ℤ)
+    → args ≡ header_arguments (it.ended + 1) (shape_word it.shape) → payload ≡ payload_for it to offset
+    → offset ≡ data_place it.area (it.ended % 2) it.me
+    → ◌≡◌ {A = ThreadCall}
+    (record { thread = thread; call = Requests to (long_asking collective_handler args payload offset) })
+    (step_call it thread to)
+step_call_is it thread to offset payload args args_are payload_is offset_is = cc
 
 -- what holds where the nodes below this one are done: what the rest of the step does from here is what the whole step
 -- does from its beginning
@@ -144,6 +161,26 @@ steps_open caller thread it old answer next new opened steps =
       | false ↦ Rests it old step_answers.Nothing answer next new
     ] in
     subst P (sym (lt-ltb it.ended it.started opened)) steps
+
+-- the node is there
+pub there_of : (it : CollectivesState) (site : Site) → Stands it → it.settings ≡ site.settings → it.me ≡ site.node
+    → IsThere site
+there_of it site good settings me =
+    let nodes = ap (λ (one : Parameters). one.nodes) settings in
+    let there = good.there in
+    omega (arith, nodes, there, me)
+
+-- it is the step of a node without one
+pub steps_closed : {K : Type 0} (caller : Ghosts K) (thread : ℕ) (it : CollectivesState) (old : K)
+    → is_open (progress_of it) ≡ false → Steps caller thread it old step_answers.Nothing it old
+steps_closed caller thread it old closed =
+    let P : Bool → Type 0 = λ (open_now : Bool). elim open_now [
+      | true ↦ StepsFrom caller thread 0 it.area.nodes it old step_answers.Nothing it old
+      | false ↦ Rests it old step_answers.Nothing step_answers.Nothing it old
+    ] in
+    let rests : Rests it old step_answers.Nothing step_answers.Nothing it old =
+    record { answer_is = refl; next_is = refl; same = refl } in
+    subst P (sym closed) rests
 
 -- the same of equal values
 pub going_same : {K : Type 0} (caller : Ghosts K) (thread : ℕ) (first : CollectivesState) (old : K) (to : ℕ)

@@ -1,7 +1,7 @@
 -- The pieces of a result are written one after another.
-use Rattle.std.proofs.Common.{◌≡◌, inl, inr, ℕ, zero, suc, ◌+◌, ◌-◌, ◌*◌, ◌%◌, ◌<◌, ◌≤◌, Bool, true, false, List, [], ◌∷◌}
-use Rattle.std.proofs.Common.{◌++◌, length, drop, map, Some, refl, sym, ap, ◌∙◌, subst, arith, length-append}
-use Rattle.std.specs.Prelude.{◌≢◌, slice_get}
+use Rattle.std.proofs.Common.{◌≡◌, inl, inr, ℕ, zero, suc, ◌+◌, ◌*◌, ◌%◌, ◌<◌, ◌≤◌, Bool, true, false, List, [], ◌∷◌}
+use Rattle.std.proofs.Common.{◌++◌, length, drop, take, map, Option, None, Some, refl, sym, ap, ◌∙◌, subst, arith, length-append}
+use Rattle.std.specs.Prelude.{◌≢◌, is_some, slice_get}
 use Rattle.std.proofs.lemmas.Bool.{le-ltb, true≢false}
 use Rattle.std.proofs.lemmas.List.{drop_all}
 use Rattle.lists.proofs.Places.{slice_get_there}
@@ -12,6 +12,7 @@ use Rattle.raw_segment.proofs.Images.{image-append, length-overwritten}
 use Rattle.node_record.specs.Record.{Node}
 use Rattle.endpoint_rules.specs.EndpointLocal.{EndpointLocal}
 use Rattle.endpoint_rules.specs.Memory.{Set, segment_does}
+use Rattle.endpoint_rules.specs.declared.answer.Answer.{Answer}
 use Rattle.node_caller.specs.declared.caller.Caller.{Ghosts}
 use Rattle.node_caller.specs.Sites.{Site, ThreadCall, node_then}
 use Rattle.node_caller.specs.Making.{whole_after}
@@ -22,6 +23,7 @@ use Rattle.collective_area.proofs.Places.{part_inside}
 use Rattle.collective_area.proofs.Bytes.{IsApart, part_spared}
 use Rattle.gas_collectives.specs.Progress.{Progress, data_of_all, writes_from}
 use Rattle.gas_collectives.specs.CollectivesState.{CollectivesState, Stands, progress_of}
+use Rattle.gas_collectives.specs.Starts.{CallsOne}
 use Rattle.gas_collectives.specs.Ends.{EndAsked, HasPiece, IsLong, MayEnd, WritesPiece, WritesResult, result_calls, result_in}
 use Rattle.gas_collectives.specs.Ends.{segment_in, set_call}
 use Rattle.gas_collectives.proofs.Sizes.{AllLong, data_long, data_many, flat, good_spare, is_good, pieces_long, result_long}
@@ -299,4 +301,46 @@ writing_all {K} caller it old now asked index all writing = record {
       let there = sym (ap (λ (pieces : List (List ℕ)). whole_after caller site at.here
       (calls_from asked (offset_of it asked index) pieces)) none) ∙ at.rest in
       (refl, subst (caller.stands now) there at.stands);
+}
+
+-- ---- the write of a piece
+
+-- no piece was made: no whole stood
+pub piece_lacks : {K : Type 0} (caller : Ghosts K) (it : CollectivesState) (old : K) (thread index offset : ℕ)
+    (bytes : List ℕ) → it.settings ≡ (caller.site old).settings
+    → ((whole : caller.Whole) → caller.stands old whole
+    → bytes ≡ segment_in (caller.site old) (caller.record_in (caller.site old) whole))
+    → length bytes ≢ it.settings.segment → WritesPiece caller it old thread index offset false old
+piece_lacks caller it old thread index offset bytes settings shown short = record {
+  site = refl;
+  reference = refl;
+  wrote = λ whole stands long piece is.
+      let size = ap (λ (one : Parameters). one.segment) settings in
+      absurd (short (ap (λ (now : List ℕ). length now) (shown whole stands) ∙ (long ∙ sym size)));
+}
+
+-- the call that writes it was made, with so many bytes of the piece
+pub piece_told : {K : Type 0} (caller : Ghosts K) (it : CollectivesState) (old : K) (thread index offset : ℕ)
+    (bytes piece : List ℕ) (len : ℕ) (told : Option Answer) (new : K)
+    → ((whole : caller.Whole) → caller.stands old whole
+    → bytes ≡ segment_in (caller.site old) (caller.record_in (caller.site old) whole))
+    → slice_get (result_in it bytes) index ≡ Some (take it.shape.len piece) → len ≡ it.shape.len
+    → CallsOne caller old (set_call thread (record { offset = offset; bytes = take len piece })) told new
+    → WritesPiece caller it old thread index offset (is_some told) new
+piece_told caller it old thread index offset bytes piece len None new shown is few called = record {
+  site = called.site;
+  reference = called.reference;
+  wrote = λ whole stands long one at. absurd (called.made.1 whole stands).0.1;
+}
+piece_told caller it old thread index offset bytes piece len (Some answer) new shown is few called = record {
+  site = called.site;
+  reference = called.reference;
+  wrote = λ whole stands long one at.
+      let there = ap (λ (now : List ℕ). slice_get (result_in it now) index) (shown whole stands) ∙ at in
+      let same = same_Some (take it.shape.len piece) one (sym is ∙ there) in (
+        refl,
+        subst (λ (this : List ℕ). caller.stands new (caller.after (caller.site old) whole
+            (set_call thread (record { offset = offset; bytes = this }))))
+            (ap (λ (n : ℕ). take n piece) few ∙ same) (called.made.0.whole whole stands),
+      );
 }

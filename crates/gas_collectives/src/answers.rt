@@ -3,7 +3,7 @@
 use handler_rules::Forbidden;
 
 /// An argument of a call of collectives.
-#[derive(Clone, Copy, Debug)]
+#[derive(Clone, Copy)]
 pub enum Argument {
     /// The root.
     Root,
@@ -16,7 +16,7 @@ pub enum Argument {
 }
 
 /// What a start of a collective is answered.
-#[derive(Clone, Copy, Debug)]
+#[derive(Clone, Copy)]
 pub enum StartAnswer {
     /// The next phase is started.
     Started,
@@ -35,7 +35,7 @@ pub enum StartAnswer {
 }
 
 /// What a step of a collective is answered.
-#[derive(Clone, Copy, Debug)]
+#[derive(Clone, Copy)]
 pub enum StepAnswer {
     /// The message of the phase was sent to this node.
     Sent(u16),
@@ -48,7 +48,7 @@ pub enum StepAnswer {
 }
 
 /// What a try to end a collective is answered.
-#[derive(Clone, Copy, Debug)]
+#[derive(Clone, Copy)]
 pub enum EndAnswer {
     /// The phase ended, and the node's result stands at its place.
     Ended,

@@ -1,8 +1,9 @@
 //! How far a node is with its collectives.
 
-ghost use Rattle.std.specs.Prelude.{◌≡◌, ◌<◌, IfSome, IfNone};
+ghost use Rattle.std.specs.Prelude.{◌≡◌, ◌<◌, ◌≤◌, ◌+◌, ◌^◌, IfSome, IfNone};
 ghost use Rattle.collective_area.specs.Area.{IsArea, part_place};
-ghost use Rattle.gas_collectives.specs.CollectivesState.{IsFresh, no_nodes};
+ghost use Rattle.gas_collectives.specs.CollectivesState.{IsFresh, Stands, no_nodes, progress_of};
+ghost use Rattle.gas_collectives.specs.Progress.{is_open};
 
 use collective_area::{CollectiveKind, Shape};
 use datagram_grammar::Settings;
@@ -103,11 +104,29 @@ impl Collectives {
         })
     }
 
+    /// Whether a phase is open: it is started, and not ended.
+    pub(crate) fn is_open(&self) -> bool
+        ensures open { result ≡ is_open (progress_of self.now) }
+        ensures stands { Stands self.now }
+    {
+        self.ended < self.started
+    }
+
+    /// How many nodes the job has.
+    pub(crate) fn nodes(&self) -> u16
+        ensures nodes { result ≡ self.now.area.nodes }
+        ensures some { 1 ≤ result }
+    {
+        self.settings.nodes()
+    }
+
     /// Where the part of a node begins, of the phases with this remainder by 2.
     pub(crate) fn part(&self, parity: u64, node: u16) -> u64
         requires parity { parity < 2 }
         requires node { node < self.now.area.nodes }
-        ensures { result ≡ part_place self.now.area parity node }
+        ensures place { result ≡ part_place self.now.area parity node }
+        ensures inside { result + (16 + self.now.area.room) ≤ self.now.settings.segment }
+        ensures small { self.now.settings.segment ≤ 2 ^ 40 }
     {
         self.base + (parity * u64::from(self.settings.nodes()) + u64::from(node)) * (16 + self.room)
     }

@@ -1,11 +1,12 @@
 //! The end of a collective.
 
-ghost use Rattle.std.specs.Prelude.{◌≡◌, ◌<◌, IfNone};
+ghost use Rattle.std.specs.Prelude.{◌≡◌, ◌<◌, ◌+◌, ◌*◌, IfNone, length};
 ghost use Rattle.node_caller.specs.Sites.{IsThere};
 ghost use Rattle.collective_area.specs.Results.{result_len};
 ghost use Rattle.gas_collectives.specs.Progress.{end_refusal, is_bad_dest};
 ghost use Rattle.gas_collectives.specs.CollectivesState.{IsSameNode, Stands, progress_of};
-ghost use Rattle.gas_collectives.specs.Ends.{Ends, HasPiece, MayEnd, Polls, WritesPiece, WritesResult};
+ghost use Rattle.gas_collectives.specs.Ends.{Ends, HasPiece, MayEnd, Polls, Tries, WritesPiece, WritesResult};
+ghost use Rattle.gas_collectives.specs.Ends.{end_told, ended_then};
 
 use crate::answers::{Argument, EndAnswer};
 use crate::calling::call_one;
@@ -13,6 +14,7 @@ use crate::collectives::Collectives;
 use collective_area::CollectiveKind;
 use endpoint_rules::{Answer, Call};
 use node_caller::Caller;
+use raw_segment::Segment;
 
 impl Collectives {
     /// Tries to end the phase that is open, and writes the local result at `dest` where it ends with one shape.
@@ -41,22 +43,44 @@ impl Collectives {
         ensures same_node { IsSameNode self.old self.new }
         ensures stands { Stands self.old }
     {
-        if let Some(refusal) = self.end_refusal(dest) {
-            return refusal;
+        match self.end_refusal(dest) {
+            Some(refusal) => refusal,
+            None => {
+                let answer = self.finish(caller, thread, dest);
+                self.end(&answer);
+                answer
+            }
         }
+    }
+
+    /// Polls, and writes the result where the phase may end with one.
+    fn finish<K: Caller>(&self, caller: &mut K, thread: u16, dest: u64) -> EndAnswer
+        requires settings { self.now.settings ≡ (K.site caller.old).settings }
+        requires there { IsThere (K.site caller.old) }
+        requires thread { thread < (K.site caller.old).settings.threads }
+        requires may { MayEnd self.now dest }
+        ensures { Tries K.Caller self.now caller.old (record { thread = thread; dest = dest }) result
+            (ended_then result self.now) caller.new }
+    {
         match self.poll(caller, thread) {
             EndAnswer::Ended => {
-                if !self.write_result(caller, thread, dest) {
-                    return EndAnswer::NoMemory;
+                if self.write_result(caller, thread, dest) {
+                    EndAnswer::Ended
+                } else {
+                    EndAnswer::NoMemory
                 }
-                self.ended += 1;
-                EndAnswer::Ended
-            }
-            EndAnswer::Mismatch(node) => {
-                self.ended += 1;
-                EndAnswer::Mismatch(node)
             }
             other => other,
+        }
+    }
+
+    /// Ends the phase that is open, where the try is answered `Ended` or `Mismatch`.
+    fn end(&mut self, answer: &EndAnswer)
+        requires { self.old.ended < self.old.started }
+        ensures { self.new ≡ ended_then answer.now self.old }
+    {
+        if let EndAnswer::Ended | EndAnswer::Mismatch(_) = answer {
+            self.ended += 1;
         }
     }
 
@@ -95,6 +119,7 @@ impl Collectives {
         ensures refusal { result ≡ end_refusal self.now.area self.now.settings.segment self.now.me
             (progress_of self.now) dest }
         ensures passes { IfNone result (MayEnd self.now dest) }
+        ensures stands { Stands self.now }
     {
         if self.ended >= self.started {
             return Some(EndAnswer::NotStarted);
@@ -114,9 +139,20 @@ impl Collectives {
         ensures { Polls K.Caller self.now caller.old thread result caller.new }
     {
         match call_one(caller, thread, &Call::Poll) {
+            Some(answer) => self.told(&answer, caller.segment()),
             None => EndAnswer::NoMemory,
-            Some(Answer::Forbidden(forbidden)) => EndAnswer::Forbidden(forbidden),
-            Some(_) => match self.bytes(caller.segment()) {
+        }
+    }
+
+    /// How the try is answered whose poll was answered so, where the segment is as long as the settings say.
+    fn told(&self, answer: &Answer, segment: &Segment) -> EndAnswer
+        requires { self.now.ended < self.now.started }
+        ensures { length segment.now ≡ self.now.settings.segment
+            → result ≡ end_told self.now segment.now answer.now }
+    {
+        match answer {
+            Answer::Forbidden(forbidden) => EndAnswer::Forbidden(*forbidden),
+            _ => match self.bytes(segment) {
                 Some(bytes) => self.end_answer(bytes),
                 None => EndAnswer::NoMemory,
             },
@@ -133,12 +169,20 @@ impl Collectives {
             result caller.new }
     {
         for index in 0..self.pieces() {
-            let offset = dest + u64::from(index) * self.shape.len;
+            let offset = self.piece_offset(dest, index);
             if !self.write_piece(caller, thread, index, offset) {
                 return false;
             }
         }
         true
+    }
+
+    /// Where a piece of the result is written.
+    fn piece_offset(&self, dest: u64, index: u16) -> u64
+        requires good { MayEnd self.now dest }
+        ensures { result ≡ dest + index * self.now.shape.len }
+    {
+        dest + u64::from(index) * self.shape.len
     }
 
     /// Writes a piece of the result at an offset. False where memory ran out.
@@ -149,14 +193,15 @@ impl Collectives {
         requires index { HasPiece self.now index }
         ensures { WritesPiece K.Caller self.now caller.old thread index offset result caller.new }
     {
-        let Some(bytes) = self.bytes(caller.segment()) else {
-            return false;
-        };
-        let piece = self.piece(bytes, index);
-        let call = Call::Set {
-            offset,
-            bytes: &piece[..self.shape.len as usize],
-        };
-        call_one(caller, thread, &call).is_some()
+        match self.piece(caller.segment(), index) {
+            Some(piece) => {
+                let call = Call::Set {
+                    offset,
+                    bytes: &piece[..self.data_len()],
+                };
+                call_one(caller, thread, &call).is_some()
+            }
+            None => false,
+        }
     }
 }

@@ -9,8 +9,8 @@ ghost use Rattle.collective_area.specs.Shapes.{is_reduction};
 ghost use Rattle.collective_area.specs.Results.{combined, together, together_at, word_at_place};
 ghost use Rattle.gas_collectives.specs.Progress.{data_of_all, end_answer, is_exchanged, is_other};
 ghost use Rattle.gas_collectives.specs.Progress.{is_ready, has_exhausted, other_shape, exhausted_node};
-ghost use Rattle.gas_collectives.specs.CollectivesState.{progress_of};
-ghost use Rattle.gas_collectives.specs.Ends.{giver_by, result_in};
+ghost use Rattle.gas_collectives.specs.CollectivesState.{Stands, progress_of};
+ghost use Rattle.gas_collectives.specs.Ends.{HasPiece, giver_by, result_in};
 
 use crate::answers::EndAnswer;
 use crate::collectives::Collectives;
@@ -75,7 +75,7 @@ impl Collectives {
         requires long { length bytes.now ≡ self.now.settings.segment }
         ensures { result ≡ is_ready self.now.area self.now.me (progress_of self.now) bytes.now }
     {
-        for node in 0..self.settings.nodes() {
+        for node in 0..self.nodes() {
             if !self.is_exchanged(bytes, node) {
                 return false;
             }
@@ -99,7 +99,7 @@ impl Collectives {
         requires long { length bytes.now ≡ self.now.settings.segment }
         ensures { result ≡ other_shape self.now.area (progress_of self.now) bytes.now }
     {
-        for node in 0..self.settings.nodes() {
+        for node in 0..self.nodes() {
             if self.is_other(bytes, node) {
                 return Some(node);
             }
@@ -120,7 +120,7 @@ impl Collectives {
     fn exhausted_node(&self) -> Option<u16>
         ensures { result ≡ exhausted_node self.now.area self.now.me (progress_of self.now) }
     {
-        for node in 0..self.settings.nodes() {
+        for node in 0..self.nodes() {
             if self.has_exhausted(node) {
                 return Some(node);
             }
@@ -138,7 +138,7 @@ impl Collectives {
 
     /// Whether a node wasn't sent to, and no number was left for it.
     fn has_exhausted(&self, node: u16) -> bool
-        requires { node < self.now.settings.nodes }
+        requires { node < self.now.area.nodes }
         ensures { result ≡ has_exhausted self.now.me (progress_of self.now) node }
     {
         self.is_left(node) && self.exhausted[usize::from(node)]
@@ -196,7 +196,7 @@ impl Collectives {
         ensures { result ≡ together_at (combined self.now.shape.kind)
             (data_of_all self.now.area (progress_of self.now) bytes.now 0 self.now.area.nodes) place }
     {
-        let nodes = self.settings.nodes();
+        let nodes = self.nodes();
         let mut all = self.data_word(bytes, 0, place);
         for node in 1..nodes {
             all = self.combine(all, self.data_word(bytes, node, place));
@@ -221,7 +221,8 @@ impl Collectives {
 
     /// In how many pieces the result is written.
     pub(crate) fn pieces(&self) -> u16
-        ensures { (bytes : List ℕ) → result ≡ length (result_in self.now bytes) }
+        ensures pieces { (bytes : List ℕ) → result ≡ length (result_in self.now bytes) }
+        ensures stands { Stands self.now }
     {
         match self.shape.kind {
             CollectiveKind::AllGather => self.settings.nodes(),
@@ -231,16 +232,29 @@ impl Collectives {
         }
     }
 
-    /// A piece of the result, in the first bytes.
-    pub(crate) fn piece(&self, bytes: &[u8], index: u16) -> [u8; 8192]
-        requires long { length bytes.now ≡ self.now.settings.segment }
-        requires index { index < length (result_in self.now bytes.now) }
-        ensures { slice_get (result_in self.now bytes.now) index
-            ≡ Some (take self.now.shape.len result) }
+    /// A piece of the result, in the first bytes, where the segment is as long as the settings say; none of any other.
+    pub(crate) fn piece(&self, segment: &Segment, index: u16) -> Option<[u8; 8192]>
+        requires { HasPiece self.now index }
+        ensures some { IfSome result (λ piece. slice_get (result_in self.now segment.now) index
+            ≡ Some (take self.now.shape.len piece)) }
+        ensures none { IfNone result (length segment.now ≢ self.now.settings.segment) }
     {
-        let mut piece = [0; 8192];
-        self.fill_piece(bytes, index, &mut piece[..self.shape.len as usize]);
-        piece
+        match self.bytes(segment) {
+            Some(bytes) => {
+                let mut piece = [0; 8192];
+                self.fill_piece(bytes, index, &mut piece[..self.data_len()]);
+                Some(piece)
+            }
+            None => None,
+        }
+    }
+
+    /// How many bytes each node gives.
+    pub(crate) fn data_len(&self) -> usize
+        ensures len { result ≡ self.now.shape.len }
+        ensures few { result ≤ 8192 }
+    {
+        self.shape.len as usize
     }
 
     /// Fills in a piece of the result.

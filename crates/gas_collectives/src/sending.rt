@@ -35,10 +35,10 @@ impl Collectives {
         ensures same_node { IsSameNode self.old self.new }
         ensures stands { Stands self.old }
     {
-        if self.ended >= self.started {
+        if !self.is_open() {
             return StepAnswer::Nothing;
         }
-        for to in 0..self.settings.nodes() {
+        for to in 0..self.nodes() {
             if self.is_left(to) {
                 if let Some(answer) = self.send(caller, thread, to) {
                     return answer;
@@ -50,7 +50,7 @@ impl Collectives {
 
     /// Whether the phase wasn't sent to a node yet, which is another one.
     pub(crate) fn is_left(&self, to: u16) -> bool
-        requires { to < self.now.settings.nodes }
+        requires { to < self.now.area.nodes }
         ensures { result ≡ is_left self.now.me to (progress_of self.now) }
     {
         to != self.me && !self.sent[usize::from(to)]
@@ -61,7 +61,7 @@ impl Collectives {
         requires there { IsThere (K.site caller.old) }
         requires thread { thread < (K.site caller.old).settings.threads }
         requires opened { self.old.ended < self.old.started }
-        requires to { to < self.old.settings.nodes }
+        requires to { to < self.old.area.nodes }
         ensures { Sends K.Caller thread to self.old caller.old result self.new caller.new }
     {
         let answer = self.ask(caller, thread, to);
@@ -70,7 +70,7 @@ impl Collectives {
 
     /// Notes what came of asking a node. None where the step goes on to the next one.
     fn note(&mut self, to: u16, answer: &Option<Answer>) -> Option<StepAnswer>
-        requires { to < self.old.settings.nodes }
+        requires { to < self.old.area.nodes }
         ensures stop { result ≡ step_told to answer.now }
         ensures noted { self.new ≡ noted self.old to answer.now }
     {

@@ -1,11 +1,11 @@
 //! The start of a collective.
 
-ghost use Rattle.std.specs.Prelude.{◌≡◌, ◌<◌, ◌^◌, ◌-◌, Some, unwrap_or, IfSome, IfNone};
+ghost use Rattle.std.specs.Prelude.{◌≡◌, ◌<◌, ◌^◌, ◌-◌};
 ghost use Rattle.collective_area.specs.Served.{header_arguments};
 ghost use Rattle.node_caller.specs.Sites.{IsThere};
 ghost use Rattle.gas_collectives.specs.Progress.{start_refusal};
-ghost use Rattle.gas_collectives.specs.CollectivesState.{IsSameNode, Stands, progress_of};
-ghost use Rattle.gas_collectives.specs.Starts.{CallsOne, Starts, Passes, IsNoStart, start_call, start_told};
+ghost use Rattle.gas_collectives.specs.CollectivesState.{IsSameNode, IsWithin, Stands, progress_of};
+ghost use Rattle.gas_collectives.specs.Starts.{CallsOne, Starts, start_call, start_told, started_then};
 
 use crate::answers::{Argument, StartAnswer};
 use crate::calling::call_one;
@@ -31,15 +31,15 @@ pub(crate) fn header(stamp: u64, word: u64) -> [i32; 4]
     ]
 }
 
-/// How a start is answered whose call was answered so; None where the phase is started.
-fn refusal_of(answer: &Answer) -> Option<StartAnswer>
-    ensures answer { start_told (Some answer.now) ≡ unwrap_or result StartAnswer.Started }
-    ensures kept { IfSome result IsNoStart }
+/// How a start is answered whose call was answered so, if memory didn't run out.
+fn start_told(answer: &Option<Answer>) -> StartAnswer
+    ensures { result ≡ start_told answer.now }
 {
     match answer {
-        Answer::Forbidden(forbidden) => Some(StartAnswer::Forbidden(*forbidden)),
-        Answer::Asked(Asked::LockBusy(lock)) => Some(StartAnswer::LockBusy(*lock)),
-        _ => None,
+        None => StartAnswer::NoMemory,
+        Some(Answer::Forbidden(forbidden)) => StartAnswer::Forbidden(*forbidden),
+        Some(Answer::Asked(Asked::LockBusy(lock))) => StartAnswer::LockBusy(*lock),
+        Some(_) => StartAnswer::Started,
     }
 }
 
@@ -77,27 +77,36 @@ impl Collectives {
         ensures same_node { IsSameNode self.old self.new }
         ensures stands { Stands self.old }
     {
-        if let Some(refusal) = self.start_refusal(shape, from) {
-            return refusal;
+        match self.start_refusal(shape, from) {
+            Some(refusal) => refusal,
+            None => {
+                let answer = start_told(&self.put_part(caller, thread, shape, from));
+                self.begin(&answer, shape);
+                answer
+            }
         }
-        let Some(answer) = self.put_part(caller, thread, shape, from) else {
-            return StartAnswer::NoMemory;
-        };
-        if let Some(refusal) = refusal_of(&answer) {
-            return refusal;
+    }
+
+    /// Begins the next phase, where its start is answered `Started`.
+    fn begin(&mut self, answer: &StartAnswer, shape: Shape)
+        requires shut { self.old.started ≡ self.old.ended }
+        requires shape { IsWithin self.old.area shape }
+        requires left { self.old.started < 2 ^ 64 - 1 }
+        ensures { self.new ≡ started_then answer.now self.old shape }
+    {
+        if let StartAnswer::Started = answer {
+            self.started += 1;
+            self.shape = shape;
+            self.sent = no_nodes();
+            self.exhausted = no_nodes();
         }
-        self.started += 1;
-        self.shape = shape;
-        self.sent = no_nodes();
-        self.exhausted = no_nodes();
-        StartAnswer::Started
     }
 
     /// The first refusal of a start that comes before any call.
     fn start_refusal(&self, shape: Shape, from: u64) -> Option<StartAnswer>
         ensures refusal { result ≡
             start_refusal self.now.area self.now.settings.segment (progress_of self.now) shape from }
-        ensures passes { IfNone result (Passes self.now shape from) }
+        ensures stands { Stands self.now }
     {
         if self.ended < self.started {
             return Some(StartAnswer::Busy);

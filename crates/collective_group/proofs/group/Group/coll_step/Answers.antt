@@ -1,4 +1,4 @@
-use Rattle.std.proofs.Common.{◌<◌, length, refl, ap, subst, ◌∙◌, arith}
+use Rattle.std.proofs.Common.{◌<◌, length, refl, sym, ap, subst, ◌∙◌, arith}
 use Rattle.std.specs.Prelude.{slice_set}
 use Rattle.handler_rules.specs.Runs.{Meaning}
 use Rattle.node_caller.specs.Sites.{Site}
@@ -24,6 +24,31 @@ invariant_of-self g c =
     (ap (λ (site : Site). site.settings) c.step.ensures.same_site) low
     (at_place c.self.inside.nodes.items c.from.result c.index_mut.result.now low c.index_mut.ensures.value)
     c.step.ensures.same_node
+
+pub step-requires : goal.step-requires
+step-requires g c =
+    let nodes = ap (λ (one : GroupState). one.world.settings.nodes) c.self.view_is in
+    let count = c.self.invariant.count in
+    let low : c.from.result < length c.self.inside.nodes.items =
+    omega (arith, nodes, count, c.from.ensures, c.requires.node) in
+    let both = c.self.invariant.at c.from.result c.index_mut.result.now
+    (at_place c.self.inside.nodes.items c.from.result c.index_mut.result.now low c.index_mut.ensures.value) in
+    record {
+      settings = both.0;
+      me = both.1 ∙ c.from.ensures;
+      thread = subst (λ (one : GroupState). c.args.thread < one.world.settings.threads) (sym c.self.view_is)
+          c.requires.thread;
+    }
+
+pub returns-clause-settings : goal.returns-clause-settings
+returns-clause-settings g c =
+    ap (λ (site : Site). site.settings) c.step.ensures.same_site
+    ∙ ap (λ (one : GroupState). one.world.settings) c.self.view_is
+
+pub returns-clause-table : goal.returns-clause-table
+returns-clause-table g c =
+    ap (λ (site : Site). site.table) c.step.ensures.same_site
+    ∙ ap (λ (one : GroupState). one.world.table) c.self.view_is
 
 pub returns-clause-does : goal.returns-clause-does
 returns-clause-does g c =

@@ -1,11 +1,39 @@
-use Rattle.std.proofs.Common.{refl, subst}
+use Rattle.std.proofs.Common.{refl, sym, ap, subst, ◌∙◌}
+use Rattle.datagram_grammar.specs.Parameters.{Parameters}
 use Rattle.handler_rules.specs.Runs.{Meaning}
 use Rattle.endpoint_rules.specs.EndpointRules.{timed, transition}
+use Rattle.plain_world.specs.World.{IsAmong}
+use Rattle.gas_world.specs.Aims.{MayFall}
 use Rattle.gas_world.specs.Events.{StepsInWorld, event_of}
-use Rattle.collective_group.specs.GroupState.{GroupState}
+use Rattle.collective_group.specs.GroupState.{AreAt, GroupState}
 use Rattle.collective_group.specs.Histories.{GrowsBeside}
 use Rattle.collective_group.proofs.Growing.{beside_grows}
 use Rattle.collective_group.proofs.group.Group.event.Goals as goal
+
+pub step-requires : goal.step-requires
+step-requires g c = record {
+  among = subst (λ (one : GroupState). IsAmong one.world.settings (event_of c.args.event.now)) (sym c.self.view_is)
+      c.requires.among;
+  called = subst (λ (one : GroupState). MayFall one.world.settings c.args.event.now) (sym c.self.view_is)
+      c.requires.called;
+}
+
+pub invariant_of-self : goal.invariant_of-self
+invariant_of-self g c = record {
+  count = c.self.invariant.count ∙ sym (ap (λ (one : Parameters). one.nodes) c.step.ensures.settings);
+  at = subst (λ (one : Parameters). AreAt one c.self.inside.nodes.items) (sym c.step.ensures.settings)
+      c.self.invariant.at;
+}
+
+pub returns-clause-settings : goal.returns-clause-settings
+returns-clause-settings g c =
+    c.step.ensures.settings ∙ ap (λ (one : GroupState). one.world.settings) c.self.view_is
+
+pub returns-clause-table : goal.returns-clause-table
+returns-clause-table g c = c.step.ensures.table ∙ ap (λ (one : GroupState). one.world.table) c.self.view_is
+
+pub returns-clause-same : goal.returns-clause-same
+returns-clause-same g c = ap (λ (one : GroupState). one.nodes) c.self.view_is
 
 pub returns-clause-steps : goal.returns-clause-steps
 returns-clause-steps g c =

@@ -4,15 +4,15 @@ use Rattle.gas_collectives.specs.CollectivesState.{CollectivesState}
 use Rattle.gas_collectives.proofs.Pieces.{many_all, many_root}
 use Rattle.gas_collectives.proofs.collectives.Collectives.pieces.Goals as goal
 
-pub returns-in-AllGather : goal.returns-in-AllGather
-returns-in-AllGather c = λ bytes.
+pub returns-in-AllGather-clause-pieces : goal.returns-in-AllGather-clause-pieces
+returns-in-AllGather-clause-pieces c = λ bytes.
     let is : c.args.self.now.shape.kind ≡ kind.AllGather =
     ap (λ (it : CollectivesState). it.shape.kind) (sym c.self.view_is) ∙ c.in-AllGather.is in
     c.nodes.ensures.nodes
     ∙ (ap (λ (it : CollectivesState). it.area.nodes) c.self.view_is ∙ many_all c.args.self.now is bytes)
 
-pub returns-in-Gather : goal.returns-in-Gather
-returns-in-Gather c = λ bytes.
+pub returns-in-Gather-clause-pieces : goal.returns-in-Gather-clause-pieces
+returns-in-Gather-clause-pieces c = λ bytes.
     let is : c.args.self.now.shape.kind ≡ kind.Gather =
     ap (λ (it : CollectivesState). it.shape.kind) (sym c.self.view_is) ∙ c.in-Gather.is in
     let root : c.args.self.now.me ≡ c.args.self.now.shape.root =

@@ -1,28 +1,70 @@
-use Rattle.std.proofs.Common.{◌≡◌, ◌+◌, ◌<◌, ap, sym, subst, ◌∙◌, arith}
+use Rattle.std.proofs.Common.{◌≡◌, ◌+◌, ◌-◌, ◌<◌, refl, ap, sym, subst, ◌∙◌, arith}
+use Rattle.std.proofs.lemmas.Bool.{ltb-true}
+use Rattle.node_caller.specs.Sites.{IsThere, Site}
+use Rattle.collective_area.specs.Area.{Area}
+use Rattle.gas_collectives.specs.declared.answers.StepAnswer.TheVariants as step_answers
 use Rattle.gas_collectives.specs.CollectivesState.{CollectivesState}
-use Rattle.gas_collectives.proofs.Stepping.{going_ends, going_on, going_past, going_same, none_then, steps_open}
+use Rattle.gas_collectives.proofs.Stepping.{going_ends, going_first, going_none, going_on, going_past, going_same}
+use Rattle.gas_collectives.proofs.Stepping.{none_then, steps_closed, steps_open, there_of}
 use Rattle.gas_collectives.proofs.collectives.Collectives.step.Goals as goal
 use Rattle.gas_collectives.proofs.collectives.Collectives.step.Goals.{then-is_left+in_default, else-is_left}
 
-pub returns-in-Some-clause-steps : goal.returns-in-Some-clause-steps
-returns-in-Some-clause-steps g c =
+pub returns-then-not-is_open : goal.returns-then-not-is_open
+returns-then-not-is_open g c = record {
+  steps = steps_closed g.K.Caller c.args.thread c.args.self.now c.args.caller.now
+      (sym c.is_open.ensures.open ∙ c.if-not-is_open.true);
+  same_reference = refl;
+  same_site = refl;
+  same_node = record { settings_are = refl; me_is = refl; area_is = refl };
+  stands = c.is_open.ensures.stands;
+}
+
+pub loop-to-init : goal.loop-to-init
+loop-to-init g c =
+    going_first g.K.Caller c.args.thread c.args.self.now c.args.caller.now
+    (ltb-true c.args.self.now.ended c.args.self.now.started (sym c.is_open.ensures.open ∙ c.if-not-is_open.false))
+
+pub send-requires : goal.send-requires
+send-requires g c =
     let it = c.args.self.now in
-    let nodes : c.nodes-to-end.result ≡ it.area.nodes =
-    c.nodes-to-end.ensures.nodes ∙ ap (λ (one : CollectivesState). one.area.nodes) c.self.view_is in
-    let low : c.loop-to.to < it.area.nodes = omega (arith, nodes) in
+    let going = c.loop-to.invariant in
+    let low : c.loop-to.to < it.area.nodes = omega (arith, c.nodes-to-end.ensures.nodes) in
+    record {
+      there = subst IsThere (sym going.site)
+          (there_of it (g.K.Caller.site c.args.caller.now) c.is_open.ensures.stands c.requires.settings c.requires.me);
+      thread = subst (λ (one : Site). c.args.thread < one.settings.threads) (sym going.site) c.requires.thread;
+      opened = going.opened;
+      to = subst (λ (one : Area). c.loop-to.to < one.nodes) (sym going.area) low;
+    }
+
+pub returns-in-Some : goal.returns-in-Some
+returns-in-Some g c =
+    let it = c.args.self.now in
+    let going = c.loop-to.invariant in
+    let low : c.loop-to.to < it.area.nodes = omega (arith, c.nodes-to-end.ensures.nodes) in
     let opened : it.ended < it.started =
-    subst (λ (one : CollectivesState). one.ended < one.started) c.self.view_is (omega (arith, c.if-self.false)) in
-    steps_open g.K.Caller c.args.thread it c.args.caller.now c.in-Some.answer c.send.new.self c.send.new.caller opened
-    (going_ends g.K.Caller c.args.thread it c.args.caller.now c.loop-to.to c.loop-to.self c.loop-to.caller c.send.result
-    c.in-Some.answer c.send.new.self c.send.new.caller c.loop-to.invariant low
-    (sym c.is_left.ensures ∙ c.if-is_left.true) c.send.ensures c.in-Some.is)
+    ltb-true it.ended it.started (sym c.is_open.ensures.open ∙ c.if-not-is_open.false) in
+    let next = c.send.ensures.next_is in
+    record {
+      steps = steps_open g.K.Caller c.args.thread it c.args.caller.now c.in-Some.answer c.send.new.self
+          c.send.new.caller opened
+          (going_ends g.K.Caller c.args.thread it c.args.caller.now c.loop-to.to c.loop-to.self c.loop-to.caller
+          c.send.result c.in-Some.answer c.send.new.self c.send.new.caller going low
+          (sym c.is_left.ensures ∙ c.if-is_left.true) c.send.ensures c.in-Some.is);
+      same_reference = c.send.ensures.called.reference ∙ going.reference;
+      same_site = c.send.ensures.called.site ∙ going.site;
+      same_node = record {
+        settings_are = ap (λ (one : CollectivesState). one.settings) next ∙ going.settings;
+        me_is = ap (λ (one : CollectivesState). one.me) next ∙ going.me;
+        area_is = ap (λ (one : CollectivesState). one.area) next ∙ going.area;
+      };
+      stands = c.is_open.ensures.stands;
+    }
 
 pub loop-to-preserved : goal.loop-to-preserved
 loop-to-preserved g c =
     let it = c.args.self.now in
-    let nodes : c.nodes-to-end.result ≡ it.area.nodes =
-    c.nodes-to-end.ensures.nodes ∙ ap (λ (one : CollectivesState). one.area.nodes) c.self.view_is in
-    let low : c.loop-to.to < it.area.nodes = omega (arith, nodes) in
+    let low : c.loop-to.to < it.area.nodes = omega (arith, c.nodes-to-end.ensures.nodes) in
     elim c.if-is_left.branch [
       | then-is_left+in_default w ↦ going_same g.K.Caller c.args.thread it c.args.caller.now (c.loop-to.to + 1)
           w.send.new.self w.send.new.caller c.if-is_left.self c.if-is_left.caller
@@ -36,12 +78,18 @@ loop-to-preserved g c =
           c.loop-to.invariant low (sym c.is_left.ensures ∙ w.if-is_left.false)) w.self-is w.caller-is
     ]
 
-pub returns-in-Some-clause-same_node : goal.returns-in-Some-clause-same_node
-returns-in-Some-clause-same_node g c = record {
-  settings_are = ap (λ (one : CollectivesState). one.settings) c.send.ensures.next_is ∙ c.loop-to.invariant.settings;
-  me_is = ap (λ (one : CollectivesState). one.me) c.send.ensures.next_is ∙ c.loop-to.invariant.me;
-  area_is = ap (λ (one : CollectivesState). one.area) c.send.ensures.next_is ∙ c.loop-to.invariant.area;
-}
-
-pub returns-in-Some-clause-same_site : goal.returns-in-Some-clause-same_site
-returns-in-Some-clause-same_site g c = c.send.ensures.called.site ∙ c.loop-to.invariant.site
+pub returns : goal.returns
+returns g c =
+    let it = c.args.self.now in
+    let going = c.loop-to.invariant in
+    let none : it.area.nodes - c.loop-to.to ≡ 0 = omega (arith, c.nodes-to-end.ensures.nodes) in
+    let opened : it.ended < it.started =
+    ltb-true it.ended it.started (sym c.is_open.ensures.open ∙ c.if-not-is_open.false) in
+    record {
+      steps = steps_open g.K.Caller c.args.thread it c.args.caller.now step_answers.Nothing c.loop-to.self c.loop-to.caller opened
+          (going_none g.K.Caller c.args.thread it c.args.caller.now c.loop-to.to c.loop-to.self c.loop-to.caller going none);
+      same_reference = going.reference;
+      same_site = going.site;
+      same_node = record { settings_are = going.settings; me_is = going.me; area_is = going.area };
+      stands = c.is_open.ensures.stands;
+    }
