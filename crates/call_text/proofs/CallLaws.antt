@@ -1,22 +1,22 @@
 -- The table of calls.
-use Rattle.std.proofs.Common.{◌≡◌, refl, Bool, true, false, cond, ℕ, List, [], ◌∷◌, Option, Some, None}
-use Rattle.std.specs.List.{AllByRecursion}
-use Rattle.std.specs.Str.{bytes_eq}
-use Rattle.text_lines.specs.Lines.{◌>>=◌}
+use Rattle.std.proofs.Common.{◌≡◌, refl, ap, ◌∙◌, false, ℕ, List, map}
+use Rattle.text_lines.specs.Lines.{◌>>=◌, front, back}
 use Rattle.line_forms.specs.declared.scope.Scope.{Scope}
 use Rattle.call_text.specs.declared.scheduled.ScheduledCall.{ScheduledCall}
 use Rattle.call_text.specs.declared.scheduled.ScheduledCall.TheVariants as call
 use Rattle.put_get.specs.declared.operation.Transfer.TheVariants as transfer
-use Rattle.line_forms.specs.Forms.{none_at, none_text, none_fits, Row, Values, made, passed, row_at, named_at}
-use Rattle.line_forms.specs.Forms.{values_at}
+use Rattle.line_forms.specs.Forms.{none_at, none_text, none_fits, Row, table_at}
+use Rattle.line_forms.specs.FormTests.{named_form}
 use Rattle.call_text.specs.Calls.{calls, later_calls, own_calls, segment_calls, transfer_calls}
 use Rattle.call_text.specs.Calls.{implicit_calls}
-use Rattle.call_text.specs.Calls.{sync_calls, barrier_calls, call_entry, call_at, call_fits, fitting}
+use Rattle.call_text.specs.Calls.{sync_calls, barrier_calls, call_entry, call_at, call_fits}
+use Rattle.call_text.specs.Calls.{call_forms, call_named, form_at, form_row, own_forms, sync_forms}
+use Rattle.call_text.specs.Calls.{transfer_forms}
 use Rattle.call_text.specs.Calls.{call_text}
 use Rattle.call_text.specs.Calls.{IsCall}
-use Rattle.text_lines.proofs.Fronts.{cond_yes}
 use Rattle.line_forms.proofs.FormLaws.{AreMade, IsExact, IsTable, IsEntryOf, entry_of, table_exact}
 use Rattle.line_forms.proofs.FormLaws.{none_exact}
+use Rattle.line_forms.proofs.TableLaws.{found_form, read_table, test_named}
 
 -- an entry makes its call, by the first row of its name
 call_again : (c : ScheduledCall) → IsEntryOf calls call_entry c
@@ -78,116 +78,26 @@ unfolding call_at
 calls_exact scope =
     table_exact none_at none_text none_fits calls call_entry (call_fits scope) none_exact (calls_are scope)
 
--- ---- calls from `medium` on may stand in each job
+-- ---- the table in code
 
--- each row makes what passes a test
-abbrev pub AllPass : {A : Type 0} → (A → Bool) → List (Row ⊥ A) → Type 0
-AllPass {A} test rows = AllByRecursion (λ (row : Row ⊥ A). (v : Values ⊥ row.shape)
-    → test (made ⊥ row.shape row.make v) ≡ true) rows
+-- the forms have the rows of the table
+rows_are : calls ≡ map form_row call_forms
+unfolding calls later_calls own_calls segment_calls transfer_calls implicit_calls sync_calls barrier_calls
+    call_forms own_forms transfer_forms sync_forms
+rows_are = refl
 
-row_passes : {A : Type 0} (test : A → Bool) (row : Row ⊥ A) → ((v : Values ⊥ row.shape)
-    → test (made ⊥ row.shape row.make v) ≡ true) → (o : Option (Values ⊥ row.shape × List ℕ))
-    → ◌>>=◌ {B = A × List ℕ} (◌>>=◌ {B = A × List ℕ} o (λ v. Some (made ⊥ row.shape row.make v.0, v.1)))
-    (passed test) ≡ ◌>>=◌ {B = A × List ℕ} o (λ v. Some (made ⊥ row.shape row.make v.0, v.1))
-row_passes test row pass None = refl
-row_passes test row pass (Some v) = cond_yes _ _ _ (pass v.0)
+-- reading a call is reading the words of the form of its name
+pub read_calls : (scope : Scope) (bytes : List ℕ)
+    → call_at scope bytes ≡ (call_named (front bytes) >>= λ form. form_at scope form (back bytes))
+unfolding call_at form_at call_named
+read_calls scope bytes =
+    ap (λ (rows : List (Row ⊥ ScheduledCall)). table_at none_at rows (call_fits scope) bytes) rows_are
+    ∙ read_table none_at form_row call_forms (call_fits scope) bytes
 
-either_passes : {A : Type 0} (test : A → Bool) (b : Bool) (one other : Option (A × List ℕ))
-    → ◌>>=◌ {B = A × List ℕ} one (passed test) ≡ one → ◌>>=◌ {B = A × List ℕ} other (passed test) ≡ other
-    → ◌>>=◌ {B = A × List ℕ} (cond b one other) (passed test) ≡ cond b one other
-either_passes test true one other h k = h
-either_passes test false one other h k = k
-
--- then the test changes nothing
-named_passes : {A : Type 0} (test : A → Bool) (rows : List (Row ⊥ A)) → AllPass test rows → (name bytes : List ℕ)
-    → ◌>>=◌ {B = A × List ℕ} (named_at none_at rows name bytes) (passed test) ≡ named_at none_at rows name bytes
-named_passes test [] pass name bytes = refl
-named_passes test (row ∷ rows) pass name bytes =
-    either_passes test (bytes_eq name row.name) (row_at none_at row bytes) (named_at none_at rows name bytes)
-    (row_passes test row pass.0 (values_at none_at row.shape bytes)) (named_passes test rows pass.1 name bytes)
-
-later_pass : (scope : Scope) → AllPass (call_fits scope) later_calls
-unfolding later_calls own_calls segment_calls transfer_calls implicit_calls sync_calls barrier_calls
-later_pass scope = (
-  λ v. refl,
-  (
-    λ v. refl,
-    (
-      λ v. refl,
-      (
-        λ v. refl,
-        (
-          λ v. refl,
-          (
-            λ v. refl,
-            (
-              λ v. refl,
-              (
-                λ v. refl,
-                (
-                  λ v. refl,
-                  (
-                    λ v. refl,
-                    (
-                      λ v. refl,
-                      (
-                        λ v. refl,
-                        (
-                          λ v. refl,
-                          (
-                            λ v. refl,
-                            (
-                              λ v. refl,
-                              (
-                                λ v. refl,
-                                (
-                                  λ v. refl,
-                                  (
-                                    λ v. refl,
-                                    (
-                                      λ v. refl,
-                                      (
-                                        λ v. refl,
-                                        (
-                                          λ v. refl,
-                                          (
-                                            λ v. refl,
-                                            (
-                                              λ v. refl,
-                                              (
-                                                λ v. refl,
-                                                (
-                                                  λ v. refl,
-                                                  (
-                                                    λ v. refl,
-                                                    (λ v. refl, (λ v. refl, (λ v. refl, tt))),
-                                                  ),
-                                                ),
-                                              ),
-                                            ),
-                                          ),
-                                        ),
-                                      ),
-                                    ),
-                                  ),
-                                ),
-                              ),
-                            ),
-                          ),
-                        ),
-                      ),
-                    ),
-                  ),
-                ),
-              ),
-            ),
-          ),
-        ),
-      ),
-    ),
-  ),
-)
-
-pub later_calls_pass : (scope : Scope) (name bytes : List ℕ)
-    → fitting scope (named_at none_at later_calls name bytes) ≡ named_at none_at later_calls name bytes
-later_calls_pass scope name bytes = named_passes (call_fits scope) later_calls (later_pass scope) name bytes
+-- and a line has the form of a call by the words of that form
+pub test_calls : (name bytes : List ℕ) → named_form (λ bytes. false) calls name bytes
+    ≡ found_form (λ bytes. false) form_row (call_named name) bytes
+unfolding call_named
+test_calls name bytes =
+    ap (λ (rows : List (Row ⊥ ScheduledCall)). named_form (λ bytes. false) rows name bytes) rows_are
+    ∙ test_named (λ bytes. false) form_row call_forms name bytes

@@ -9,9 +9,10 @@ use Rattle.line_forms.specs.Forms.{Number, Value, Kind, Bytes, Payload, Integer,
 use Rattle.line_forms.specs.Forms.{Many, Maker}
 use Rattle.line_forms.specs.Forms.{Bundles, Operations}
 use Rattle.line_forms.specs.Forms.{Values, Row, Entry}
-use Rattle.line_forms.specs.Forms.{passed, table_at, entry_text, IsOf, none_at, none_text, none_fits, U64}
+use Rattle.line_forms.specs.Forms.{passed, row_at, table_at, entry_text, IsOf, none_at, none_text, none_fits, U64}
 use Rattle.line_forms.specs.Forms.{U16, U8}
 use Rattle.line_forms.specs.FormTests.{table_form}
+use Rattle.line_forms.specs.Tables.{first_named}
 use Rattle.call_text.specs.Batches.{BatchWords}
 use Rattle.line_forms.specs.declared.scope.Scope.{Scope}
 use Rattle.call_text.specs.declared.scheduled.MediumText.{MediumText}
@@ -20,6 +21,8 @@ use Rattle.line_forms.specs.declared.values.Payload.{Payload as PayloadValue}
 use Rattle.line_forms.specs.declared.values.Operand.{Operand}
 use Rattle.put_get.specs.declared.operation.Transfer.{Transfer}
 use Rattle.put_get.specs.declared.operation.Transfer.TheVariants as transfer
+use Rattle.call_text.specs.declared.forms.CallForm.{CallForm}
+use Rattle.call_text.specs.declared.forms.CallForm.TheVariants as forms
 use Rattle.call_text.specs.declared.scheduled.ScheduledCall.{ScheduledCall}
 use Rattle.call_text.specs.declared.scheduled.ScheduledCall.TheVariants as call
 
@@ -191,6 +194,73 @@ later_calls = medium_row ∷ long_row ∷ async_row ∷ own_calls
 unfoldable pub calls : List (Row ⊥ ScheduledCall)
 calls = short_row ∷ atomic_row ∷ later_calls
 
+-- ---- the table in code
+
+-- the row of a form
+abbrev pub form_row : CallForm → Row ⊥ ScheduledCall
+form_row forms.Short = short_row
+form_row forms.Atomic = atomic_row
+form_row forms.Medium = medium_row
+form_row forms.Long = long_row
+form_row forms.Async = async_row
+form_row forms.Lock = lock_row
+form_row forms.Unlock = unlock_row
+form_row forms.Poll = poll_row
+form_row forms.Attempt = attempt_row
+form_row forms.Cell = cell_row
+form_row forms.SetCell = set_cell_row
+form_row forms.Show = show_row
+form_row forms.Set = set_row
+form_row forms.Fill = fill_row
+form_row forms.Word = word_row
+form_row forms.SetWord = set_word_row
+form_row forms.Put = put_row
+form_row forms.Get = get_row
+form_row forms.Memset = memset_row
+form_row forms.ImplicitPut = implicit_put_row
+form_row forms.ImplicitGet = implicit_get_row
+form_row forms.ImplicitMemset = implicit_memset_row
+form_row forms.Issued = issued_row
+form_row forms.Try = try_row
+form_row forms.TryAll = try_all_row
+form_row forms.TrySome = try_some_row
+form_row forms.TryImplicit = try_implicit_row
+form_row forms.RegionBegin = region_begin_row
+form_row forms.RegionEnd = region_end_row
+form_row forms.Notify = notify_row
+form_row forms.TryBarrier = try_barrier_row
+
+-- its name
+abbrev pub form_name : CallForm → Word
+form_name form = (form_row form).name
+
+-- the forms in the order of the rows: from `issued` on
+unfoldable pub sync_forms : List CallForm
+sync_forms =
+    forms.Issued ∷ forms.Try ∷ forms.TryAll ∷ forms.TrySome ∷ forms.TryImplicit ∷ forms.RegionBegin
+    ∷ forms.RegionEnd ∷ forms.Notify ∷ forms.TryBarrier ∷ []
+
+-- from `put-nb-bulk` on
+unfoldable pub transfer_forms : List CallForm
+transfer_forms =
+    forms.Put ∷ forms.Get ∷ forms.Memset ∷ forms.ImplicitPut ∷ forms.ImplicitGet ∷ forms.ImplicitMemset ∷ sync_forms
+
+-- from `lock` on
+unfoldable pub own_forms : List CallForm
+own_forms =
+    forms.Lock ∷ forms.Unlock ∷ forms.Poll ∷ forms.Attempt ∷ forms.Cell ∷ forms.SetCell ∷ forms.Show ∷ forms.Set
+    ∷ forms.Fill ∷ forms.Word ∷ forms.SetWord ∷ transfer_forms
+
+-- and all of them
+unfoldable pub call_forms : List CallForm
+call_forms = forms.Short ∷ forms.Atomic ∷ forms.Medium ∷ forms.Long ∷ forms.Async ∷ own_forms
+
+-- the form of this name
+unfoldable pub call_named : Word → Option CallForm
+call_named name = first_named form_name call_forms name
+
+-- ---- writing
+
 -- the words of a call
 abbrev pub words : (row : Row ⊥ ScheduledCall) → Values ⊥ row.shape → Entry ⊥ ScheduledCall
 words row values = record { row = row; values = values }
@@ -259,6 +329,10 @@ call_fits scope call = true
 -- what was found, where it may stand in the job
 abbrev pub fitting : Scope → Option (ScheduledCall × List ℕ) → Option (ScheduledCall × List ℕ)
 fitting scope found = found >>= passed (call_fits scope)
+
+-- what reads the words of a form behind its name, where the call may stand in the job
+unfoldable pub form_at : Scope → CallForm → List ℕ → Option (ScheduledCall × List ℕ)
+form_at scope form bytes = fitting scope (row_at none_at (form_row form) bytes)
 
 -- what reads a call
 unfoldable pub call_at : Scope → List ℕ → Option (ScheduledCall × List ℕ)

@@ -1,7 +1,8 @@
 //! Reading batches of remote atomics.
 
-ghost use Rattle.call_text.specs.Calls.{atomic_row, batch, batch_in, fitting};
-ghost use Rattle.line_forms.specs.Forms.{Operations, bundle_at, bundles_at, none_at, row_at};
+ghost use Rattle.call_text.specs.Calls.{batch, batch_in, form_at};
+ghost use Rattle.call_text.specs.declared.forms.CallForm.TheVariants as forms;
+ghost use Rattle.line_forms.specs.Forms.{Operations, bundle_at, bundles_at};
 ghost use Rattle.text_lines.specs.Found.{Finds, Reads};
 
 use crate::scheduled::{BatchText, BoxedBatch, ScheduledCall};
@@ -77,14 +78,14 @@ fn batch_text(
     })
 }
 
-/// The batch that the words of a line say behind its name, and the bytes after them.
-pub fn batch_at<'a>(
+/// A batch, where one may stand in the job.
+#[tactic(auto, unfolding(crate::specs::Calls::form_at))]
+pub(crate) fn batch_at<'a>(
     alloc: Global,
     scope: &Scope,
     bytes: &'a [u8],
 ) -> Result<(ScheduledCall, &'a [u8]), Miss>
-    ensures { Reads (λ x. (x.0, x.1.now)) result
-        (fitting scope.now (row_at none_at atomic_row bytes.now)) }
+    ensures { Reads (λ x. (x.0, x.1.now)) result (form_at scope.now forms.Atomic bytes.now) }
 {
     let (to, rest) = short_at(bytes, 65_535)?;
     let (local, rest) = number_at(rest, 0, u64::MAX)?;

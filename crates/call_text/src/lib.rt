@@ -6,10 +6,15 @@
 
 mod batches;
 mod calls;
+mod forms;
+mod own_calls;
+mod request_calls;
 mod scheduled;
+mod sync_calls;
 mod transfer_calls;
 
 pub use calls::{call_at, call_form};
+pub use forms::CallForm;
 pub use scheduled::{
     BatchText, BoxedBatch, BoxedLong, BoxedMedium, BoxedTransfer, LongText, MediumText,
     ScheduledCall,

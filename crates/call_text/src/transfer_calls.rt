@@ -1,19 +1,19 @@
-//! Reading calls that begin transfers or synchronise them, and calls on the barrier.
+//! Reading the words of calls that begin transfers.
+#![tactic(auto, unfolding(crate::specs::Calls::form_at))]
 
-ghost use Rattle.std.specs.Prelude.{◌≡◌, IfOk, false};
-ghost use Rattle.call_text.specs.Calls.{barrier_calls, fill_shape, implicit_calls, move_shape};
-ghost use Rattle.call_text.specs.Calls.{sync_calls};
-ghost use Rattle.call_text.specs.Calls.{transfer_calls};
+ghost use Rattle.std.specs.Prelude.{◌≡◌, IfOk};
+ghost use Rattle.call_text.specs.Calls.{fill_shape, form_at, move_shape};
+ghost use Rattle.call_text.specs.declared.forms.CallForm.TheVariants as forms;
+ghost use Rattle.line_forms.specs.Forms.{none_at, values_at};
+ghost use Rattle.line_forms.specs.declared.scope.Scope.{Scope};
 ghost use Rattle.put_get.specs.declared.operation.Transfer.TheVariants as transfer;
-ghost use Rattle.line_forms.specs.Forms.{named_at, none_at, values_at};
-ghost use Rattle.line_forms.specs.FormTests.{named_form};
 ghost use Rattle.text_lines.specs.Found.{Finds, Reads};
 
 use crate::scheduled::{BoxedTransfer, ScheduledCall};
-use line_forms::{byte_at, implicit_at, integer_at, number_at, registers_at, short_at};
+use line_forms::{byte_at, number_at, short_at};
 use put_get::Transfer;
 use std::alloc::{AllocError, Global};
-use text_lines::{Miss, Other, is_between, is_name, words_left};
+use text_lines::{Miss, Other};
 
 /// The words of a put or a get.
 #[derive(Clone, Copy)]
@@ -113,183 +113,68 @@ pub fn boxed(alloc: Global, text: Transfer) -> Result<BoxedTransfer, AllocError>
     Ok(BoxedTransfer { inside })
 }
 
-/// The call on the barrier that a line says, by its name and the bytes after it.
-#[tactic(auto, unfolding(crate::specs::Calls::barrier_calls))]
-fn barrier_call_at<'a>(name: &[u8], rest: &'a [u8]) -> Result<(ScheduledCall, &'a [u8]), Other>
-    ensures { Finds (λ x. (x.0, x.1.now)) result
-        (named_at none_at barrier_calls name.now rest.now) }
+/// An explicit put.
+pub(crate) fn put_call(alloc: Global, rest: &[u8]) -> Result<(ScheduledCall, &[u8]), Miss>
+    ensures { (scope : Scope) → Reads (λ x. (x.0, x.1.now)) result
+        (form_at scope forms.Put rest.now) }
 {
-    if is_name(name, b"notify") {
-        let (id, rest) = integer_at(rest)?;
-        let (flags, rest) = byte_at(rest, 255)?;
-        return Ok((ScheduledCall::Notify { id, flags }, rest));
-    }
-    if is_name(name, b"try-barrier") {
-        let (id, rest) = integer_at(rest)?;
-        let (flags, rest) = byte_at(rest, 255)?;
-        return Ok((ScheduledCall::TryBarrier { id, flags }, rest));
-    }
-    Err(Other)
+    let (register, rest) = byte_at(rest, 255)?;
+    let (words, rest) = move_at(rest)?;
+    let transfer = boxed(alloc, put_of(words))?;
+    Ok((ScheduledCall::Begin { register, transfer }, rest))
 }
 
-/// The call that a line says, by its name and the bytes after it, from `issued` on.
-#[tactic(auto, unfolding(crate::specs::Calls::sync_calls))]
-fn sync_call_at<'a>(
+/// An explicit get.
+pub(crate) fn get_call(alloc: Global, rest: &[u8]) -> Result<(ScheduledCall, &[u8]), Miss>
+    ensures { (scope : Scope) → Reads (λ x. (x.0, x.1.now)) result
+        (form_at scope forms.Get rest.now) }
+{
+    let (register, rest) = byte_at(rest, 255)?;
+    let (words, rest) = move_at(rest)?;
+    let transfer = boxed(alloc, get_of(words))?;
+    Ok((ScheduledCall::Begin { register, transfer }, rest))
+}
+
+/// An explicit memset.
+pub(crate) fn memset_call(alloc: Global, rest: &[u8]) -> Result<(ScheduledCall, &[u8]), Miss>
+    ensures { (scope : Scope) → Reads (λ x. (x.0, x.1.now)) result
+        (form_at scope forms.Memset rest.now) }
+{
+    let (register, rest) = byte_at(rest, 255)?;
+    let (words, rest) = fill_at(rest)?;
+    let transfer = boxed(alloc, memset_of(words))?;
+    Ok((ScheduledCall::Begin { register, transfer }, rest))
+}
+
+/// An implicit put.
+pub(crate) fn implicit_put_call(alloc: Global, rest: &[u8]) -> Result<(ScheduledCall, &[u8]), Miss>
+    ensures { (scope : Scope) → Reads (λ x. (x.0, x.1.now)) result
+        (form_at scope forms.ImplicitPut rest.now) }
+{
+    let (words, rest) = move_at(rest)?;
+    let transfer = boxed(alloc, put_of(words))?;
+    Ok((ScheduledCall::BeginImplicit { transfer }, rest))
+}
+
+/// An implicit get.
+pub(crate) fn implicit_get_call(alloc: Global, rest: &[u8]) -> Result<(ScheduledCall, &[u8]), Miss>
+    ensures { (scope : Scope) → Reads (λ x. (x.0, x.1.now)) result
+        (form_at scope forms.ImplicitGet rest.now) }
+{
+    let (words, rest) = move_at(rest)?;
+    let transfer = boxed(alloc, get_of(words))?;
+    Ok((ScheduledCall::BeginImplicit { transfer }, rest))
+}
+
+/// An implicit memset.
+pub(crate) fn implicit_memset_call(
     alloc: Global,
-    name: &[u8],
-    rest: &'a [u8],
-) -> Result<(ScheduledCall, &'a [u8]), Miss>
-    ensures { Reads (λ x. (x.0, x.1.now)) result (named_at none_at sync_calls name.now rest.now) }
+    rest: &[u8],
+) -> Result<(ScheduledCall, &[u8]), Miss>
+    ensures { (scope : Scope) → Reads (λ x. (x.0, x.1.now)) result
+        (form_at scope forms.ImplicitMemset rest.now) }
 {
-    if is_name(name, b"issued") {
-        let (register, rest) = byte_at(rest, 255)?;
-        return Ok((ScheduledCall::IsIssued { register }, rest));
-    }
-    if is_name(name, b"try") {
-        let (register, rest) = byte_at(rest, 255)?;
-        return Ok((ScheduledCall::Sync { register }, rest));
-    }
-    if is_name(name, b"try-all") {
-        let (registers, rest) = registers_at(alloc, rest)?;
-        return Ok((ScheduledCall::SyncAll { registers }, rest));
-    }
-    if is_name(name, b"try-some") {
-        let (registers, rest) = registers_at(alloc, rest)?;
-        return Ok((ScheduledCall::SyncSome { registers }, rest));
-    }
-    if is_name(name, b"try-nbi") {
-        let (which, rest) = implicit_at(rest)?;
-        return Ok((ScheduledCall::SyncImplicit { which }, rest));
-    }
-    if is_name(name, b"region-begin") {
-        return Ok((ScheduledCall::RegionBegin, rest));
-    }
-    if is_name(name, b"region-end") {
-        let (register, rest) = byte_at(rest, 255)?;
-        return Ok((ScheduledCall::RegionEnd { register }, rest));
-    }
-    let (call, rest) = barrier_call_at(name, rest)?;
-    Ok((call, rest))
-}
-
-/// The call that a line says, by its name and the bytes after it, from `put-nbi-bulk` on.
-#[tactic(auto, unfolding(crate::specs::Calls::implicit_calls))]
-fn implicit_call_at<'a>(
-    alloc: Global,
-    name: &[u8],
-    rest: &'a [u8],
-) -> Result<(ScheduledCall, &'a [u8]), Miss>
-    ensures { Reads (λ x. (x.0, x.1.now)) result
-        (named_at none_at implicit_calls name.now rest.now) }
-{
-    if is_name(name, b"put-nbi-bulk") {
-        let (words, rest) = move_at(rest)?;
-        let transfer = boxed(alloc, put_of(words))?;
-        return Ok((ScheduledCall::BeginImplicit { transfer }, rest));
-    }
-    if is_name(name, b"get-nbi") {
-        let (words, rest) = move_at(rest)?;
-        let transfer = boxed(alloc, get_of(words))?;
-        return Ok((ScheduledCall::BeginImplicit { transfer }, rest));
-    }
-    if is_name(name, b"memset-nbi") {
-        let (words, rest) = fill_at(rest)?;
-        let transfer = boxed(alloc, memset_of(words))?;
-        return Ok((ScheduledCall::BeginImplicit { transfer }, rest));
-    }
-    sync_call_at(alloc, name, rest)
-}
-
-/// The call that a line says, by its name and the bytes after it, from `put-nb-bulk` on.
-#[tactic(auto, unfolding(crate::specs::Calls::transfer_calls))]
-pub fn transfer_call_at<'a>(
-    alloc: Global,
-    name: &[u8],
-    rest: &'a [u8],
-) -> Result<(ScheduledCall, &'a [u8]), Miss>
-    ensures { Reads (λ x. (x.0, x.1.now)) result
-        (named_at none_at transfer_calls name.now rest.now) }
-{
-    if is_name(name, b"put-nb-bulk") {
-        let (register, rest) = byte_at(rest, 255)?;
-        let (words, rest) = move_at(rest)?;
-        let transfer = boxed(alloc, put_of(words))?;
-        return Ok((ScheduledCall::Begin { register, transfer }, rest));
-    }
-    if is_name(name, b"get-nb") {
-        let (register, rest) = byte_at(rest, 255)?;
-        let (words, rest) = move_at(rest)?;
-        let transfer = boxed(alloc, get_of(words))?;
-        return Ok((ScheduledCall::Begin { register, transfer }, rest));
-    }
-    if is_name(name, b"memset-nb") {
-        let (register, rest) = byte_at(rest, 255)?;
-        let (words, rest) = fill_at(rest)?;
-        let transfer = boxed(alloc, memset_of(words))?;
-        return Ok((ScheduledCall::Begin { register, transfer }, rest));
-    }
-    implicit_call_at(alloc, name, rest)
-}
-
-/// Whether a count of words after a name is a form of call, from `issued` on.
-#[tactic(auto, unfolding(crate::specs::Calls::sync_calls, crate::specs::Calls::barrier_calls))]
-fn sync_call_form(name: &[u8], rest: &[u8]) -> bool
-    ensures { result ≡ named_form (λ b. false) sync_calls name.now rest.now }
-{
-    let count = words_left(rest);
-    if is_name(name, b"issued") {
-        return count == 1;
-    }
-    if is_name(name, b"try") {
-        return count == 1;
-    }
-    if is_name(name, b"try-all") {
-        return is_between(count, 1, 16);
-    }
-    if is_name(name, b"try-some") {
-        return is_between(count, 1, 16);
-    }
-    if is_name(name, b"try-nbi") {
-        return count == 1;
-    }
-    if is_name(name, b"region-begin") {
-        return count == 0;
-    }
-    if is_name(name, b"region-end") {
-        return count == 1;
-    }
-    if is_name(name, b"notify") {
-        return count == 2;
-    }
-    if is_name(name, b"try-barrier") {
-        return count == 2;
-    }
-    false
-}
-
-/// Whether a count of words after a name is a form of call, from `put-nb-bulk` on.
-#[tactic(auto, unfolding(crate::specs::Calls::transfer_calls, crate::specs::Calls::implicit_calls))]
-pub fn transfer_call_form(name: &[u8], rest: &[u8]) -> bool
-    ensures { result ≡ named_form (λ b. false) transfer_calls name.now rest.now }
-{
-    let count = words_left(rest);
-    if is_name(name, b"put-nb-bulk") {
-        return count == 5;
-    }
-    if is_name(name, b"get-nb") {
-        return count == 5;
-    }
-    if is_name(name, b"memset-nb") {
-        return count == 5;
-    }
-    if is_name(name, b"put-nbi-bulk") {
-        return count == 4;
-    }
-    if is_name(name, b"get-nbi") {
-        return count == 4;
-    }
-    if is_name(name, b"memset-nbi") {
-        return count == 4;
-    }
-    sync_call_form(name, rest)
+    let (words, rest) = fill_at(rest)?;
+    let transfer = boxed(alloc, memset_of(words))?;
+    Ok((ScheduledCall::BeginImplicit { transfer }, rest))
 }

@@ -3,3 +3,4 @@ pub mod WordLaws
 pub mod FormLaws
 pub mod FirstBytes
 pub mod Runs
+pub mod TableLaws

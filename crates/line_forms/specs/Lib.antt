@@ -3,3 +3,4 @@ pub mod Forms
 pub mod Kinds
 pub mod FormTests
 pub mod Versions
+pub mod Tables

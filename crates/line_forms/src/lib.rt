@@ -12,6 +12,7 @@ mod operand_lists;
 mod operands;
 mod payloads;
 mod scope;
+mod tables;
 mod values;
 
 pub use bundles::are_bundles;
@@ -21,4 +22,5 @@ pub use operand_lists::{operands_at, registers_at};
 pub use operands::{NumberPlace, body_value_at, integer_at, value_at};
 pub use payloads::{body_payload_at, bytes_at, payload_at};
 pub use scope::{Scope, is_second};
+pub use tables::{LineForm, WordCount, first_named};
 pub use values::{Operand, Operands, Payload, Registers};

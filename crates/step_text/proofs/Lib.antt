@@ -3,3 +3,7 @@ pub mod VisLaws
 pub mod EventLaws
 pub mod BodyLaws
 pub mod ScriptLaws
+pub mod WaitingTable
+pub mod CollectiveTable
+pub mod BodyTables
+pub mod EventTable

@@ -3,8 +3,13 @@ use Rattle.std.specs.Prelude.{ℕ, List, [], ◌∷◌, Option, Bool, true, fals
 use Rattle.text_lines.specs.Lines.{Word}
 use Rattle.line_forms.specs.Forms.{BodyValue, BodyPayload, Kind, Shape, End, ◌▸◌, Many, Inner, Maker, Values}
 use Rattle.line_forms.specs.Forms.{Row, Entry}
-use Rattle.line_forms.specs.Forms.{table_at, entry_text, IsOf, none_at, none_text, none_fits, U64, U8}
+use Rattle.line_forms.specs.Forms.{row_at, table_at, entry_text, IsOf, none_at, none_text, none_fits, U64, U8}
 use Rattle.line_forms.specs.FormTests.{table_form}
+use Rattle.line_forms.specs.Tables.{first_named}
+use Rattle.step_text.specs.declared.action_forms.ActionForm.{ActionForm}
+use Rattle.step_text.specs.declared.action_forms.ActionForm.TheVariants as forms
+use Rattle.step_text.specs.declared.reply_forms.ReplyForm.{ReplyForm}
+use Rattle.step_text.specs.declared.reply_forms.ReplyForm.TheVariants as reply_forms
 use Rattle.step_text.specs.declared.steps.ReplyAction.{ReplyAction}
 use Rattle.step_text.specs.declared.steps.ReplyAction.TheVariants as reply
 use Rattle.step_text.specs.declared.steps.Action.{Action}
@@ -32,6 +37,24 @@ long_reply = record {
 -- the forms of replies
 abbrev pub replies : List (Row ⊥ ReplyAction)
 replies = short_reply ∷ medium_reply ∷ long_reply ∷ []
+
+-- the row of a form of the code's table
+abbrev pub reply_form_row : ReplyForm → Row ⊥ ReplyAction
+reply_form_row reply_forms.Short = short_reply
+reply_form_row reply_forms.Medium = medium_reply
+reply_form_row reply_forms.Long = long_reply
+
+-- the forms, in the order of the rows
+unfoldable pub all_replies : List ReplyForm
+all_replies = reply_forms.Short ∷ reply_forms.Medium ∷ reply_forms.Long ∷ []
+
+-- the form of this name
+unfoldable pub reply_named : Word → Option ReplyForm
+reply_named name = first_named (λ form. (reply_form_row form).name) all_replies name
+
+-- what reads the words of a form behind its name
+unfoldable pub reply_words_at : ReplyForm → List ℕ → Option (ReplyAction × List ℕ)
+reply_words_at form bytes = row_at none_at (reply_form_row form) bytes
 
 -- how a reply is written
 abbrev pub reply_entry : ReplyAction → Entry ⊥ ReplyAction
@@ -96,6 +119,32 @@ desk_actions = lock_row ∷ unlock_row ∷ attempt_row ∷ reply_row ∷ []
 -- the forms of actions
 unfoldable pub actions : List (Row ReplyAction Action)
 actions = add_row ∷ set_cell_row ∷ source_row ∷ sum_row ∷ keep_row ∷ desk_actions
+
+-- the row of a form of the code's table
+abbrev pub action_form_row : ActionForm → Row ReplyAction Action
+action_form_row forms.Add = add_row
+action_form_row forms.SetCell = set_cell_row
+action_form_row forms.Source = source_row
+action_form_row forms.Sum = sum_row
+action_form_row forms.Keep = keep_row
+action_form_row forms.Lock = lock_row
+action_form_row forms.Unlock = unlock_row
+action_form_row forms.Attempt = attempt_row
+action_form_row forms.Reply = reply_row
+
+-- the forms, in the order of the rows
+unfoldable pub action_forms : List ActionForm
+action_forms =
+    forms.Add ∷ forms.SetCell ∷ forms.Source ∷ forms.Sum ∷ forms.Keep ∷ forms.Lock ∷ forms.Unlock ∷ forms.Attempt
+    ∷ forms.Reply ∷ []
+
+-- the form of this name
+unfoldable pub action_named : Word → Option ActionForm
+action_named name = first_named (λ form. (action_form_row form).name) action_forms name
+
+-- what reads the words of a form behind its name
+unfoldable pub action_words_at : ActionForm → List ℕ → Option (Action × List ℕ)
+action_words_at form bytes = row_at reply_at (action_form_row form) bytes
 
 -- the words of an action
 abbrev pub words : (row : Row ReplyAction Action) → Values ReplyAction row.shape → Entry ReplyAction Action

@@ -6,6 +6,9 @@ use Rattle.text_lines.specs.Lines.{Word}
 use Rattle.line_forms.specs.Forms.{Collective, Shape, End, ◌▸◌, Maker, Values, Row, Entry}
 use Rattle.line_forms.specs.Forms.{table_at, entry_text, IsOf, none_at, none_text, none_fits, U64, U16}
 use Rattle.line_forms.specs.FormTests.{table_form}
+use Rattle.line_forms.specs.Tables.{first_named}
+use Rattle.step_text.specs.declared.collective_forms.CollectiveForm.{CollectiveForm}
+use Rattle.step_text.specs.declared.collective_forms.CollectiveForm.TheVariants as forms
 use Rattle.line_forms.specs.declared.scope.Scope.{Scope}
 use Rattle.step_text.specs.declared.steps.CollectiveText.{CollectiveText}
 use Rattle.step_text.specs.declared.steps.CollectiveText.TheVariants as text
@@ -32,6 +35,20 @@ try_row = form (codes "coll-try") (U64 ▸ End) text.Try
 -- the forms of such lines
 unfoldable pub collective_rows : List (Row ⊥ CollectiveText)
 collective_rows = start_row ∷ step_row ∷ try_row ∷ []
+
+-- the row of a form of the code's table
+abbrev pub form_row : CollectiveForm → Row ⊥ CollectiveText
+form_row forms.Start = start_row
+form_row forms.Step = step_row
+form_row forms.Try = try_row
+
+-- the forms, in the order of the rows
+unfoldable pub collective_forms : List CollectiveForm
+collective_forms = forms.Start ∷ forms.Step ∷ forms.Try ∷ []
+
+-- the form of this name
+unfoldable pub collective_named : Word → Option CollectiveForm
+collective_named name = first_named (λ form. (form_row form).name) collective_forms name
 
 -- the words of such a line
 abbrev pub words : (row : Row ⊥ CollectiveText) → Values ⊥ row.shape → Entry ⊥ CollectiveText

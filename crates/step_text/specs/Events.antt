@@ -3,8 +3,11 @@ use Rattle.std.specs.Prelude.{ℕ, ◌-◌, ◌^◌, ◌<◌, List, [], ◌∷�
 use Rattle.std.specs.Prelude.{decimal}
 use Rattle.text_lines.specs.Lines.{Word, ◌>>=◌, back, spaced}
 use Rattle.line_forms.specs.Forms.{Number, Shape, End, ◌▸◌, Inner, Maker, Values, Row, Entry}
-use Rattle.line_forms.specs.Forms.{word_at, table_at, entry_text, IsOf, U64, Below}
+use Rattle.line_forms.specs.Forms.{passed, row_at, word_at, table_at, entry_text, IsOf, U64, Below}
 use Rattle.line_forms.specs.FormTests.{table_form, behind}
+use Rattle.line_forms.specs.Tables.{first_named}
+use Rattle.step_text.specs.declared.event_forms.EventForm.{EventForm}
+use Rattle.step_text.specs.declared.event_forms.EventForm.TheVariants as forms
 use Rattle.step_text.specs.ThreadActions.{thread_action_at, thread_action_form, thread_action_text}
 use Rattle.step_text.specs.ThreadActions.{IsThreadAction}
 use Rattle.step_text.specs.declared.thread_actions.ThreadAction.{ThreadAction}
@@ -47,6 +50,22 @@ later_events nodes = tick_row nodes ∷ settle_row ∷ []
 abbrev pub events : (nodes threads : ℕ) → List (Row ThreadAction ScheduledEvent)
 events nodes threads = call_row nodes threads ∷ request_row nodes ∷ reply_row nodes ∷ later_events nodes
 
+-- the row of a form of the code's table
+abbrev pub event_form_row : (nodes threads : ℕ) → EventForm → Row ThreadAction ScheduledEvent
+event_form_row nodes threads forms.Call = call_row nodes threads
+event_form_row nodes threads forms.Request = request_row nodes
+event_form_row nodes threads forms.Reply = reply_row nodes
+event_form_row nodes threads forms.Tick = tick_row nodes
+event_form_row nodes threads forms.Settle = settle_row
+
+-- the forms, in the order of the rows
+unfoldable pub event_forms : List EventForm
+event_forms = forms.Call ∷ forms.Request ∷ forms.Reply ∷ forms.Tick ∷ forms.Settle ∷ []
+
+-- the form of this name: how many nodes and threads there are doesn't matter
+unfoldable pub event_named : Word → Option EventForm
+event_named name = first_named (λ form. (event_form_row 1 1 form).name) event_forms name
+
 -- the words of an event
 abbrev pub words : (row : Row ThreadAction ScheduledEvent) → Values ThreadAction row.shape
     → Entry ThreadAction ScheduledEvent
@@ -71,9 +90,11 @@ is_apart (event.Request from to number) = not (from == to)
 is_apart (event.Reply from to number) = not (from == to)
 is_apart event = true
 
--- what reads an event from `tick` on
-abbrev pub later_event_at : Scope → List ℕ → Option (ScheduledEvent × List ℕ)
-later_event_at scope bytes = table_at (thread_action_at scope) (later_events scope.settings.nodes) is_apart bytes
+-- what reads the words of a form behind its name
+unfoldable pub event_words_at : Scope → EventForm → List ℕ → Option (ScheduledEvent × List ℕ)
+event_words_at scope form bytes =
+    row_at (thread_action_at scope) (event_form_row scope.settings.nodes scope.settings.threads form) bytes
+    >>= passed is_apart
 
 -- what reads an event
 unfoldable pub event_at : Scope → List ℕ → Option (ScheduledEvent × List ℕ)

@@ -4,8 +4,11 @@ use Rattle.std.specs.Str.{bytes_eq}
 use Rattle.text_lines.specs.Lines.{Word, ◌>>=◌, ◌<|>◌, front}
 use Rattle.line_forms.specs.Forms.{Value, Integer, Implicit, Collective, Shape, End, ◌▸◌, Many, Maker, Values}
 use Rattle.line_forms.specs.Forms.{Row, Entry}
-use Rattle.line_forms.specs.Forms.{table_at, entry_text, IsOf, none_at, none_text, none_fits, U64, U16, U8}
+use Rattle.line_forms.specs.Forms.{row_at, table_at, entry_text, IsOf, none_at, none_text, none_fits, U64, U16, U8}
 use Rattle.line_forms.specs.FormTests.{table_form}
+use Rattle.line_forms.specs.Tables.{first_named}
+use Rattle.step_text.specs.declared.waiting_forms.WaitingForm.{WaitingForm}
+use Rattle.step_text.specs.declared.waiting_forms.WaitingForm.TheVariants as forms
 use Rattle.call_text.specs.Calls.{move_shape, fill_shape, call_text, IsCall}
 use Rattle.vis_text.specs.VisLines.{vis_text, IsVis}
 use Rattle.step_text.specs.CollectiveLines.{collective_text, shape_of, IsCollective}
@@ -91,6 +94,36 @@ sync_waits = wait_row ∷ wait_all_row ∷ wait_some_row ∷ wait_implicit_row �
 -- the forms of steps that wait
 unfoldable pub waits : List (Row ⊥ WaitingStep)
 waits = until_row ∷ put_row ∷ get_row ∷ memset_row ∷ put_begin_row ∷ put_implicit_row ∷ sync_waits
+
+-- the row of a form of the code's table
+abbrev pub waiting_row : WaitingForm → Row ⊥ WaitingStep
+waiting_row forms.Until = until_row
+waiting_row forms.Put = put_row
+waiting_row forms.Get = get_row
+waiting_row forms.Memset = memset_row
+waiting_row forms.PutBegin = put_begin_row
+waiting_row forms.PutImplicit = put_implicit_row
+waiting_row forms.Wait = wait_row
+waiting_row forms.WaitAll = wait_all_row
+waiting_row forms.WaitSome = wait_some_row
+waiting_row forms.WaitImplicit = wait_implicit_row
+waiting_row forms.BarrierWait = barrier_wait_row
+waiting_row forms.UntilWord = until_word_row
+waiting_row forms.Coll = coll_row
+
+-- the forms, in the order of the rows
+unfoldable pub waiting_forms : List WaitingForm
+waiting_forms =
+    forms.Until ∷ forms.Put ∷ forms.Get ∷ forms.Memset ∷ forms.PutBegin ∷ forms.PutImplicit ∷ forms.Wait
+    ∷ forms.WaitAll ∷ forms.WaitSome ∷ forms.WaitImplicit ∷ forms.BarrierWait ∷ forms.UntilWord ∷ forms.Coll ∷ []
+
+-- the form of this name
+unfoldable pub waiting_named : Word → Option WaitingForm
+waiting_named name = first_named (λ form. (waiting_row form).name) waiting_forms name
+
+-- what reads the words of a form behind its name
+unfoldable pub waiting_words_at : WaitingForm → List ℕ → Option (WaitingStep × List ℕ)
+waiting_words_at form bytes = row_at none_at (waiting_row form) bytes
 
 -- the words of such a step
 abbrev pub words : (row : Row ⊥ WaitingStep) → Values ⊥ row.shape → Entry ⊥ WaitingStep

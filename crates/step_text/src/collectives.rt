@@ -2,16 +2,17 @@
 
 ghost use Rattle.std.specs.Prelude.{◌≡◌, false};
 ghost use Rattle.step_text.specs.CollectiveLines.{collective_at, collective_form, collective_rows};
-ghost use Rattle.step_text.specs.CollectiveLines.{start_row};
+ghost use Rattle.step_text.specs.CollectiveLines.{form_row, start_row, try_row};
 ghost use Rattle.line_forms.specs.Forms.{named_at, none_at, row_at};
 ghost use Rattle.text_lines.specs.Found.{Finds};
 ghost use Rattle.line_forms.specs.FormTests.{named_form};
 ghost use Rattle.step_text.specs.Scripts.{coll_row};
 
+use crate::collective_forms::CollectiveForm;
 use crate::steps::{CollectiveText, WaitingStep};
 use collective_area::Shape;
 use line_forms::{Scope, collective_kind_at, number_at, short_at};
-use text_lines::{Other, is_name, name_of, words_left};
+use text_lines::{Other, name_of};
 
 /// The start that the words of a line say behind its name, and the bytes after them.
 fn start_at(bytes: &[u8]) -> Result<(CollectiveText, &[u8]), Other>
@@ -38,23 +39,34 @@ pub fn coll_at(bytes: &[u8]) -> Result<(WaitingStep, &[u8]), Other>
     Ok((WaitingStep::Collective { shape, from, dest }, rest))
 }
 
+/// A try to end a collective.
+fn try_at(bytes: &[u8]) -> Result<(CollectiveText, &[u8]), Other>
+    ensures { Finds (λ x. (x.0, x.1.now)) result (row_at none_at try_row bytes.now) }
+{
+    let (dest, rest) = number_at(bytes, 0, u64::MAX)?;
+    Ok((CollectiveText::Try { dest }, rest))
+}
+
+/// The call that the words behind the name of a form say, and the bytes after them.
+fn words_at(form: CollectiveForm, rest: &[u8]) -> Result<(CollectiveText, &[u8]), Other>
+    ensures { Finds (λ x. (x.0, x.1.now)) result (row_at none_at (form_row form) rest.now) }
+{
+    match form {
+        CollectiveForm::Start => start_at(rest),
+        CollectiveForm::Step => Ok((CollectiveText::Step, rest)),
+        CollectiveForm::Try => try_at(rest),
+    }
+}
+
 /// The call that a line says, by its name and the bytes after it.
-#[tactic(auto, unfolding(crate::specs::CollectiveLines::collective_rows))]
 fn named_collective_at<'a>(name: &[u8], rest: &'a [u8]) -> Result<(CollectiveText, &'a [u8]), Other>
     ensures { Finds (λ x. (x.0, x.1.now)) result
         (named_at none_at collective_rows name.now rest.now) }
 {
-    if is_name(name, b"coll-start") {
-        return start_at(rest);
-    }
-    if is_name(name, b"coll-step") {
-        return Ok((CollectiveText::Step, rest));
-    }
-    if is_name(name, b"coll-try") {
-        let (dest, rest) = number_at(rest, 0, u64::MAX)?;
-        return Ok((CollectiveText::Try { dest }, rest));
-    }
-    Err(Other)
+    let Some(form) = CollectiveForm::named(name) else {
+        return Err(Other);
+    };
+    words_at(form, rest)
 }
 
 /// The call that a line says, and the bytes after it.
@@ -74,21 +86,13 @@ pub fn collective_at<'a>(
 }
 
 /// Whether the words after a name are a form of such a line.
-#[tactic(auto, unfolding(crate::specs::CollectiveLines::collective_rows))]
 fn named_collective_form(name: &[u8], rest: &[u8]) -> bool
-    ensures { result ≡ named_form (λ b. false) collective_rows name.now rest.now }
+    ensures { result ≡ named_form (λ bytes. false) collective_rows name.now rest.now }
 {
-    let count = words_left(rest);
-    if is_name(name, b"coll-start") {
-        return count == 4;
+    match CollectiveForm::named(name) {
+        Some(form) => form.fits(rest),
+        None => false,
     }
-    if is_name(name, b"coll-step") {
-        return count == 0;
-    }
-    if is_name(name, b"coll-try") {
-        return count == 1;
-    }
-    false
 }
 
 /// Whether bytes have the form of a line that is a call of collectives.

@@ -1,16 +1,19 @@
 //! Reading lines of a schedule.
 
 ghost use Rattle.std.specs.Prelude.{◌≡◌, ◌-◌};
-ghost use Rattle.step_text.specs.Events.{event_of, later_event_at, event_at, timed_at, event_form};
+ghost use Rattle.step_text.specs.Events.{event_at, event_form, event_of, event_words_at, timed_at};
 ghost use Rattle.step_text.specs.Events.{timed_form};
+ghost use Rattle.step_text.specs.declared.event_forms.EventForm.TheVariants as forms;
+ghost use Rattle.line_forms.specs.declared.scope.Scope.{Scope};
 ghost use Rattle.line_forms.specs.Forms.{Number, part_at};
 ghost use Rattle.text_lines.specs.Found.{Finds, Reads};
 
+use crate::event_forms::EventForm;
 use crate::steps::{ScheduledEvent, TimedEvent};
-use crate::thread_actions::{ThreadAction, thread_action_at, thread_action_form};
+use crate::thread_actions::{ThreadAction, thread_action_at};
 use line_forms::{Scope, number_at, number_here, short_at};
 use std::alloc::Global;
-use text_lines::{Miss, Other, behind_name, is_name, name_of, skipped, spaced, words_left};
+use text_lines::{Miss, Other, name_of, spaced};
 
 /// A number below a count behind a space; 0 alone where there is none below it.
 #[inline(always)]
@@ -18,27 +21,6 @@ fn index_at(bytes: &[u8], count: u16) -> Result<(u16, &[u8]), Other>
     ensures { Finds (λ x. (x.0, x.1.now)) result (part_at (Number 0 (count - 1)) bytes.now) }
 {
     short_at(bytes, count.saturating_sub(1))
-}
-
-/// The event that a line says, from `tick` on, and the bytes after it.
-fn later_event_at<'a>(scope: &Scope, bytes: &'a [u8]) -> Result<(ScheduledEvent, &'a [u8]), Other>
-    ensures { Finds (λ x. (x.0, x.1.now)) result (later_event_at scope.now bytes.now) }
-{
-    let nodes = scope.settings.nodes();
-    if let Some(rest) = behind_name(bytes, b"tick") {
-        let (node, rest) = index_at(rest, nodes)?;
-        return Ok((ScheduledEvent::Tick { node }, rest));
-    }
-    if let Some(rest) = behind_name(bytes, b"settle") {
-        let (rounds, rest) = number_at(rest, 1, 4_096)?;
-        return Ok((
-            ScheduledEvent::Settle {
-                rounds: rounds as u32,
-            },
-            rest,
-        ));
-    }
-    Err(Other)
 }
 
 /// The event that a thread of a node does this.
@@ -52,8 +34,90 @@ fn event_of(node: u16, thread: u16, action: ThreadAction) -> ScheduledEvent
     }
 }
 
+/// What a thread of a node does.
+#[tactic(auto, unfolding(crate::specs::Events::event_words_at))]
+fn call_event<'a>(
+    alloc: Global,
+    scope: &Scope,
+    rest: &'a [u8],
+) -> Result<(ScheduledEvent, &'a [u8]), Miss>
+    ensures { Reads (λ x. (x.0, x.1.now)) result (event_words_at scope.now forms.Call rest.now) }
+{
+    let (node, rest) = index_at(rest, scope.settings.nodes())?;
+    let (thread, rest) = index_at(rest, scope.settings.threads())?;
+    let (action, rest) = thread_action_at(alloc, scope, spaced(rest)?)?;
+    Ok((event_of(node, thread, action), rest))
+}
+
+/// The delivery of a request.
+#[tactic(auto, unfolding(crate::specs::Events::event_words_at))]
+fn request_event<'a>(scope: &Scope, rest: &'a [u8]) -> Result<(ScheduledEvent, &'a [u8]), Miss>
+    ensures { Reads (λ x. (x.0, x.1.now)) result (event_words_at scope.now forms.Request rest.now) }
+{
+    let nodes = scope.settings.nodes();
+    let (from, rest) = index_at(rest, nodes)?;
+    let (to, rest) = index_at(rest, nodes)?;
+    let (number, rest) = number_at(rest, 1, u64::MAX)?;
+    if from == to {
+        return Err(Miss::Unlike);
+    }
+    Ok((ScheduledEvent::Request { from, to, number }, rest))
+}
+
+/// The delivery of a reply.
+#[tactic(auto, unfolding(crate::specs::Events::event_words_at))]
+fn reply_event<'a>(scope: &Scope, rest: &'a [u8]) -> Result<(ScheduledEvent, &'a [u8]), Miss>
+    ensures { Reads (λ x. (x.0, x.1.now)) result (event_words_at scope.now forms.Reply rest.now) }
+{
+    let nodes = scope.settings.nodes();
+    let (from, rest) = index_at(rest, nodes)?;
+    let (to, rest) = index_at(rest, nodes)?;
+    let (number, rest) = number_at(rest, 1, u64::MAX)?;
+    if from == to {
+        return Err(Miss::Unlike);
+    }
+    Ok((ScheduledEvent::Reply { from, to, number }, rest))
+}
+
+/// A tick of a node.
+#[tactic(auto, unfolding(crate::specs::Events::event_words_at))]
+fn tick_event<'a>(scope: &Scope, rest: &'a [u8]) -> Result<(ScheduledEvent, &'a [u8]), Miss>
+    ensures { Reads (λ x. (x.0, x.1.now)) result (event_words_at scope.now forms.Tick rest.now) }
+{
+    let (node, rest) = index_at(rest, scope.settings.nodes())?;
+    Ok((ScheduledEvent::Tick { node }, rest))
+}
+
+/// Rounds of ticks and deliveries.
+#[tactic(auto, unfolding(crate::specs::Events::event_words_at))]
+fn settle_event(rest: &[u8]) -> Result<(ScheduledEvent, &[u8]), Miss>
+    ensures { (scope : Scope) → Reads (λ x. (x.0, x.1.now)) result
+        (event_words_at scope forms.Settle rest.now) }
+{
+    let (rounds, rest) = number_at(rest, 1, 4_096)?;
+    let rounds = rounds as u32;
+    Ok((ScheduledEvent::Settle { rounds }, rest))
+}
+
+/// The event that the words behind the name of a form say, and the bytes after them.
+fn words_at<'a>(
+    alloc: Global,
+    scope: &Scope,
+    form: EventForm,
+    rest: &'a [u8],
+) -> Result<(ScheduledEvent, &'a [u8]), Miss>
+    ensures { Reads (λ x. (x.0, x.1.now)) result (event_words_at scope.now form rest.now) }
+{
+    match form {
+        EventForm::Call => call_event(alloc, scope, rest),
+        EventForm::Request => request_event(scope, rest),
+        EventForm::Reply => reply_event(scope, rest),
+        EventForm::Tick => tick_event(scope, rest),
+        EventForm::Settle => settle_event(rest),
+    }
+}
+
 /// The event that a line says, and the bytes after it.
-#[tactic(auto, unfolding(crate::specs::Events::event_at))]
 fn event_at<'a>(
     alloc: Global,
     scope: &Scope,
@@ -61,33 +125,11 @@ fn event_at<'a>(
 ) -> Result<(ScheduledEvent, &'a [u8]), Miss>
     ensures { Reads (λ x. (x.0, x.1.now)) result (event_at scope.now bytes.now) }
 {
-    let (nodes, threads) = (scope.settings.nodes(), scope.settings.threads());
-    if let Some(rest) = behind_name(bytes, b"call") {
-        let (node, rest) = index_at(rest, nodes)?;
-        let (thread, rest) = index_at(rest, threads)?;
-        let (action, rest) = thread_action_at(alloc, scope, spaced(rest)?)?;
-        return Ok((event_of(node, thread, action), rest));
-    }
-    if let Some(rest) = behind_name(bytes, b"request") {
-        let (from, rest) = index_at(rest, nodes)?;
-        let (to, rest) = index_at(rest, nodes)?;
-        let (number, rest) = number_at(rest, 1, u64::MAX)?;
-        if from == to {
-            return Err(Miss::Unlike);
-        }
-        return Ok((ScheduledEvent::Request { from, to, number }, rest));
-    }
-    if let Some(rest) = behind_name(bytes, b"reply") {
-        let (from, rest) = index_at(rest, nodes)?;
-        let (to, rest) = index_at(rest, nodes)?;
-        let (number, rest) = number_at(rest, 1, u64::MAX)?;
-        if from == to {
-            return Err(Miss::Unlike);
-        }
-        return Ok((ScheduledEvent::Reply { from, to, number }, rest));
-    }
-    let (event, rest) = later_event_at(scope, bytes)?;
-    Ok((event, rest))
+    let (name, rest) = name_of(bytes);
+    let Some(form) = EventForm::named(name) else {
+        return Err(Miss::Unlike);
+    };
+    words_at(alloc, scope, form, rest)
 }
 
 /// The line of a schedule that bytes begin with, and the bytes after it.
@@ -105,31 +147,14 @@ pub fn timed_at<'a>(
 }
 
 /// Whether bytes have the form of an event.
-#[tactic(auto, unfolding(crate::specs::Events::event_form))]
 fn event_form(scope: &Scope, bytes: &[u8]) -> bool
     ensures { result ≡ event_form scope.now bytes.now }
 {
     let (name, rest) = name_of(bytes);
-    if is_name(name, b"call") {
-        return match spaced(skipped(skipped(rest))) {
-            Ok(line) => thread_action_form(scope, line),
-            Err(_) => false,
-        };
+    match EventForm::named(name) {
+        Some(form) => form.fits(scope, rest),
+        None => false,
     }
-    let count = words_left(rest);
-    if is_name(name, b"request") {
-        return count == 3;
-    }
-    if is_name(name, b"reply") {
-        return count == 3;
-    }
-    if is_name(name, b"tick") {
-        return count == 1;
-    }
-    if is_name(name, b"settle") {
-        return count == 1;
-    }
-    false
 }
 
 /// Whether bytes have the form of a line of a schedule.

@@ -4,19 +4,21 @@ ghost use Rattle.std.specs.Prelude.{◌≡◌, false};
 ghost use Rattle.line_forms.specs.Forms.{named_at, none_at};
 ghost use Rattle.text_lines.specs.Found.{Reads};
 ghost use Rattle.line_forms.specs.FormTests.{named_form};
-ghost use Rattle.step_text.specs.Scripts.{is_waiting_name, later_waits, put, step_at, step_form};
-ghost use Rattle.step_text.specs.Scripts.{sync_waits};
-ghost use Rattle.step_text.specs.Scripts.{step_of, waiting_at, waiting_fits, waiting_form, waits};
+ghost use Rattle.step_text.specs.Scripts.{is_waiting_name, put, step_at, step_form};
+ghost use Rattle.step_text.specs.declared.waiting_forms.WaitingForm.TheVariants as forms;
+ghost use Rattle.step_text.specs.Scripts.{step_of, waiting_at, waiting_fits, waiting_form, waiting_words_at};
+ghost use Rattle.step_text.specs.Scripts.{waits};
 
 use crate::collectives::coll_at;
 use crate::steps::{PutText, ScriptStep, WaitingStep};
 use crate::thread_actions::{ThreadAction, thread_action_at, thread_action_form};
+use crate::waiting_forms::WaitingForm;
 use call_text::{Move, boxed, fill_at, get_of, memset_of, move_at, put_of};
 use line_forms::{
-    Scope, byte_at, implicit_at, integer_at, is_second, number_at, registers_at, value_at,
+    LineForm, Scope, byte_at, implicit_at, integer_at, is_second, number_at, registers_at, value_at,
 };
 use std::alloc::Global;
-use text_lines::{Miss, is_between, is_name, name_of, words_left};
+use text_lines::{Miss, is_name, name_of};
 
 /// The put of such words.
 fn put_text(words: Move) -> PutText
@@ -30,58 +32,154 @@ fn put_text(words: Move) -> PutText
     }
 }
 
-/// The step that a line says, by its name and the bytes after it, from `until-word` on.
-#[tactic(auto, unfolding(crate::specs::Scripts::later_waits))]
-fn later_wait_at<'a>(name: &[u8], rest: &'a [u8]) -> Result<(WaitingStep, &'a [u8]), Miss>
-    ensures { Reads (λ x. (x.0, x.1.now)) result (named_at none_at later_waits name.now rest.now) }
+/// Waiting until a cell holds a number at least.
+#[tactic(auto, unfolding(crate::specs::Scripts::waiting_words_at))]
+fn until_step(rest: &[u8]) -> Result<(WaitingStep, &[u8]), Miss>
+    ensures { Reads (λ x. (x.0, x.1.now)) result (waiting_words_at forms.Until rest.now) }
 {
-    if is_name(name, b"until-word") {
-        let (offset, rest) = number_at(rest, 0, u64::MAX)?;
-        let (number, rest) = number_at(rest, 0, u64::MAX)?;
-        return Ok((WaitingStep::UntilWord { offset, number }, rest));
-    }
-    if is_name(name, b"coll") {
-        let (step, rest) = coll_at(rest)?;
-        return Ok((step, rest));
-    }
-    Err(Miss::Unlike)
+    let (cell, rest) = byte_at(rest, 255)?;
+    let (operand, rest) = value_at(rest)?;
+    Ok((WaitingStep::Until { cell, operand }, rest))
 }
 
-/// The step that a line says, by its name and the bytes after it, from `wait` on.
-#[tactic(auto, unfolding(crate::specs::Scripts::sync_waits))]
-fn sync_wait_at<'a>(
-    alloc: Global,
-    name: &[u8],
-    rest: &'a [u8],
-) -> Result<(WaitingStep, &'a [u8]), Miss>
-    ensures { Reads (λ x. (x.0, x.1.now)) result (named_at none_at sync_waits name.now rest.now) }
+/// A put that is waited for.
+#[tactic(auto, unfolding(crate::specs::Scripts::waiting_words_at))]
+fn put_step(alloc: Global, rest: &[u8]) -> Result<(WaitingStep, &[u8]), Miss>
+    ensures { Reads (λ x. (x.0, x.1.now)) result (waiting_words_at forms.Put rest.now) }
 {
-    if is_name(name, b"wait") {
-        let (register, rest) = byte_at(rest, 255)?;
-        return Ok((WaitingStep::Wait { register }, rest));
+    let (words, rest) = move_at(rest)?;
+    let transfer = boxed(alloc, put_of(words))?;
+    Ok((WaitingStep::Transfer { transfer }, rest))
+}
+
+/// A get that is waited for.
+#[tactic(auto, unfolding(crate::specs::Scripts::waiting_words_at))]
+fn get_step(alloc: Global, rest: &[u8]) -> Result<(WaitingStep, &[u8]), Miss>
+    ensures { Reads (λ x. (x.0, x.1.now)) result (waiting_words_at forms.Get rest.now) }
+{
+    let (words, rest) = move_at(rest)?;
+    let transfer = boxed(alloc, get_of(words))?;
+    Ok((WaitingStep::Transfer { transfer }, rest))
+}
+
+/// A memset that is waited for.
+#[tactic(auto, unfolding(crate::specs::Scripts::waiting_words_at))]
+fn memset_step(alloc: Global, rest: &[u8]) -> Result<(WaitingStep, &[u8]), Miss>
+    ensures { Reads (λ x. (x.0, x.1.now)) result (waiting_words_at forms.Memset rest.now) }
+{
+    let (words, rest) = fill_at(rest)?;
+    let transfer = boxed(alloc, memset_of(words))?;
+    Ok((WaitingStep::Transfer { transfer }, rest))
+}
+
+/// An explicit put, until all of it was sent.
+#[tactic(auto, unfolding(crate::specs::Scripts::waiting_words_at))]
+fn put_begin_step(rest: &[u8]) -> Result<(WaitingStep, &[u8]), Miss>
+    ensures { Reads (λ x. (x.0, x.1.now)) result (waiting_words_at forms.PutBegin rest.now) }
+{
+    let (register, rest) = byte_at(rest, 255)?;
+    let (words, rest) = move_at(rest)?;
+    let put = put_text(words);
+    Ok((WaitingStep::PutBegin { register, put }, rest))
+}
+
+/// An implicit put, until all of it was sent.
+#[tactic(auto, unfolding(crate::specs::Scripts::waiting_words_at))]
+fn put_implicit_step(rest: &[u8]) -> Result<(WaitingStep, &[u8]), Miss>
+    ensures { Reads (λ x. (x.0, x.1.now)) result (waiting_words_at forms.PutImplicit rest.now) }
+{
+    let (words, rest) = move_at(rest)?;
+    let put = put_text(words);
+    Ok((WaitingStep::PutImplicit { put }, rest))
+}
+
+/// Waiting for a transfer or a region.
+#[tactic(auto, unfolding(crate::specs::Scripts::waiting_words_at))]
+fn wait_step(rest: &[u8]) -> Result<(WaitingStep, &[u8]), Miss>
+    ensures { Reads (λ x. (x.0, x.1.now)) result (waiting_words_at forms.Wait rest.now) }
+{
+    let (register, rest) = byte_at(rest, 255)?;
+    Ok((WaitingStep::Wait { register }, rest))
+}
+
+/// Waiting for all of some.
+#[tactic(auto, unfolding(crate::specs::Scripts::waiting_words_at))]
+fn wait_all_step(alloc: Global, rest: &[u8]) -> Result<(WaitingStep, &[u8]), Miss>
+    ensures { Reads (λ x. (x.0, x.1.now)) result (waiting_words_at forms.WaitAll rest.now) }
+{
+    let (registers, rest) = registers_at(alloc, rest)?;
+    Ok((WaitingStep::WaitAll { registers }, rest))
+}
+
+/// Waiting for one of some at least.
+#[tactic(auto, unfolding(crate::specs::Scripts::waiting_words_at))]
+fn wait_some_step(alloc: Global, rest: &[u8]) -> Result<(WaitingStep, &[u8]), Miss>
+    ensures { Reads (λ x. (x.0, x.1.now)) result (waiting_words_at forms.WaitSome rest.now) }
+{
+    let (registers, rest) = registers_at(alloc, rest)?;
+    Ok((WaitingStep::WaitSome { registers }, rest))
+}
+
+/// Waiting for implicit transfers.
+#[tactic(auto, unfolding(crate::specs::Scripts::waiting_words_at))]
+fn wait_implicit_step(rest: &[u8]) -> Result<(WaitingStep, &[u8]), Miss>
+    ensures { Reads (λ x. (x.0, x.1.now)) result (waiting_words_at forms.WaitImplicit rest.now) }
+{
+    let (which, rest) = implicit_at(rest)?;
+    Ok((WaitingStep::WaitImplicit { which }, rest))
+}
+
+/// Waiting at the barrier.
+#[tactic(auto, unfolding(crate::specs::Scripts::waiting_words_at))]
+fn barrier_wait_step(rest: &[u8]) -> Result<(WaitingStep, &[u8]), Miss>
+    ensures { Reads (λ x. (x.0, x.1.now)) result (waiting_words_at forms.BarrierWait rest.now) }
+{
+    let (id, rest) = integer_at(rest)?;
+    let (flags, rest) = byte_at(rest, 255)?;
+    Ok((WaitingStep::BarrierWait { id, flags }, rest))
+}
+
+/// Waiting until a word of the local segment is a number.
+#[tactic(auto, unfolding(crate::specs::Scripts::waiting_words_at))]
+fn until_word_step(rest: &[u8]) -> Result<(WaitingStep, &[u8]), Miss>
+    ensures { Reads (λ x. (x.0, x.1.now)) result (waiting_words_at forms.UntilWord rest.now) }
+{
+    let (offset, rest) = number_at(rest, 0, u64::MAX)?;
+    let (number, rest) = number_at(rest, 0, u64::MAX)?;
+    Ok((WaitingStep::UntilWord { offset, number }, rest))
+}
+
+/// A whole collective.
+#[tactic(auto, unfolding(crate::specs::Scripts::waiting_words_at))]
+fn coll_step(rest: &[u8]) -> Result<(WaitingStep, &[u8]), Miss>
+    ensures { Reads (λ x. (x.0, x.1.now)) result (waiting_words_at forms.Coll rest.now) }
+{
+    let (step, rest) = coll_at(rest)?;
+    Ok((step, rest))
+}
+
+/// The step that the words behind the name of a form say, and the bytes after them.
+fn words_at(alloc: Global, form: WaitingForm, rest: &[u8]) -> Result<(WaitingStep, &[u8]), Miss>
+    ensures { Reads (λ x. (x.0, x.1.now)) result (waiting_words_at form rest.now) }
+{
+    match form {
+        WaitingForm::Until => until_step(rest),
+        WaitingForm::Put => put_step(alloc, rest),
+        WaitingForm::Get => get_step(alloc, rest),
+        WaitingForm::Memset => memset_step(alloc, rest),
+        WaitingForm::PutBegin => put_begin_step(rest),
+        WaitingForm::PutImplicit => put_implicit_step(rest),
+        WaitingForm::Wait => wait_step(rest),
+        WaitingForm::WaitAll => wait_all_step(alloc, rest),
+        WaitingForm::WaitSome => wait_some_step(alloc, rest),
+        WaitingForm::WaitImplicit => wait_implicit_step(rest),
+        WaitingForm::BarrierWait => barrier_wait_step(rest),
+        WaitingForm::UntilWord => until_word_step(rest),
+        WaitingForm::Coll => coll_step(rest),
     }
-    if is_name(name, b"wait-all") {
-        let (registers, rest) = registers_at(alloc, rest)?;
-        return Ok((WaitingStep::WaitAll { registers }, rest));
-    }
-    if is_name(name, b"wait-some") {
-        let (registers, rest) = registers_at(alloc, rest)?;
-        return Ok((WaitingStep::WaitSome { registers }, rest));
-    }
-    if is_name(name, b"wait-nbi") {
-        let (which, rest) = implicit_at(rest)?;
-        return Ok((WaitingStep::WaitImplicit { which }, rest));
-    }
-    if is_name(name, b"barrier-wait") {
-        let (id, rest) = integer_at(rest)?;
-        let (flags, rest) = byte_at(rest, 255)?;
-        return Ok((WaitingStep::BarrierWait { id, flags }, rest));
-    }
-    later_wait_at(name, rest)
 }
 
 /// The step that a line says, by its name and the bytes after it.
-#[tactic(auto, unfolding(crate::specs::Scripts::waits))]
 fn named_wait_at<'a>(
     alloc: Global,
     name: &[u8],
@@ -89,38 +187,10 @@ fn named_wait_at<'a>(
 ) -> Result<(WaitingStep, &'a [u8]), Miss>
     ensures { Reads (λ x. (x.0, x.1.now)) result (named_at none_at waits name.now rest.now) }
 {
-    if is_name(name, b"until") {
-        let (cell, rest) = byte_at(rest, 255)?;
-        let (operand, rest) = value_at(rest)?;
-        return Ok((WaitingStep::Until { cell, operand }, rest));
-    }
-    if is_name(name, b"put") {
-        let (words, rest) = move_at(rest)?;
-        let transfer = boxed(alloc, put_of(words))?;
-        return Ok((WaitingStep::Transfer { transfer }, rest));
-    }
-    if is_name(name, b"get") {
-        let (words, rest) = move_at(rest)?;
-        let transfer = boxed(alloc, get_of(words))?;
-        return Ok((WaitingStep::Transfer { transfer }, rest));
-    }
-    if is_name(name, b"memset") {
-        let (words, rest) = fill_at(rest)?;
-        let transfer = boxed(alloc, memset_of(words))?;
-        return Ok((WaitingStep::Transfer { transfer }, rest));
-    }
-    if is_name(name, b"put-nb") {
-        let (register, rest) = byte_at(rest, 255)?;
-        let (words, rest) = move_at(rest)?;
-        let put = put_text(words);
-        return Ok((WaitingStep::PutBegin { register, put }, rest));
-    }
-    if is_name(name, b"put-nbi") {
-        let (words, rest) = move_at(rest)?;
-        let put = put_text(words);
-        return Ok((WaitingStep::PutImplicit { put }, rest));
-    }
-    sync_wait_at(alloc, name, rest)
+    let Some(form) = WaitingForm::named(name) else {
+        return Err(Miss::Unlike);
+    };
+    words_at(alloc, form, rest)
 }
 
 /// Whether a step that scripts alone have may stand in the job.
@@ -182,69 +252,22 @@ pub fn step_at<'a>(
     }
 }
 
-/// Whether so many words after a name are a form of step that scripts alone have, from `wait` on.
-#[tactic(auto, unfolding(crate::specs::Scripts::sync_waits, crate::specs::Scripts::later_waits))]
-fn sync_wait_form(name: &[u8], rest: &[u8]) -> bool
-    ensures { result ≡ named_form (λ b. false) sync_waits name.now rest.now }
-{
-    let count = words_left(rest);
-    if is_name(name, b"wait") {
-        return count == 1;
-    }
-    if is_name(name, b"wait-all") {
-        return is_between(count, 1, 16);
-    }
-    if is_name(name, b"wait-some") {
-        return is_between(count, 1, 16);
-    }
-    if is_name(name, b"wait-nbi") {
-        return count == 1;
-    }
-    if is_name(name, b"barrier-wait") {
-        return count == 2;
-    }
-    if is_name(name, b"until-word") {
-        return count == 2;
-    }
-    if is_name(name, b"coll") {
-        return count == 5;
-    }
-    false
-}
-
 /// Whether the words after a name are a form of step that scripts alone have.
-#[tactic(auto, unfolding(crate::specs::Scripts::waits))]
 fn named_wait_form(name: &[u8], rest: &[u8]) -> bool
-    ensures { result ≡ named_form (λ b. false) waits name.now rest.now }
+    ensures { result ≡ named_form (λ bytes. false) waits name.now rest.now }
 {
-    let count = words_left(rest);
-    if is_name(name, b"until") {
-        return count == 2;
+    match WaitingForm::named(name) {
+        Some(form) => form.fits(rest),
+        None => false,
     }
-    if is_name(name, b"put") {
-        return count == 4;
-    }
-    if is_name(name, b"get") {
-        return count == 4;
-    }
-    if is_name(name, b"memset") {
-        return count == 4;
-    }
-    if is_name(name, b"put-nb") {
-        return count == 5;
-    }
-    if is_name(name, b"put-nbi") {
-        return count == 4;
-    }
-    sync_wait_form(name, rest)
 }
 
 /// Whether a word names a step that waits of the job, if it names one.
 fn is_waiting_name(scope: &Scope, name: &[u8]) -> bool
     ensures { result ≡ is_waiting_name scope.now name.now }
 {
-    (is_second(scope) || !is_name(name, b"until-word"))
-        && (scope.collect || !is_name(name, b"coll"))
+    (is_second(scope) || !is_name(name, WaitingForm::UntilWord.name()))
+        && (scope.collect || !is_name(name, WaitingForm::Coll.name()))
 }
 
 /// Whether bytes have the form of a step that scripts alone have.

@@ -15,8 +15,11 @@ use Rattle.line_forms.specs.Forms.{Number, Shape, ◌▸◌, Bundles, Split, Str
 use Rattle.line_forms.specs.Forms.{Entry}
 use Rattle.line_forms.specs.Forms.{table_at, entry_text, IsOf, none_at, none_text, none_fits, U64, U16, U8}
 use Rattle.line_forms.specs.FormTests.{table_form}
+use Rattle.line_forms.specs.Tables.{first_named}
 use Rattle.line_forms.specs.Versions.{is_second}
 use Rattle.line_forms.specs.declared.scope.Scope.{Scope}
+use Rattle.vis_text.specs.declared.vis_forms.VisForm.{VisForm}
+use Rattle.vis_text.specs.declared.vis_forms.VisForm.TheVariants as forms
 use Rattle.vis_text.specs.declared.vis.VisShape.{VisShape}
 use Rattle.vis_text.specs.declared.vis.VisShape.TheVariants as shapes
 use Rattle.vis_text.specs.declared.vis.VisText.{VisText}
@@ -64,6 +67,21 @@ get_indexed_row = indexed_row (codes "get-v") Get
 -- the forms of such lines
 unfoldable pub vis_rows : List (Row ⊥ VisWords)
 vis_rows = put_strided_row ∷ get_strided_row ∷ put_indexed_row ∷ get_indexed_row ∷ []
+
+-- the row of a form of the code's table
+abbrev pub form_row : VisForm → Row ⊥ VisWords
+form_row forms.PutStrided = put_strided_row
+form_row forms.GetStrided = get_strided_row
+form_row forms.PutIndexed = put_indexed_row
+form_row forms.GetIndexed = get_indexed_row
+
+-- the forms, in the order of the rows
+unfoldable pub vis_forms : List VisForm
+vis_forms = forms.PutStrided ∷ forms.GetStrided ∷ forms.PutIndexed ∷ forms.GetIndexed ∷ []
+
+-- the form of this name
+unfoldable pub vis_named : Word → Option VisForm
+vis_named name = first_named (λ form. (form_row form).name) vis_forms name
 
 -- the words of such a line
 abbrev pub entry : (row : Row ⊥ VisWords) → Values ⊥ row.shape → Entry ⊥ VisWords

@@ -5,7 +5,9 @@
 #![tactic(auto)]
 
 mod vis;
+mod vis_forms;
 mod vis_lines;
 
 pub use vis::{BoxedVis, Levels, SegmentRanges, VisShape, VisText, VisWords};
+pub use vis_forms::VisForm;
 pub use vis_lines::{vis_at, vis_form};

@@ -6,16 +6,17 @@ ghost use Rattle.line_forms.specs.Forms.{Number, Spans, Strides, bundle_at, bund
 ghost use Rattle.line_forms.specs.Forms.{none_at};
 ghost use Rattle.line_forms.specs.Forms.{part_at, row_at, split_at};
 ghost use Rattle.text_lines.specs.Found.{Finds, Reads};
-ghost use Rattle.line_forms.specs.FormTests.{are_split, named_form};
-ghost use Rattle.vis_text.specs.VisLines.{indexed_row, plan_in, shape_fault, strided_row};
+ghost use Rattle.line_forms.specs.FormTests.{named_form};
+ghost use Rattle.vis_text.specs.VisLines.{form_row, indexed_row, plan_in, shape_fault, strided_row};
 ghost use Rattle.vis_text.specs.VisLines.{vis_at, vis_form, vis_plan, vis_rows};
 
 use crate::vis::{BoxedVis, Levels, SegmentRanges, VisShape, VisText, VisWords};
+use crate::vis_forms::VisForm;
 use datagram_grammar::Settings;
 use gas_strided::{Indexed, Level, Plan, PlanFault, Strided, Way};
-use line_forms::{Scope, are_bundles, byte_at, is_second, number_at, short_at};
+use line_forms::{Scope, byte_at, is_second, number_at, short_at};
 use std::alloc::Global;
-use text_lines::{Miss, Other, has_more, is_name, name_of, skipped, words_left};
+use text_lines::{Miss, Other, has_more, name_of};
 
 /// A level behind a space.
 #[tactic(auto, unfolding(line_forms::specs::Forms::bundle_at))]
@@ -81,7 +82,7 @@ fn ranges_at(
 }
 
 /// How many ranges come first, behind a space.
-fn count_at(bytes: &[u8]) -> Result<(usize, &[u8]), Other>
+pub(crate) fn count_at(bytes: &[u8]) -> Result<(usize, &[u8]), Other>
     ensures value { Finds (λ x. (x.0, x.1.now)) result (part_at (Number 1 16) bytes.now) }
     ensures range { IfOk result (λ x. (1 ≤ x.0) × (x.0 ≤ 16)) }
 {
@@ -148,8 +149,19 @@ fn indexed_at(alloc: Global, way: Way, bytes: &[u8]) -> Result<(VisWords, &[u8])
     Ok((words, rest))
 }
 
+/// What the words behind the name of a form say, and the bytes after them.
+fn words_at(alloc: Global, form: VisForm, rest: &[u8]) -> Result<(VisWords, &[u8]), Miss>
+    ensures { Reads (λ x. (x.0, x.1.now)) result (row_at none_at (form_row form) rest.now) }
+{
+    match form {
+        VisForm::PutStrided => strided_at(alloc, Way::Put, rest),
+        VisForm::GetStrided => strided_at(alloc, Way::Get, rest),
+        VisForm::PutIndexed => indexed_at(alloc, Way::Put, rest),
+        VisForm::GetIndexed => indexed_at(alloc, Way::Get, rest),
+    }
+}
+
 /// What a line says, by its name and the bytes after it.
-#[tactic(auto, unfolding(crate::specs::VisLines::vis_rows))]
 fn named_vis_at<'a>(
     alloc: Global,
     name: &[u8],
@@ -157,19 +169,10 @@ fn named_vis_at<'a>(
 ) -> Result<(VisWords, &'a [u8]), Miss>
     ensures { Reads (λ x. (x.0, x.1.now)) result (named_at none_at vis_rows name.now rest.now) }
 {
-    if is_name(name, b"put-s") {
-        return strided_at(alloc, Way::Put, rest);
-    }
-    if is_name(name, b"get-s") {
-        return strided_at(alloc, Way::Get, rest);
-    }
-    if is_name(name, b"put-v") {
-        return indexed_at(alloc, Way::Put, rest);
-    }
-    if is_name(name, b"get-v") {
-        return indexed_at(alloc, Way::Get, rest);
-    }
-    Err(Miss::Unlike)
+    let Some(form) = VisForm::named(name) else {
+        return Err(Miss::Unlike);
+    };
+    words_at(alloc, form, rest)
 }
 
 /// The plan of such words.
@@ -250,35 +253,14 @@ pub fn vis_at<'a>(
     Ok((BoxedVis { inside }, rest))
 }
 
-/// Whether so many words are those of a counted list of ranges and another, by the bytes from the count on.
-fn are_split(words: usize, bytes: &[u8]) -> bool
-    ensures { result ≡ are_split 3 16 2 words (part_at (Number 1 16) bytes.now) }
-{
-    match count_at(bytes) {
-        Ok((count, _)) => are_bundles(words, 4 + 2 * count, 1, 16, 2),
-        Err(Other) => are_bundles(words, 4, 2, 32, 2),
-    }
-}
-
 /// Whether the words after a name are a form of such a line.
-#[tactic(auto, unfolding(crate::specs::VisLines::vis_rows))]
 fn named_vis_form(name: &[u8], rest: &[u8]) -> bool
-    ensures { result ≡ named_form (λ b. false) vis_rows name.now rest.now }
+    ensures { result ≡ named_form (λ bytes. false) vis_rows name.now rest.now }
 {
-    let count = words_left(rest);
-    if is_name(name, b"put-s") {
-        return are_bundles(count, 6, 0, 4, 3);
+    match VisForm::named(name) {
+        Some(form) => form.fits(rest),
+        None => false,
     }
-    if is_name(name, b"get-s") {
-        return are_bundles(count, 6, 0, 4, 3);
-    }
-    if is_name(name, b"put-v") {
-        return are_split(count, skipped(skipped(skipped(rest))));
-    }
-    if is_name(name, b"get-v") {
-        return are_split(count, skipped(skipped(skipped(rest))));
-    }
-    false
 }
 
 /// Whether bytes have the form of a line that begins a transfer of many pieces.
