@@ -25,6 +25,7 @@ use Rattle.call_text.specs.declared.forms.CallForm.{CallForm}
 use Rattle.call_text.specs.declared.forms.CallForm.TheVariants as forms
 use Rattle.call_text.specs.declared.scheduled.ScheduledCall.{ScheduledCall}
 use Rattle.call_text.specs.declared.scheduled.ScheduledCall.TheVariants as call
+use Rattle.datagram_grammar.specs.declared.limits.TheConstants.{MAX_PAYLOAD}
 
 -- a form of call
 abbrev pub form : Word → (shape : Shape) → Maker ⊥ shape ScheduledCall → Row ⊥ ScheduledCall
@@ -73,7 +74,7 @@ abbrev pub set_cell_row : Row ⊥ ScheduledCall
 set_cell_row = form (codes "set-cell") (U8 ▸ Value ▸ End) call.SetCell
 
 abbrev pub show_row : Row ⊥ ScheduledCall
-show_row = form (codes "show") (U64 ▸ Number 0 8192 ▸ End) call.Show
+show_row = form (codes "show") (U64 ▸ Number 0 MAX_PAYLOAD ▸ End) call.Show
 
 abbrev pub set_row : Row ⊥ ScheduledCall
 set_row = form (codes "set") (U64 ▸ Bytes ▸ End) call.Set

@@ -7,9 +7,13 @@ ghost use Rattle.line_forms.specs.declared.scope.Scope.{Scope};
 ghost use Rattle.text_lines.specs.Found.{Reads};
 
 use crate::scheduled::ScheduledCall;
+use datagram_grammar::MAX_PAYLOAD;
 use line_forms::{byte_at, bytes_at, kind_at, number_at, short_at, value_at};
 use std::alloc::Global;
 use text_lines::Miss;
+
+/// The most bytes that are shown at once: those of a payload.
+const MOST_SHOWN: u16 = MAX_PAYLOAD as u16;
 
 /// The locking of a lock.
 pub(crate) fn lock_call(rest: &[u8]) -> Result<(ScheduledCall, &[u8]), Miss>
@@ -71,7 +75,7 @@ pub(crate) fn show_call(rest: &[u8]) -> Result<(ScheduledCall, &[u8]), Miss>
         (form_at scope forms.Show rest.now) }
 {
     let (offset, rest) = number_at(rest, 0, u64::MAX)?;
-    let (len, rest) = short_at(rest, 8_192)?;
+    let (len, rest) = short_at(rest, MOST_SHOWN)?;
     Ok((ScheduledCall::Show { offset, len }, rest))
 }
 

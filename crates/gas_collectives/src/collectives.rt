@@ -6,8 +6,11 @@ ghost use Rattle.gas_collectives.specs.CollectivesState.{IsFresh, Stands, no_nod
 ghost use Rattle.gas_collectives.specs.Progress.{is_open};
 
 use collective_area::{CollectiveKind, Shape};
-use datagram_grammar::Settings;
+use datagram_grammar::{MAX_PAYLOAD, Settings};
 use std::marker::Model;
+
+/// The most bytes of a part: those of a payload.
+const MAX_ROOM: u64 = MAX_PAYLOAD as u64;
 
 /// The collectives of a node: the settings of its job, its area, and how far it is. The node runs them in order, phase 0
 /// first, one at a time.
@@ -80,7 +83,7 @@ impl Collectives {
         ensures none { IfNone result (IsArea settings.now.segment
             (record { nodes = settings.now.nodes; base = base; room = room }) → ⊥) }
     {
-        if base % 8 != 0 || room % 8 != 0 || room == 0 || room > 8192 {
+        if base % 8 != 0 || room % 8 != 0 || room == 0 || room > MAX_ROOM {
             return None;
         }
         let size = 2 * u64::from(settings.nodes()) * (16 + room);

@@ -15,6 +15,7 @@ ghost use Rattle.gas_collectives.specs.Ends.{HasPiece, giver_by, result_in};
 use crate::answers::EndAnswer;
 use crate::collectives::Collectives;
 use collective_area::CollectiveKind;
+use datagram_grammar::MAX_PAYLOAD;
 use raw_segment::{Plain, Segment};
 
 /// The number whose bytes begin at an offset, little-endian.
@@ -233,7 +234,7 @@ impl Collectives {
     }
 
     /// A piece of the result, in the first bytes, where the segment is as long as the settings say; none of any other.
-    pub(crate) fn piece(&self, segment: &Segment, index: u16) -> Option<[u8; 8192]>
+    pub(crate) fn piece(&self, segment: &Segment, index: u16) -> Option<[u8; MAX_PAYLOAD]>
         requires { HasPiece self.now index }
         ensures some { IfSome result (λ piece. slice_get (result_in self.now segment.now) index
             ≡ Some (take self.now.shape.len piece)) }
@@ -241,7 +242,7 @@ impl Collectives {
     {
         match self.bytes(segment) {
             Some(bytes) => {
-                let mut piece = [0; 8192];
+                let mut piece = [0; MAX_PAYLOAD];
                 self.fill_piece(bytes, index, &mut piece[..self.data_len()]);
                 Some(piece)
             }
@@ -252,7 +253,7 @@ impl Collectives {
     /// How many bytes each node gives.
     pub(crate) fn data_len(&self) -> usize
         ensures len { result ≡ self.now.shape.len }
-        ensures few { result ≤ 8192 }
+        ensures few { result ≤ MAX_PAYLOAD }
     {
         self.shape.len as usize
     }

@@ -82,35 +82,35 @@ IsReply reply = IsOf none_fits reply_entry (λ reply. true) reply
 
 -- ---- actions
 
-abbrev pub form : Word → (shape : Shape) → Maker ReplyAction shape Action → Row ReplyAction Action
-form name shape make = record { name = name; shape = shape; make = make }
+abbrev pub row_of_action : Word → (shape : Shape) → Maker ReplyAction shape Action → Row ReplyAction Action
+row_of_action name shape make = record { name = name; shape = shape; make = make }
 
 abbrev pub add_row : Row ReplyAction Action
-add_row = form (codes "add") (U8 ▸ BodyValue ▸ End) action.Add
+add_row = row_of_action (codes "add") (U8 ▸ BodyValue ▸ End) action.Add
 
 abbrev pub set_cell_row : Row ReplyAction Action
-set_cell_row = form (codes "set-cell") (U8 ▸ BodyValue ▸ End) action.SetCell
+set_cell_row = row_of_action (codes "set-cell") (U8 ▸ BodyValue ▸ End) action.SetCell
 
 abbrev pub source_row : Row ReplyAction Action
-source_row = form (codes "source") (U8 ▸ End) action.Source
+source_row = row_of_action (codes "source") (U8 ▸ End) action.Source
 
 abbrev pub sum_row : Row ReplyAction Action
-sum_row = form (codes "sum") (U8 ▸ End) action.Sum
+sum_row = row_of_action (codes "sum") (U8 ▸ End) action.Sum
 
 abbrev pub keep_row : Row ReplyAction Action
-keep_row = form (codes "keep") (U64 ▸ End) action.Keep
+keep_row = row_of_action (codes "keep") (U64 ▸ End) action.Keep
 
 abbrev pub lock_row : Row ReplyAction Action
-lock_row = form (codes "lock") (U8 ▸ End) action.Lock
+lock_row = row_of_action (codes "lock") (U8 ▸ End) action.Lock
 
 abbrev pub unlock_row : Row ReplyAction Action
-unlock_row = form (codes "unlock") (U8 ▸ End) action.Unlock
+unlock_row = row_of_action (codes "unlock") (U8 ▸ End) action.Unlock
 
 abbrev pub attempt_row : Row ReplyAction Action
-attempt_row = form (codes "attempt") (Kind ▸ End) action.Attempt
+attempt_row = row_of_action (codes "attempt") (Kind ▸ End) action.Attempt
 
 abbrev pub reply_row : Row ReplyAction Action
-reply_row = form (codes "reply") Inner action.Reply
+reply_row = row_of_action (codes "reply") Inner action.Reply
 
 -- the forms of actions from `lock` on
 unfoldable pub desk_actions : List (Row ReplyAction Action)

@@ -14,8 +14,8 @@ use Rattle.step_text.specs.declared.steps.CollectiveText.{CollectiveText}
 use Rattle.step_text.specs.declared.steps.CollectiveText.TheVariants as text
 
 -- a form of such a line
-abbrev pub form : Word → (shape : Shape) → Maker ⊥ shape CollectiveText → Row ⊥ CollectiveText
-form name shape make = record { name = name; shape = shape; make = make }
+abbrev pub row_of_collective : Word → (shape : Shape) → Maker ⊥ shape CollectiveText → Row ⊥ CollectiveText
+row_of_collective name shape make = record { name = name; shape = shape; make = make }
 
 -- a collective
 abbrev pub shape_of : CollectiveKind → (root len : ℕ) → CollectiveShape
@@ -23,14 +23,14 @@ shape_of kind root len = record { kind = kind; root = root; len = len }
 
 -- the kind, the root, the first byte that the node gives, and how many bytes it gives
 abbrev pub start_row : Row ⊥ CollectiveText
-start_row = form (codes "coll-start") (Collective ▸ U16 ▸ U64 ▸ U64 ▸ End)
+start_row = row_of_collective (codes "coll-start") (Collective ▸ U16 ▸ U64 ▸ U64 ▸ End)
     (λ kind root from len. text.Start (shape_of kind root len) from)
 
 abbrev pub step_row : Row ⊥ CollectiveText
-step_row = form (codes "coll-step") End text.Step
+step_row = row_of_collective (codes "coll-step") End text.Step
 
 abbrev pub try_row : Row ⊥ CollectiveText
-try_row = form (codes "coll-try") (U64 ▸ End) text.Try
+try_row = row_of_collective (codes "coll-try") (U64 ▸ End) text.Try
 
 -- the forms of such lines
 unfoldable pub collective_rows : List (Row ⊥ CollectiveText)

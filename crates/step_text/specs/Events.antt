@@ -18,8 +18,8 @@ use Rattle.step_text.specs.declared.steps.ScheduledEvent.TheVariants as event
 use Rattle.step_text.specs.declared.steps.TimedEvent.{TimedEvent}
 
 -- a form of event
-abbrev pub form : Word → (shape : Shape) → Maker ThreadAction shape ScheduledEvent → Row ThreadAction ScheduledEvent
-form name shape make = record { name = name; shape = shape; make = make }
+abbrev pub row_of_event : Word → (shape : Shape) → Maker ThreadAction shape ScheduledEvent → Row ThreadAction ScheduledEvent
+row_of_event name shape make = record { name = name; shape = shape; make = make }
 
 -- what a thread of a node does
 abbrev pub event_of : (node thread : ℕ) → ThreadAction → ScheduledEvent
@@ -28,19 +28,19 @@ event_of node thread (does.Vis vis) = event.Vis node thread vis
 event_of node thread (does.Collective call) = event.Collective node thread call
 
 abbrev pub call_row : (nodes threads : ℕ) → Row ThreadAction ScheduledEvent
-call_row nodes threads = form (codes "call") (Below nodes ▸ Below threads ▸ Inner) event_of
+call_row nodes threads = row_of_event (codes "call") (Below nodes ▸ Below threads ▸ Inner) event_of
 
 abbrev pub request_row : (nodes : ℕ) → Row ThreadAction ScheduledEvent
-request_row nodes = form (codes "request") (Below nodes ▸ Below nodes ▸ Number 1 (2 ^ 64 - 1) ▸ End) event.Request
+request_row nodes = row_of_event (codes "request") (Below nodes ▸ Below nodes ▸ Number 1 (2 ^ 64 - 1) ▸ End) event.Request
 
 abbrev pub reply_row : (nodes : ℕ) → Row ThreadAction ScheduledEvent
-reply_row nodes = form (codes "reply") (Below nodes ▸ Below nodes ▸ Number 1 (2 ^ 64 - 1) ▸ End) event.Reply
+reply_row nodes = row_of_event (codes "reply") (Below nodes ▸ Below nodes ▸ Number 1 (2 ^ 64 - 1) ▸ End) event.Reply
 
 abbrev pub tick_row : (nodes : ℕ) → Row ThreadAction ScheduledEvent
-tick_row nodes = form (codes "tick") (Below nodes ▸ End) event.Tick
+tick_row nodes = row_of_event (codes "tick") (Below nodes ▸ End) event.Tick
 
 abbrev pub settle_row : Row ThreadAction ScheduledEvent
-settle_row = form (codes "settle") (Number 1 4096 ▸ End) event.Settle
+settle_row = row_of_event (codes "settle") (Number 1 4096 ▸ End) event.Settle
 
 -- from `tick` on
 abbrev pub later_events : (nodes : ℕ) → List (Row ThreadAction ScheduledEvent)

@@ -28,24 +28,24 @@ use Rattle.step_text.specs.declared.steps.WaitingStep.TheVariants as waiting
 -- ---- what scripts alone have
 
 -- a form of step that waits
-abbrev pub form : Word → (shape : Shape) → Maker ⊥ shape WaitingStep → Row ⊥ WaitingStep
-form name shape make = record { name = name; shape = shape; make = make }
+abbrev pub row_of_step : Word → (shape : Shape) → Maker ⊥ shape WaitingStep → Row ⊥ WaitingStep
+row_of_step name shape make = record { name = name; shape = shape; make = make }
 
 abbrev pub until_row : Row ⊥ WaitingStep
-until_row = form (codes "until") (U8 ▸ Value ▸ End) waiting.Until
+until_row = row_of_step (codes "until") (U8 ▸ Value ▸ End) waiting.Until
 
 abbrev pub until_word_row : Row ⊥ WaitingStep
-until_word_row = form (codes "until-word") (U64 ▸ U64 ▸ End) waiting.UntilWord
+until_word_row = row_of_step (codes "until-word") (U64 ▸ U64 ▸ End) waiting.UntilWord
 
 -- blocking transfers (GASNet 1.8.1, extended API: gasnet_put, gasnet_get, gasnet_memset)
 abbrev pub put_row : Row ⊥ WaitingStep
-put_row = form (codes "put") move_shape (λ to remote local len. waiting.Transfer (transfer.Put to remote local len))
+put_row = row_of_step (codes "put") move_shape (λ to remote local len. waiting.Transfer (transfer.Put to remote local len))
 
 abbrev pub get_row : Row ⊥ WaitingStep
-get_row = form (codes "get") move_shape (λ to remote local len. waiting.Transfer (transfer.Get to remote local len))
+get_row = row_of_step (codes "get") move_shape (λ to remote local len. waiting.Transfer (transfer.Get to remote local len))
 
 abbrev pub memset_row : Row ⊥ WaitingStep
-memset_row = form (codes "memset") fill_shape
+memset_row = row_of_step (codes "memset") fill_shape
     (λ to remote len byte. waiting.Transfer (transfer.Memset to remote len byte))
 
 -- puts that wait until all was sent (gasnet_put_nb, gasnet_put_nbi)
@@ -53,34 +53,34 @@ abbrev pub put : (to remote local len : ℕ) → PutText
 put to remote local len = record { to = to; remote = remote; local = local; len = len }
 
 abbrev pub put_begin_row : Row ⊥ WaitingStep
-put_begin_row = form (codes "put-nb") (U8 ▸ move_shape)
+put_begin_row = row_of_step (codes "put-nb") (U8 ▸ move_shape)
     (λ register to remote local len. waiting.PutBegin register (put to remote local len))
 
 abbrev pub put_implicit_row : Row ⊥ WaitingStep
-put_implicit_row = form (codes "put-nbi") move_shape
+put_implicit_row = row_of_step (codes "put-nbi") move_shape
     (λ to remote local len. waiting.PutImplicit (put to remote local len))
 
 -- synchronisation that waits (gasnet_wait_syncnb and its like), of up to 16 registers
 abbrev pub wait_row : Row ⊥ WaitingStep
-wait_row = form (codes "wait") (U8 ▸ End) waiting.Wait
+wait_row = row_of_step (codes "wait") (U8 ▸ End) waiting.Wait
 
 abbrev pub wait_all_row : Row ⊥ WaitingStep
-wait_all_row = form (codes "wait-all") (Many 1 16 U8) waiting.WaitAll
+wait_all_row = row_of_step (codes "wait-all") (Many 1 16 U8) waiting.WaitAll
 
 abbrev pub wait_some_row : Row ⊥ WaitingStep
-wait_some_row = form (codes "wait-some") (Many 1 16 U8) waiting.WaitSome
+wait_some_row = row_of_step (codes "wait-some") (Many 1 16 U8) waiting.WaitSome
 
 abbrev pub wait_implicit_row : Row ⊥ WaitingStep
-wait_implicit_row = form (codes "wait-nbi") (Implicit ▸ End) waiting.WaitImplicit
+wait_implicit_row = row_of_step (codes "wait-nbi") (Implicit ▸ End) waiting.WaitImplicit
 
 -- the barrier (gasnet_barrier_wait)
 abbrev pub barrier_wait_row : Row ⊥ WaitingStep
-barrier_wait_row = form (codes "barrier-wait") (Integer ▸ U8 ▸ End) waiting.BarrierWait
+barrier_wait_row = row_of_step (codes "barrier-wait") (Integer ▸ U8 ▸ End) waiting.BarrierWait
 
 -- a whole collective (this project's profile): the kind, the root, the first byte that the node gives, how many bytes it
 -- gives, and where the result goes
 abbrev pub coll_row : Row ⊥ WaitingStep
-coll_row = form (codes "coll") (Collective ▸ U16 ▸ U64 ▸ U64 ▸ U64 ▸ End)
+coll_row = row_of_step (codes "coll") (Collective ▸ U16 ▸ U64 ▸ U64 ▸ U64 ▸ End)
     (λ kind root from len dest. waiting.Collective (shape_of kind root len) from dest)
 
 -- from `until-word` on

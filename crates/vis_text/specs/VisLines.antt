@@ -26,8 +26,8 @@ use Rattle.vis_text.specs.declared.vis.VisText.{VisText}
 use Rattle.vis_text.specs.declared.vis.VisWords.{VisWords}
 
 -- a form of such a line
-abbrev pub form : Word → (shape : Shape) → Maker ⊥ shape VisWords → Row ⊥ VisWords
-form name shape make = record { name = name; shape = shape; make = make }
+abbrev pub row_of_vis : Word → (shape : Shape) → Maker ⊥ shape VisWords → Row ⊥ VisWords
+row_of_vis name shape make = record { name = name; shape = shape; make = make }
 
 -- what the words say
 abbrev pub words_of : Way → (register from to : ℕ) → VisShape → VisWords
@@ -40,7 +40,7 @@ abbrev pub strided_shape : Shape
 strided_shape = U8 ▸ Number 0 1024 ▸ U16 ▸ U64 ▸ U64 ▸ U64 ▸ Bundles 0 4 Strides
 
 abbrev pub strided_row : Word → Way → Row ⊥ VisWords
-strided_row name way = form name strided_shape
+strided_row name way = row_of_vis name strided_shape
     (λ register from to remote local len levels.
     words_of way register from to (shapes.Strided remote local len levels))
 
@@ -49,7 +49,7 @@ abbrev pub indexed_shape : Shape
 indexed_shape = U8 ▸ Number 0 1024 ▸ U16 ▸ Split 16 Spans
 
 abbrev pub indexed_row : Word → Way → Row ⊥ VisWords
-indexed_row name way = form name indexed_shape
+indexed_row name way = row_of_vis name indexed_shape
     (λ register from to remote local. words_of way register from to (shapes.Indexed remote local))
 
 abbrev pub put_strided_row : Row ⊥ VisWords
