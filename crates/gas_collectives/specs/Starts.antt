@@ -46,10 +46,6 @@ started_then start_answers.Started it shape = record it {
 }
 started_then other it shape = it
 
--- such an answer leaves all as it was
-abbrev pub IsNoStart : StartAnswer → Type 0
-IsNoStart answer = (it : CollectivesState) (shape : Shape) → started_then answer it shape ≡ it
-
 -- what a start that isn't refused has
 pub record Passes (it : CollectivesState) (shape : Shape) (from : ℕ) : Type 0 where
   pub shut : it.started ≡ it.ended
