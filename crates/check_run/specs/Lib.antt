@@ -11,3 +11,4 @@ pub mod Machines
 pub mod TracesEnds
 pub mod JobLaws
 pub mod NodeReplays
+pub mod Turned

@@ -29,7 +29,7 @@
 //! - `replay_output` [`ReplaysOutput`]: what the output of a node tells by itself, also where the traces are no run: its
 //!   record after the turns that can be taken, with the lines of the steps that ended in them, whether its scripts are
 //!   over, how many of its requests are open, and what it sent. No clause speaks of which outputs `replay_input` and
-//!   `replay_given` give it.
+//!   `replay_given` give it. Of those replays `first_unsent` [`IsFirstUnsent`] is the first entry that got what none sent.
 //!
 //! Each node's trace is replayed once, in the merge, where entries of all nodes go as they can: its machine records the
 //! lines of its steps (`Recorder`), which are written once the traces are known to be a run.

@@ -1,6 +1,9 @@
 //! The replays of the outputs of several nodes.
 
+ghost use Rattle.std.specs.Prelude.{◌≡◌, MatchOption, option_map};
 ghost use Rattle.job_text.specs.JobText.{IsJob};
+ghost use Rattle.trace_replay.specs.Sending.{AreAllSent, IsFirstUnsent};
+ghost use Rattle.check_run.specs.Turned.{turned_at};
 
 use crate::input::{CheckInput, InputFault, LIMIT, input_of, wanted_of};
 use crate::node_replay::{NodeReplay, replay_output};
@@ -57,12 +60,18 @@ impl NodeReplays {
     }
 
     /// What the turns of the node at this place sent.
-    pub fn sent(&self, place: usize) -> Option<&Replayed> {
+    pub fn sent(&self, place: usize) -> Option<&Replayed>
+        ensures { option_map (λ turned. turned.now) result ≡ turned_at self.now place }
+    {
         self.sent.get(place)
     }
 
     /// The first entry of a node, counted from 0, that got a datagram which the turns of no node sent to it.
-    pub fn first_unsent(&self, node: &NodeReplay) -> Option<usize> {
+    pub fn first_unsent(&self, node: &NodeReplay) -> Option<usize>
+        ensures { MatchOption result
+            (AreAllSent self.now.sent.items node.now.trace.rank node.now.trace.entries)
+            (IsFirstUnsent self.now.sent.items node.now.trace.rank node.now.trace.entries) }
+    {
         first_unsent(&self.sent, node.trace.rank, node.trace.entries.as_slice())
     }
 }

@@ -20,41 +20,41 @@
 //! port is made with the words of one that was free. `main` itself promises nothing.
 #![tactic(auto)]
 
-mod after;
 mod again;
-mod command;
+mod facts;
 mod notes;
 mod ports;
 mod progress;
 mod replays;
 mod run;
 mod settings;
+mod texts;
 
-use crate::after::{Outcome, after};
-use crate::again::is_file;
-use crate::command::Command;
-use crate::notes::StandardNotes;
+use crate::again::InputFile;
+use crate::facts::KeptEnds;
+use crate::ports::SystemPorts;
 use crate::progress::shown_progress;
-use crate::run::{Behind, run};
-use crate::settings::settings;
-use real_outside::{ChildEnds, LinkSocket, ProcessSpawner, SocketWaiter, SystemClock, UdpLink};
+use crate::replays::OutputReplays;
+use crate::run::{Devices, run_over};
+use crate::settings::SystemEnvironment;
+use crate::texts::UserTexts;
+use real_outside::{ChildEnds, LinkSocket};
 use run_report::{
-    CountedSpawner, Refusal, SettingsTold, StandardError, fault_line, is_node, tell_made,
+    Command, Outcome, Refusal, StandardError, hosts_told, is_node, settings_told, tell_after,
+    tell_fault, tell_help, with_port,
 };
-use sealed_link::{Dropped, Key, SealedLink};
-use std::alloc::AllocError;
 use std::env;
-use std::io::IsTerminal;
-use std::process::ExitCode;
+use std::io::{Eprint, Input, IsTerminal, Print};
+use std::net::Net;
+use std::process::{ExitCode, Processes, SystemProcess};
+use std::rt::{Clock, Env, Files};
+use std::sync::Wait;
+use std::thread::Threads;
 use top_call::words_of;
-use user_text::help_for;
 
 /// Ends the program before any command, for what the environment sets.
 fn refuse(rt: &HostRuntime, why: Refusal) -> ExitCode {
-    tell_made(
-        &mut StandardError::new(rt),
-        &fault_line(rt.alloc(), why.text()),
-    );
+    tell_fault(rt.alloc(), why.text(), &mut StandardError::new(rt));
     let line = why.line();
     match println!(rt; "{line}") {
         Ok(()) => ExitCode::from(why.code()),
@@ -62,88 +62,63 @@ fn refuse(rt: &HostRuntime, why: Refusal) -> ExitCode {
     }
 }
 
-/// Tells the help that the words ask for. False where they ask for none.
-fn tell_help(rt: &HostRuntime, words: &[String]) -> bool {
-    let help = help_for(rt.alloc(), words);
-    let is_help = matches!(&help, Ok(text) if !text.is_empty());
-    tell_made(&mut StandardError::new(rt), &help);
-    is_help
-}
-
-/// The spawner of the program that `launch` starts. How its children end is kept there.
-fn spawner(
-    rt: HostRuntime,
-    agent: Option<String>,
-    folder: Option<String>,
-    ends: &ChildEnds,
-) -> ProcessSpawner<'_, HostRuntime> {
-    let mut spawner = match agent {
-        Some(agent) => ProcessSpawner::new(rt, rt.alloc(), agent, ends),
-        None => ProcessSpawner::of_own_program(rt, ends),
+/// Does what the words of the command line say, and tells of it.
+///
+/// # Errors
+///
+/// A `Refusal` before any command, for what the environment sets, or for want of memory.
+fn program<
+    H: AllocGlobal
+        + Input
+        + Print
+        + Eprint
+        + Threads
+        + Wait
+        + Net
+        + Clock
+        + Processes<Started = SystemProcess>
+        + Env
+        + Files
+        + Clone
+        + Copy
+        + Send
+        + Sync
+        + Drop
+        + 'static,
+>(rt: H, words: Vec<String>, is_terminal: bool) -> Result<ExitCode, Refusal> {
+    let (alloc, mut person) = (rt.alloc(), StandardError::new(&rt));
+    let is_help = tell_help::<UserTexts, _>(alloc, &words, &mut person);
+    let environment = SystemEnvironment::new(&rt);
+    let hosts = hosts_told(alloc, &environment)?;
+    let settings = settings_told(&environment)?;
+    let (words, ports) = with_port(alloc, words, &SystemPorts::new(&rt), &mut person);
+    let is_shown = !is_node(&words) && is_terminal;
+    let input = InputFile::new(&rt);
+    let mut command = Command::new(alloc, words, settings.steps, !input.is_unread());
+    let progress = shown_progress(&rt, is_shown)?;
+    let (socket, ends) = (LinkSocket::new(), ChildEnds::new(alloc));
+    let devices = Devices {
+        hosts: &hosts,
+        socket: &socket,
+        ends: &ends,
+        progress: &progress,
     };
-    if let Some(folder) = folder {
-        spawner.keep_in(folder);
-    }
-    spawner
+    let (status, outputs, facts) = run_over(rt, &mut command, settings, devices)?;
+    progress.end(&rt);
+    command.read_again(&input);
+    let kept = KeptEnds::new(&ends);
+    let outcome = Outcome::new(is_help, outputs, facts, &kept);
+    tell_after::<UserTexts, OutputReplays, _, _>(alloc, &command, outcome, &mut person);
+    drop(ports);
+    Ok(status)
 }
 
 fn main(rt: HostRuntime) -> ExitCode {
     let Ok(words) = words_of(rt.alloc(), env::args(&rt)) else {
         return refuse(&rt, Refusal::NoMemory);
     };
-    let is_help = tell_help(&rt, &words);
-    let (hosts, told) = match settings(&rt) {
-        Ok(told) => told,
-        Err(why) => return refuse(&rt, why),
-    };
-    let SettingsTold {
-        secret,
-        agent,
-        folder,
-        steps,
-    } = told;
-    let mut command = Command::new(&rt, rt.alloc(), words, steps);
-    command.input.keeps = !is_file(&rt);
-    let is_shown = !is_node(&command.words) && rt.stderr().is_terminal();
-    let Ok(progress) = shown_progress(&rt, is_shown) else {
-        return refuse(&rt, Refusal::NoMemory);
-    };
-    let socket = LinkSocket::new();
-    let unsealed = Dropped::new(socket.sender());
-    let link = UdpLink::new(rt, &socket, &hosts);
-    let ends = ChildEnds::new(rt.alloc());
-    let behind = Behind {
-        spawner: CountedSpawner::new(rt.alloc(), spawner(rt, agent, folder, &ends), &*progress),
-        clock: SystemClock::new(rt),
-        waiter: SocketWaiter::new(rt, rt.alloc(), &socket),
-        progress: &progress,
-    };
-    let mut notes = StandardNotes::new(&rt);
-    let (status, spawner) = match secret {
-        None => run(&rt, &mut command, link, behind, &mut notes),
-        Some(secret) => match SealedLink::new(rt.alloc(), link, Key::new(secret), &unsealed) {
-            Ok(link) => run(&rt, &mut command, link, behind, &mut notes),
-            Err(AllocError) => {
-                drop(behind);
-                return refuse(&rt, Refusal::NoMemory);
-            }
-        },
-    };
-    progress.end(&rt);
-    let (spawner, kept) = spawner.into_parts();
-    command.read_input_again(&rt);
-    let outcome = Outcome {
-        is_help,
-        kept,
-        ends: &ends,
-        start: spawner.unstarted(),
-        socket: &socket,
-        unsealed: &unsealed,
-    };
-    drop(spawner);
-    tell_made(
-        &mut StandardError::new(&rt),
-        &after(rt.alloc(), &command, outcome),
-    );
-    status
+    match program(rt, words, rt.stderr().is_terminal()) {
+        Ok(status) => status,
+        Err(why) => refuse(&rt, why),
+    }
 }

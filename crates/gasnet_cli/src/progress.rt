@@ -1,6 +1,8 @@
 //! What a command is at.
 
-use run_report::{Counted, Counts, StandardError, Tells, is_shown_at, progress_line, tell_made};
+use run_report::{
+    Counter, Counts, StandardError, Tells, counts_of, is_shown_at, progress_line, tell_made,
+};
 use std::alloc::AllocError;
 use std::io::Eprint;
 use std::rt::Clock;
@@ -20,34 +22,30 @@ const SECOND: u64 = 10;
 #[derive(Drop)]
 pub struct Progress {
     is_shown: bool,
-    read: AtomicU64,
-    lines: AtomicU64,
-    started: AtomicU64,
-    ended: AtomicU64,
+    counts: [AtomicU64; 4],
     shown: AtomicU64,
     over: AtomicU64,
 }
 
 impl Counts for Progress {
-    fn count_read(&self, bytes: usize) {
-        self.read.fetch_add(bytes as u64, Ordering::SeqCst);
+    ghost counted = { λ _ _ _. Unit {0} };
+
+    fn counts_lines(&self) -> bool {
+        self.is_shown
     }
 
-    /// Lines are counted only where they are shown.
-    fn count_written(&self, bytes: &[u8]) {
-        if self.is_shown {
-            let lines = bytes.iter().filter(|byte| **byte == b'\n').count();
-            self.lines.fetch_add(lines as u64, Ordering::SeqCst);
-        }
+    fn add(&self, counter: Counter, by: u64) {
+        self.counts[counter.place()].fetch_add(by, Ordering::SeqCst);
     }
 
-    fn count_started(&self) {
-        self.started.fetch_add(1, Ordering::SeqCst);
+    fn count(&self, counter: Counter) -> u64 {
+        self.counts[counter.place()].load(Ordering::SeqCst)
     }
+}
 
-    fn count_ended(&self) {
-        self.ended.fetch_add(1, Ordering::SeqCst);
-    }
+/// Nothing counted.
+fn zero() -> AtomicU64 {
+    AtomicU64::new(0)
 }
 
 impl Progress {
@@ -55,22 +53,9 @@ impl Progress {
     pub fn new(is_shown: bool) -> Progress {
         Progress {
             is_shown,
-            read: AtomicU64::new(0),
-            lines: AtomicU64::new(0),
-            started: AtomicU64::new(0),
-            ended: AtomicU64::new(0),
-            shown: AtomicU64::new(0),
-            over: AtomicU64::new(0),
-        }
-    }
-
-    /// What was counted.
-    fn counted(&self) -> Counted {
-        Counted {
-            read: self.read.load(Ordering::SeqCst),
-            lines: self.lines.load(Ordering::SeqCst),
-            started: self.started.load(Ordering::SeqCst),
-            ended: self.ended.load(Ordering::SeqCst),
+            counts: [zero(), zero(), zero(), zero()],
+            shown: zero(),
+            over: zero(),
         }
     }
 
@@ -85,7 +70,7 @@ impl Progress {
             }
             if is_shown_at(look) {
                 self.shown.store(1, Ordering::SeqCst);
-                let line = progress_line(rt.alloc(), look / SECOND, self.counted());
+                let line = progress_line(rt.alloc(), look / SECOND, counts_of(self));
                 tell_made(&mut person, &line);
             }
         }
@@ -102,6 +87,10 @@ impl Progress {
 }
 
 /// What a command is at, shown on standard error by a thread of its own where that is a terminal.
+///
+/// # Errors
+///
+/// `AllocError` where memory ran out.
 pub fn shown_progress<R: Threads + Eprint + Clock + AllocGlobal + Clone + Send + Drop + 'static>(
     rt: &R,
     is_terminal: bool,

@@ -1,12 +1,24 @@
-//! What the replays of the outputs of nodes have for `run_report`.
+//! The replays of the outputs of nodes, for `run_report`.
 
-use check_run::{NodeReplay, NodeReplays};
-use run_report::{Gap, NodeFinding, SentMessage, message_of};
+ghost use Rattle.std.specs.Prelude.{◌≡◌, length};
+ghost use Rattle.gasnet_cli.specs.Replays.{IsFinding, IsFindingOf, IsGap, IsGapOf, IsSent, IsSentOf, lines_at, rank_at, sends_at};
+
+use check_run::{GivenOutput, NodeReplay, NodeReplays, replay_given, replay_input};
+use machine::Entry;
+use run_report::{Gap, KeptOutput, NodeFinding, Replays, SentMessage, message_of};
 use std::alloc::{AllocError, Global};
-use user_text::{steps_told, waits_told};
+use trace_replay::Sent;
 
-/// What the replay of a node's output tells. It took so many turns by itself.
-fn finding_of(node: &NodeReplay, turns: usize) -> NodeFinding {
+/// The replays of the outputs of nodes. Which outputs they are of isn't told.
+#[derive(Drop)]
+pub struct OutputReplays {
+    replays: NodeReplays,
+}
+
+/// What the replay of a node's output tells, which took so many turns by itself.
+fn finding_of(node: &NodeReplay, turns: usize) -> NodeFinding
+    ensures { IsFindingOf node.now turns result }
+{
     NodeFinding {
         rank: node.trace.rank,
         status: node.status.code(),
@@ -19,80 +31,114 @@ fn finding_of(node: &NodeReplay, turns: usize) -> NodeFinding {
     }
 }
 
-/// What the output of each node tells.
-pub fn findings_of(alloc: Global, replays: &NodeReplays) -> Result<Vec<NodeFinding>, AllocError> {
-    let mut findings = Vec::new(alloc);
-    for (place, node) in replays.nodes.iter().enumerate() {
-        let turns = match replays.sent(place) {
-            Some(replayed) => replayed.turns,
-            None => 0,
-        };
-        findings.push(finding_of(node, turns))?;
+/// A datagram that the replay of a node of this rank sent.
+fn sent_of(rank: u16, one: &Sent) -> SentMessage
+    ensures { IsSentOf rank one.now result }
+{
+    SentMessage {
+        from: rank,
+        entry: one.entry,
+        to: one.to,
+        message: message_of(one.bytes.as_slice()),
     }
-    Ok(findings)
 }
 
-/// What the replays of all traces sent.
-pub fn sent_of(alloc: Global, replays: &NodeReplays) -> Result<Vec<SentMessage>, AllocError> {
-    let mut all = Vec::new(alloc);
-    for (place, node) in replays.nodes.iter().enumerate() {
-        let Some(replayed) = replays.sent(place) else {
-            continue;
-        };
-        for one in replayed.sent.iter() {
-            all.push(SentMessage {
-                from: node.trace.rank,
-                entry: one.entry,
-                to: one.to,
-                message: message_of(one.bytes.as_slice()),
-            })?;
-        }
-    }
-    Ok(all)
-}
-
-/// The first entry of a node that got what no node sent to it.
-fn gap_of(replays: &NodeReplays, node: &NodeReplay) -> Option<Gap> {
-    let first = replays.first_unsent(node)?;
-    let item = node.trace.entries.as_slice().get(first)?;
+/// The gap of the node of this rank at an entry with this place, counted from 0.
+fn gap_of(rank: u16, place: usize, item: &Entry) -> Gap
+    ensures { IsGapOf rank place item.entry.now result }
+{
     let message = match &item.got {
         Some(bytes) => message_of(bytes.as_slice()),
         None => None,
     };
-    Some(Gap {
-        rank: node.trace.rank,
-        entry: first.saturating_add(1),
+    Gap {
+        rank,
+        entry: place.saturating_add(1),
         message,
-    })
+    }
 }
 
-/// Of each node the first entry that got what no node sent to it, if it has one.
-pub fn gaps_of(alloc: Global, replays: &NodeReplays) -> Result<Vec<Gap>, AllocError> {
-    let mut gaps = Vec::new(alloc);
-    for node in replays.nodes.iter() {
-        if let Some(gap) = gap_of(replays, node) {
-            gaps.push(gap)?;
+impl Replays for OutputReplays {
+    ghost of_check = { λ _ _. Unit {0} };
+
+    ghost of_launch = { λ _ _ _. Unit {0} };
+
+    ghost places = { λ r. length r.replays.nodes.items };
+
+    ghost ranks = { λ r place. rank_at r.replays place };
+
+    ghost finds = { λ r place finding. IsFinding r.replays place finding };
+
+    ghost lines = { λ r place. lines_at r.replays place };
+
+    ghost sends = { λ r place. sends_at r.replays place };
+
+    ghost sent = { λ r place number one. IsSent r.replays place number one };
+
+    ghost gaps = { λ r place gap. IsGap r.replays place gap };
+
+    fn of_input(alloc: Global, input: &[u8]) -> Result<OutputReplays, AllocError> {
+        let replays = replay_input(alloc, input)?;
+        Ok(OutputReplays { replays })
+    }
+
+    fn of_outputs(
+        alloc: Global,
+        job: &[u8],
+        outputs: Vec<KeptOutput>,
+    ) -> Result<OutputReplays, AllocError> {
+        let mut given = Vec::new(alloc);
+        for KeptOutput { rank, bytes } in outputs {
+            given.push(GivenOutput { rank, bytes })?;
+        }
+        let replays = replay_given(alloc, job, &given)?;
+        Ok(OutputReplays { replays })
+    }
+
+    fn count(&self) -> usize {
+        self.replays.nodes.len()
+    }
+
+    fn rank(&self, place: usize) -> u16 {
+        match self.replays.nodes.get(place) {
+            Some(node) => node.trace.rank,
+            None => 0,
         }
     }
-    Ok(gaps)
-}
 
-/// The steps of the nodes that ended.
-pub fn steps_of(alloc: Global, job: &[u8], nodes: &[NodeReplay]) -> Result<String, AllocError> {
-    let mut text = String::new(alloc);
-    for node in nodes {
-        let steps = steps_told(alloc, job, node.steps.taken())?;
-        text.push_str(steps.as_str())?;
+    fn finding(&self, place: usize) -> Option<NodeFinding> {
+        let node = self.replays.nodes.get(place)?;
+        let turns = match self.replays.sent(place) {
+            Some(turned) => turned.turns,
+            None => 0,
+        };
+        Some(finding_of(node, turns))
     }
-    Ok(text)
-}
 
-/// The steps that the threads of the nodes wait for.
-pub fn waits_of(alloc: Global, job: &[u8], nodes: &[NodeReplay]) -> Result<String, AllocError> {
-    let mut text = String::new(alloc);
-    for node in nodes {
-        let waits = waits_told(alloc, job, node.trace.rank, node.steps.taken())?;
-        text.push_str(waits.as_str())?;
+    fn steps(&self, place: usize) -> &[u8] {
+        match self.replays.nodes.get(place) {
+            Some(node) => node.steps.taken(),
+            None => &[],
+        }
     }
-    Ok(text)
+
+    fn sent_count(&self, place: usize) -> usize {
+        match self.replays.sent(place) {
+            Some(turned) => turned.sent.len(),
+            None => 0,
+        }
+    }
+
+    fn sent_at(&self, place: usize, number: usize) -> Option<SentMessage> {
+        let turned = self.replays.sent(place)?;
+        let one = turned.sent.get(number)?;
+        Some(sent_of(self.rank(place), one))
+    }
+
+    fn gap(&self, place: usize) -> Option<Gap> {
+        let node = self.replays.nodes.get(place)?;
+        let first = self.replays.first_unsent(node)?;
+        let item = node.trace.entries.as_slice().get(first)?;
+        Some(gap_of(node.trace.rank, first, item))
+    }
 }

@@ -1,11 +1,13 @@
 -- Why a run went wrong, as a person is told.
-use Rattle.std.specs.Prelude.{◌≡◌, ℕ, ℤ, Option, ◌==◌, ◌||◌, List, [], ◌++◌, length, Bool, if◌then◌else◌, codes, decimal, nat_eq, ⊤}
+use Rattle.std.specs.Prelude.{◌≡◌, ◌⊎◌, ℕ, ℤ, Option, ◌==◌, ◌||◌, List, [], ◌++◌, length, drop, Bool, if◌then◌else◌, codes, nat_eq}
+use Rattle.std.specs.Prelude.{String}
+use Rattle.std.specs.Global.{Global}
 use Rattle.std.specs.Bool.{MatchBool}
 use Rattle.std.specs.Option.{IfNone}
 use Rattle.std.specs.List.{starts_with}
 use Rattle.std.specs.Str.{bytes_eq}
-use Rattle.run_report.specs.declared.causes.LinkTold.{LinkTold}
-use Rattle.run_report.specs.declared.causes.LinkTold.TheVariants as link
+use Rattle.run_report.specs.declared.causes.FaultParts.{FaultParts}
+use Rattle.run_report.specs.declared.texts.Texts.{Ghosts as Texts}
 
 -- the text of the system's error of a number, which is the system's; nothing where there is none
 abbrev pub IsErrorOf : Option ℤ → List ℕ → Type 0
@@ -15,20 +17,16 @@ IsErrorOf code text = IfNone code (text ≡ [])
 abbrev pub caused : (what error : List ℕ) → List ℕ
 caused what error = if length error == 0 then what else what ++ (codes ": " ++ error)
 
--- an address can't be bound
-unfoldable pub bind_text : (address error : List ℕ) → List ℕ
-bind_text address error = address ++ (codes " can't be bound: " ++ error)
+-- why a job's text is refused, by a line and a reason; nothing where the status line has none
+abbrev pub IsBadJob : {T : Type 0} → Texts T → (job text : List ℕ) → Type 0
+IsBadJob texts job text =
+    ((line : ℕ) × (reason : List ℕ) × texts.refuses_job job line reason text) ⊎ (text ≡ [])
 
--- why a link failed
-abbrev pub link_text : LinkTold → List ℕ
-link_text link.NoAddress = codes "there aren't as many hosts as nodes, or a node has no port"
-link_text link.Unread = codes "nobody reads standard output any more"
-link_text (link.Bind address error) = bind_text address.now error.now
-link_text (link.Other error) = codes "the socket failed: " ++ error.now
-
--- which child couldn't be started, and why
-abbrev pub start_text : (rank : ℕ) → (error : List ℕ) → List ℕ
-start_text rank error = codes "node " ++ (decimal rank ++ (codes " couldn't be started: " ++ error))
+-- why words are those of no command; where there is nothing to tell of them, why the job has no place for them
+pub record IsUseFault {T : Type 0} (texts : Texts T) (words : List (String Global)) (job text : List ℕ) : Type 0 where
+  pub usage : List ℕ
+  pub is_usage : texts.refuses_words words usage
+  pub is : MatchBool (length usage == 0) (texts.refuses_place words job text) (text ≡ usage)
 
 -- what is told of a status line by itself; empty where that is nothing
 unfoldable pub sentence : List ℕ → List ℕ
@@ -47,34 +45,22 @@ fault_by line input_error link start =
     else if bytes_eq line (codes "status 7 spawn-fault") then start
     else sentence line
 
--- why a run went wrong; of a job and of words that are refused another crate tells
-abbrev pub IsFaultText : (output_failed : Bool) → (output_error line input_error link start text : List ℕ) → Type 0
-IsFaultText output_failed output_error line input_error link start text =
-    MatchBool output_failed (text ≡ caused (codes "standard output can't be written") output_error)
-    (MatchBool (starts_with nat_eq line (codes "status 3 bad-job ")) ⊤
-    (MatchBool (bytes_eq line (codes "status 2 usage")) ⊤
-    (text ≡ fault_by line input_error link start)))
+-- why a run went wrong
+abbrev pub IsFaultText : {T : Type 0} → Texts T → FaultParts → (text : List ℕ) → Type 0
+IsFaultText texts parts text =
+    MatchBool parts.output_failed
+    (text ≡ caused (codes "standard output can't be written") parts.output_error.now)
+    (MatchBool (starts_with nat_eq parts.line.now (codes "status 3 bad-job ")) (IsBadJob texts parts.input.now text)
+    (MatchBool (bytes_eq parts.line.now (codes "status 2 usage"))
+    (IsUseFault texts parts.words.now parts.input.now text)
+    (text ≡ fault_by parts.line.now parts.input_error.now parts.link.now parts.start.now)))
 
 -- the line of such a text; none where that is empty
 abbrev pub fault_line : List ℕ → List ℕ
 fault_line fault = if length fault == 0 then [] else codes "gasnet_cli: " ++ (fault ++ codes "\n")
 
--- steps and lines are told by another crate, and of other commands nothing
-abbrev pub IsStepsText : (name text : List ℕ) → Type 0
-IsStepsText name text = MatchBool (bytes_eq name (codes "launch")) ⊤ (MatchBool (bytes_eq name (codes "check")) ⊤
-    (MatchBool (bytes_eq name (codes "world")) ⊤ (text ≡ [])))
-
--- how many datagrams came that no peer sent
-unfoldable pub strays_told : List ℕ → ℕ → List ℕ
-strays_told address strays = if strays == 0 then []
-    else codes "gasnet_cli: " ++ (address ++ (codes " dropped " ++ (decimal strays
-    ++ codes " datagrams that no peer sent\n")))
-
--- how many datagrams came that the key didn't seal, and the node of the last
-unfoldable pub others_told : List ℕ → (others last : ℕ) → List ℕ
-others_told address others last = if others == 0 then []
-    else codes "gasnet_cli: " ++ (address ++ (codes " dropped " ++ (decimal others
-    ++ (codes " datagrams that the key didn't seal, the last by node " ++ (decimal last ++ codes "\n")))))
-
-abbrev pub dropped_text : List ℕ → (strays others last : ℕ) → List ℕ
-dropped_text address strays others last = strays_told address strays ++ others_told address others last
+-- the steps of the nodes of a launch or a check, the lines of a world's schedule, and of other commands nothing
+abbrev pub IsStepsText : {T : Type 0} → Texts T → (name input output text : List ℕ) → Type 0
+IsStepsText texts name input output text =
+    MatchBool (bytes_eq name (codes "launch") || bytes_eq name (codes "check")) (texts.steps input output text)
+    (MatchBool (bytes_eq name (codes "world")) (texts.schedules input output text) (text ≡ []))

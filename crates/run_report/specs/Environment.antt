@@ -1,23 +1,33 @@
 -- What the environment sets, by what its variables and files were found to hold.
-use Rattle.std.specs.Prelude.{◌≡◌, ℕ, List, Bool, Option, Some, None, Result, Ok, String, codes, string_bytes}
+use Rattle.std.specs.Prelude.{◌≡◌, ℕ, List, Bool, Option, Some, None, Result, Ok, String, bit_and, codes, string_bytes}
+use Rattle.std.specs.Str.{trim}
 use Rattle.std.specs.Global.{Global}
 use Rattle.hex.specs.Hex.{decode_sized}
 use Rattle.run_report.specs.Settings.{is_one}
+use Rattle.run_report.specs.declared.environment.KeyFile.{KeyFile}
 use Rattle.run_report.specs.declared.settings.Refusal.{Refusal}
 
 -- what variables were found to hold, by name
 abbrev pub Variables : Type 1
 Variables = List ℕ → Result (Option (String Global)) Refusal → Type 0
 
--- what files were found to have, by path
+-- what files of hosts were found to have, by path
 abbrev pub Texts : Type 1
-Texts = List ℕ → Result (String Global) Refusal → Type 0
+Texts = List ℕ → Option (String Global) → Type 0
+
+-- what files of keys were found to be, by path
+abbrev pub KeyFiles : Type 1
+KeyFiles = List ℕ → Option KeyFile → Type 0
+
+-- a text is that of the file of this path, which could be read
+abbrev pub FilesText : Texts → List ℕ → Option (String Global) → Type 0
+FilesText texts path None = ⊥
+FilesText texts path (Some text) = texts path (Some text)
 
 -- a text is that of the file which a variable names, or none is
 abbrev pub IsTextOf : Texts → Option (String Global) → Option (String Global) → Type 0
 IsTextOf texts None text = text ≡ None
-IsTextOf texts (Some path) None = ⊥
-IsTextOf texts (Some path) (Some text) = texts (string_bytes path) (Ok text)
+IsTextOf texts (Some path) text = FilesText texts (string_bytes path) text
 
 -- the text of the hosts by the variable of their file
 pub record IsHostsFile (sets : Variables) (texts : Texts) (hosts : Option (String Global)) : Type 0 where
@@ -36,22 +46,40 @@ pub record IsHosts (sets : Variables) (texts : Texts) (hosts : Option (String Gl
   pub is_own : sets (codes "GASNET_HOSTS") (Ok own)
   pub is : IsHostsBy sets texts own hosts
 
--- the bytes of a key are those whose digits its file has
-pub record IsKey (texts : Texts) (path : List ℕ) (secret : List ℕ) : Type 0 where
+-- the hosts are those that a text names, else this one
+abbrev pub AreHostsOf : {H : Type 0} → (names : List ℕ → Option H → Type 0) → (local : H → Type 0)
+    → Option (String Global) → H → Type 0
+AreHostsOf names local None hosts = local hosts
+AreHostsOf names local (Some text) hosts = names (string_bytes text) (Some hosts)
+
+pub record AreHosts {H : Type 0} (sets : Variables) (texts : Texts) (names : List ℕ → Option H → Type 0)
+    (local : H → Type 0) (hosts : H) : Type 0 where
+  pub text : Option (String Global)
+  pub is_text : IsHosts sets texts text
+  pub are : AreHostsOf names local text hosts
+
+-- the text of a file of a key, which no other than its owner may use
+pub record IsKeyText (files : KeyFiles) (path : List ℕ) (text : String Global) : Type 0 where
+  pub mode : ℕ
+  pub is_file : files path (Some (record { mode = mode; text = Some text }))
+  pub private : bit_and mode 63 ≡ 0
+
+-- the bytes of a key are those whose digits its file has between spaces
+pub record IsKey (files : KeyFiles) (path : List ℕ) (secret : List ℕ) : Type 0 where
   pub text : String Global
-  pub is_text : texts path (Ok text)
-  pub decodes : decode_sized (string_bytes text) 32 ≡ Ok secret
+  pub is_text : IsKeyText files path text
+  pub decodes : decode_sized (trim (string_bytes text)) 32 ≡ Ok secret
 
 -- so for a file which a variable names; else there is no key
-abbrev pub IsSecretOf : Texts → Option (String Global) → Option (List ℕ) → Type 0
-IsSecretOf texts None secret = secret ≡ None
-IsSecretOf texts (Some path) None = ⊥
-IsSecretOf texts (Some path) (Some secret) = IsKey texts (string_bytes path) secret
+abbrev pub IsSecretOf : KeyFiles → Option (String Global) → Option (List ℕ) → Type 0
+IsSecretOf files None secret = secret ≡ None
+IsSecretOf files (Some path) None = ⊥
+IsSecretOf files (Some path) (Some secret) = IsKey files (string_bytes path) secret
 
-pub record IsSecret (sets : Variables) (texts : Texts) (secret : Option (List ℕ)) : Type 0 where
+pub record IsSecret (sets : Variables) (files : KeyFiles) (secret : Option (List ℕ)) : Type 0 where
   pub path : Option (String Global)
   pub is_path : sets (codes "GASNET_KEY_FILE") (Ok path)
-  pub is : IsSecretOf texts path secret
+  pub is : IsSecretOf files path secret
 
 -- whether the steps are told
 pub record IsSetOne (sets : Variables) (steps : Bool) : Type 0 where

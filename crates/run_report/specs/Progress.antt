@@ -1,6 +1,22 @@
 -- What is shown of what a command is at.
 use Rattle.std.specs.Prelude.{ℕ, ◌%◌, ◌==◌, ◌&&◌, nat_le, List, [], ◌∷◌, ◌++◌, Bool, if◌then◌else◌, codes, decimal}
 use Rattle.run_report.specs.declared.progress.Counted.{Counted}
+use Rattle.run_report.specs.declared.progress.Counter.{Counter}
+use Rattle.run_report.specs.declared.progress.Counter.TheVariants as counters
+
+-- the place of what is counted, from 0 on
+abbrev pub place_of : Counter → ℕ
+place_of counters.Read = 0
+place_of counters.Lines = 1
+place_of counters.Started = 2
+place_of counters.Ended = 3
+
+-- by what counters were found to have
+pub record AreCounted (counted : Counter → ℕ → Type 0) (all : Counted) : Type 0 where
+  pub read : counted counters.Read all.read
+  pub lines : counted counters.Lines all.lines
+  pub started : counted counters.Started all.started
+  pub ended : counted counters.Ended all.ended
 
 -- a line is shown at a look, of which there are 10 a second: each second, from the second one on
 abbrev pub is_shown_at : ℕ → Bool

@@ -4,6 +4,7 @@
 ghost use Rattle.std.specs.Prelude.{◌≡◌, [], ◌++◌, ◌∷◌, OnOk, map};
 ghost use Rattle.run_report.specs.Counted.{KeepsOutput, given, given_of};
 
+use crate::progress::Counter;
 use crate::seen::Counts;
 use gas_outside::{Finished, Spawner, Started};
 use std::alloc::{AllocError, Global};
@@ -22,16 +23,16 @@ pub struct KeptOutput {
 
 /// What the nodes gave that were finished.
 #[derive(Drop)]
-pub struct KeptOutputs {
+struct KeptOutputs {
     alloc: Global,
     /// In the order in which they were finished; none where they were too many bytes.
-    pub outputs: Vec<KeptOutput>,
+    outputs: Vec<KeptOutput>,
     bytes: usize,
 }
 
 impl KeptOutputs {
     /// Nothing yet.
-    pub fn new(alloc: Global) -> KeptOutputs
+    fn new(alloc: Global) -> KeptOutputs
         ensures outputs { result.outputs.items ≡ [] }
         ensures bytes { result.bytes ≡ 0 }
     {
@@ -87,16 +88,16 @@ impl<'a, P: Spawner, C: Counts> CountedSpawner<'a, P, C> {
     }
 
     /// The spawner behind, and what its nodes gave.
-    pub fn into_parts(self) -> (P, KeptOutputs)
+    pub fn into_parts(self) -> (P, Vec<KeptOutput>)
         ensures inner { result.0 ≡ self.entry.inner }
-        ensures kept { result.1 ≡ self.entry.kept }
+        ensures kept { result.1 ≡ self.entry.kept.outputs }
     {
         let CountedSpawner {
             inner,
             kept,
             counts: _,
         } = self;
-        (inner, kept)
+        (inner, kept.outputs)
     }
 }
 
@@ -107,14 +108,14 @@ impl<P: Spawner, C: Counts> Spawner for CountedSpawner<'_, P, C> {
 
     fn start(&mut self, rank: u16, port: u16, input: &[u8]) -> Started {
         let started = self.inner.start(rank, port, input);
-        self.counts.count_started();
+        self.counts.add(Counter::Started, 1);
         started
     }
 
     fn finish(&mut self, rank: u16, into: &mut Vec<u8>) -> Finished {
         let finished = self.inner.finish(rank, into);
         self.kept.keep(rank, into);
-        self.counts.count_ended();
+        self.counts.add(Counter::Ended, 1);
         finished
     }
 }

@@ -8,7 +8,7 @@ use std::alloc::{AllocError, Global};
 
 /// How a node of a launch ended.
 #[derive(Drop)]
-pub struct EndedNode {
+pub(crate) struct EndedNode {
     /// Its rank.
     pub rank: u16,
     /// The status that it ended with, if it ended with one.
@@ -109,7 +109,7 @@ fn add_ends(
 /// # Errors
 ///
 /// `AllocError` where memory ran out.
-pub fn ends_text(alloc: Global, nodes: &[EndedNode]) -> Result<String, AllocError>
+pub(crate) fn ends_text(alloc: Global, nodes: &[EndedNode]) -> Result<String, AllocError>
     ensures { IfOk result (λ text. string_bytes text ≡ ends_text nodes.now) }
 {
     let mut text = String::new(alloc);

@@ -2,32 +2,57 @@
 
 ghost use Rattle.std.specs.Prelude.{◌≡◌, Bool, IfOk, List, ℕ, Ok, Option, Result, String, codes, string_bytes};
 ghost use Rattle.std.specs.Global.{Global};
-ghost use Rattle.run_report.specs.Environment.{IsHosts, IsHostsFile, IsKey, IsSecret, IsSetOne};
+ghost use Rattle.std.specs.declared.alloc.AllocError.{AllocError};
+ghost use Rattle.run_report.specs.Environment.{AreHosts, FilesText, IsHosts, IsHostsFile, IsKey, IsKeyText, IsSecret, IsSetOne};
+ghost use Rattle.run_report.specs.declared.environment.KeyFile.{KeyFile};
 ghost use Rattle.run_report.specs.declared.settings.Refusal.{Refusal};
 
-use crate::settings::{Refusal, is_one, secret_of};
+use crate::settings::{Refusal, is_one, is_private, secret_of};
+use std::alloc::{AllocError, Global};
+
+/// A file of a key.
+#[derive(Drop)]
+pub struct KeyFile {
+    /// The mode of the file, whose bits say who may use it.
+    pub mode: u32,
+    /// The text of the file, if it can be read.
+    pub text: Option<String>,
+}
 
 /// The environment of the program: variables, and the files that they name.
 pub trait Environment {
     /// What a variable was found to hold.
     ghost sets: { Self → List ℕ → Result (Option (String Global)) Refusal → Type 0 };
-    /// What a file of hosts was found to have.
-    ghost lists: { Self → List ℕ → Result (String Global) Refusal → Type 0 };
-    /// What a file of a key was found to have.
-    ghost guards: { Self → List ℕ → Result (String Global) Refusal → Type 0 };
+    /// What a file of hosts was found to have; none where it can't be read.
+    ghost lists: { Self → List ℕ → Option (String Global) → Type 0 };
+    /// What a file of a key was found to be; none where it can't be opened.
+    ghost guards: { Self → List ℕ → Option KeyFile → Type 0 };
+    /// The addresses of nodes.
+    type Hosts: Drop;
+    /// The hosts that a text was found to name; none where it is no list of addresses.
+    ghost names: { List ℕ → Option Self.Hosts → Type 0 };
+    /// The hosts of nodes that are all on this one.
+    ghost local: { Self.Hosts → Type 0 };
 
     /// What a variable holds, if it is set.
     fn value(&self, name: &str) -> Result<Option<String>, Refusal>
         ensures { sets self.now name.now result };
 
     /// The text of a file of hosts.
-    fn hosts_text(&self, path: &str) -> Result<String, Refusal>
+    fn hosts_text(&self, path: &str) -> Option<String>
         ensures { lists self.now path.now result };
 
-    /// The text of the file of a key, which no other than its owner may use, without spaces at its
-    /// ends.
-    fn key_text(&self, path: &str) -> Result<String, Refusal>
+    /// The file of a key.
+    fn key_file(&self, path: &str) -> Option<KeyFile>
         ensures { guards self.now path.now result };
+
+    /// The hosts that a text names.
+    fn hosts_of(alloc: Global, text: &str) -> Result<Option<Self::Hosts>, AllocError>
+        ensures { IfOk result (names text.now) };
+
+    /// The hosts of nodes that are all on this one.
+    fn local_hosts(alloc: Global) -> Self::Hosts
+        ensures { local result };
 }
 
 /// What the environment sets beside the hosts.
@@ -43,12 +68,22 @@ pub struct SettingsTold {
     pub steps: bool,
 }
 
+/// The text of a file of hosts.
+fn file_text<E: Environment>(from: &E, path: &str) -> Result<Option<String>, Refusal>
+    ensures { IfOk result (FilesText (E.lists from.now) path.now) }
+{
+    match from.hosts_text(path) {
+        Some(text) => Ok(Some(text)),
+        None => Err(Refusal::NoHostsFile),
+    }
+}
+
 /// The text of the hosts by `GASNET_HOSTS_FILE`.
 fn hosts_by_file<E: Environment>(from: &E) -> Result<Option<String>, Refusal>
     ensures { IfOk result (IsHostsFile (E.sets from.now) (E.lists from.now)) }
 {
     match from.value("GASNET_HOSTS_FILE")? {
-        Some(path) => Ok(Some(from.hosts_text(path.as_str())?)),
+        Some(path) => file_text(from, path.as_str()),
         None => Ok(None),
     }
 }
@@ -58,7 +93,7 @@ fn hosts_by_file<E: Environment>(from: &E) -> Result<Option<String>, Refusal>
 /// # Errors
 ///
 /// A `Refusal` where one of these can't be used.
-pub fn hosts_told<E: Environment>(from: &E) -> Result<Option<String>, Refusal>
+fn hosts_text<E: Environment>(from: &E) -> Result<Option<String>, Refusal>
     ensures { IfOk result (IsHosts (E.sets from.now) (E.lists from.now)) }
 {
     match from.value("GASNET_HOSTS")? {
@@ -67,12 +102,45 @@ pub fn hosts_told<E: Environment>(from: &E) -> Result<Option<String>, Refusal>
     }
 }
 
-/// The bytes of the key in a file.
+/// The hosts of the nodes: those that the environment names, else this one.
+///
+/// # Errors
+///
+/// A `Refusal` where a variable can't be used, or its text is no list of addresses.
+pub fn hosts_told<E: Environment>(alloc: Global, from: &E) -> Result<E::Hosts, Refusal>
+    ensures { IfOk result (AreHosts (E.sets from.now) (E.lists from.now) E.names E.local) }
+{
+    let Some(text) = hosts_text(from)? else {
+        return Ok(E::local_hosts(alloc));
+    };
+    match E::hosts_of(alloc, text.as_str())? {
+        Some(hosts) => Ok(hosts),
+        None => Err(Refusal::NoHosts),
+    }
+}
+
+/// The text of the file of a key, which no other than its owner may use.
+fn key_text<E: Environment>(from: &E, path: &str) -> Result<String, Refusal>
+    ensures { IfOk result (λ text. IsKeyText (E.guards from.now) path.now text) }
+{
+    let Some(file) = from.key_file(path) else {
+        return Err(Refusal::NoKeyFile);
+    };
+    if !is_private(file.mode) {
+        return Err(Refusal::OpenKeyFile);
+    }
+    match file.text {
+        Some(text) => Ok(text),
+        None => Err(Refusal::NoKeyFile),
+    }
+}
+
+/// The bytes of the key in a file, whose text may have spaces at its ends.
 fn secret_in<E: Environment>(from: &E, path: &str) -> Result<[u8; 32], Refusal>
     ensures { IfOk result (IsKey (E.guards from.now) path.now) }
 {
-    let text = from.key_text(path)?;
-    let secret = secret_of(text.as_str())?;
+    let text = key_text(from, path)?;
+    let secret = secret_of(text.as_str().trim())?;
     Ok(secret)
 }
 

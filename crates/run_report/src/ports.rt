@@ -1,23 +1,103 @@
 //! The blocks of ports of which a launch without a port takes one.
 
-ghost use Rattle.std.specs.Prelude.{◌≡◌, ◌+◌, ◌*◌, ◌%◌, IfOk, decimal, string_bytes};
-ghost use Rattle.run_report.specs.Ports.{ports_line};
+ghost use Rattle.std.specs.Prelude.{◌≡◌, ◌+◌, ◌*◌, ◌%◌, ◌<◌, IfOk, MatchOption, ℕ, Option, Some, None, decimal, option_map, string_bytes};
+ghost use Rattle.std.specs.Bool.{MatchBool};
+ghost use Rattle.run_report.specs.Ports.{AreFree, ArePorts, HasNone, IsBlock, block_port, ports_line};
 
 use std::alloc::{AllocError, Global};
 
 /// The ports of a block: one that is held while a launch runs, and one for each of 256 nodes.
-pub const BLOCK: u16 = 257;
+const BLOCK: u16 = 257;
 
 /// How many blocks there are.
-pub const BLOCKS: u16 = 88;
+const BLOCKS: u16 = 88;
+
+/// The ports of a host.
+pub trait Ports {
+    /// What holds a port for a program.
+    type Held: Drop;
+
+    /// What a try to hold a port was found to give: none where it isn't free.
+    ghost holds: { Self → ℕ → Option Self.Held → Type 0 };
+
+    /// Holds a port, if it is free.
+    fn hold(&self, port: u16) -> Option<Self::Held>
+        ensures { holds self.now port result };
+
+    /// A number that differs from launch to launch.
+    fn number(&self) -> u32;
+}
+
+/// Ports that were free, of which no other launch takes one while the value lives.
+#[derive(Drop)]
+pub struct FreePorts<H> {
+    /// The port of the node of rank 0.
+    pub port: u16,
+    /// What holds the port before it, by which other launches see that the block is taken.
+    pub held: H,
+}
 
 /// The first port of the block at a place, counted from the one of a number. The first block begins
 /// at port 10,023, and the last ends before the ports that the system gives out by itself.
-pub fn block_port(number: u32, place: u16) -> u16
-    ensures { result ≡ 10023 + 257 * ((number + place) % 88) }
+fn block_port(number: u32, place: u16) -> u16
+    ensures port { result ≡ block_port number place }
+    ensures within { result < 65000 }
 {
     let block = (u64::from(number) + u64::from(place)) % 88;
     10_023 + 257 * (block as u16)
+}
+
+/// Whether the ports behind the first one of a block are free.
+fn are_free<P: Ports>(from: &P, first: u16) -> bool
+    requires { first < 65000 }
+    ensures { MatchBool result (AreFree (P.holds from.now) first) (HasNone (P.holds from.now) first) }
+{
+    for place in 1..BLOCK {
+        match from.hold(first + place) {
+            Some(held) => drop(held),
+            None => return false,
+        }
+    }
+    true
+}
+
+/// The ports of the block of this first port, if all of them are free.
+fn block<P: Ports>(from: &P, first: u16) -> Option<FreePorts<P::Held>>
+    requires { first < 65000 }
+    ensures { MatchOption result (HasNone (P.holds from.now) first)
+        (IsBlock (P.holds from.now) first) }
+{
+    let held = from.hold(first)?;
+    if !are_free(from, first) {
+        return None;
+    }
+    let port = first + 1;
+    Some(FreePorts { port, held })
+}
+
+/// Ports for up to 256 nodes that are free on this host. None where no block of them is.
+///
+/// Between this call and the start of the nodes another program may take one of them.
+pub(crate) fn free_ports<P: Ports>(from: &P) -> Option<FreePorts<P::Held>>
+    ensures { ArePorts (P.holds from.now) result }
+{
+    let number = from.number();
+    for place in 0..BLOCKS {
+        if let Some(ports) = block(from, block_port(number, place)) {
+            return Some(ports);
+        }
+    }
+    None
+}
+
+/// The port of the node of rank 0.
+pub(crate) fn port_of<H>(ports: &Option<FreePorts<H>>) -> Option<u16>
+    ensures { result ≡ option_map (λ p. p.port) ports.now }
+{
+    match ports {
+        Some(ports) => Some(ports.port),
+        None => None,
+    }
 }
 
 /// What is told of the ports that a launch got, by that of the node of rank 0. None were free where
@@ -26,7 +106,7 @@ pub fn block_port(number: u32, place: u16) -> u16
 /// # Errors
 ///
 /// `AllocError` where memory ran out.
-pub fn ports_line(alloc: Global, port: Option<u16>) -> Result<String, AllocError>
+pub(crate) fn ports_line(alloc: Global, port: Option<u16>) -> Result<String, AllocError>
     ensures { IfOk result (λ text. string_bytes text ≡ ports_line port) }
 {
     match port {
@@ -43,7 +123,7 @@ pub fn ports_line(alloc: Global, port: Option<u16>) -> Result<String, AllocError
 /// # Errors
 ///
 /// `AllocError` where memory ran out.
-pub fn port_word(alloc: Global, port: u16) -> Result<String, AllocError>
+pub(crate) fn port_word(alloc: Global, port: u16) -> Result<String, AllocError>
     ensures { IfOk result (λ text. string_bytes text ≡ decimal port) }
 {
     format!(in alloc; "{port}")

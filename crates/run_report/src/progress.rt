@@ -1,7 +1,7 @@
 //! What is shown of what a command is at.
 
-ghost use Rattle.std.specs.Prelude.{◌≡◌, IfOk, string_bytes};
-ghost use Rattle.run_report.specs.Progress.{is_shown_at, nodes_told, progress_line, streams_told};
+ghost use Rattle.std.specs.Prelude.{◌≡◌, ◌<◌, IfOk, string_bytes};
+ghost use Rattle.run_report.specs.Progress.{is_shown_at, nodes_told, place_of, progress_line, streams_told};
 
 use std::alloc::{AllocError, Global};
 
@@ -16,6 +16,34 @@ pub struct Counted {
     pub started: u64,
     /// Those of them that have ended.
     pub ended: u64,
+}
+
+/// What of a command is counted.
+#[derive(Clone, Copy)]
+pub enum Counter {
+    /// The bytes that it read.
+    Read,
+    /// The lines that it wrote.
+    Lines,
+    /// The nodes that it started.
+    Started,
+    /// Those of them that have ended.
+    Ended,
+}
+
+impl Counter {
+    /// Its place among the four, from 0 on.
+    pub fn place(self) -> usize
+        ensures place { result ≡ place_of self }
+        ensures within { result < 4 }
+    {
+        match self {
+            Counter::Read => 0,
+            Counter::Lines => 1,
+            Counter::Started => 2,
+            Counter::Ended => 3,
+        }
+    }
 }
 
 /// Whether a line is shown at a look, of which there are 10 a second: each second, from the second

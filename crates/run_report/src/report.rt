@@ -1,36 +1,28 @@
 //! What is told of the outputs of the nodes of a run, one part after the other.
 
 ghost use Rattle.std.specs.Prelude.{◌≡◌, Bool, IfOk, string_bytes};
-ghost use Rattle.run_report.specs.Report.{findings_text, front_text, is_failed, is_no_run, is_run, no_run_text, patience_text, statuses_text};
+ghost use Rattle.run_report.specs.Gathering.{GivesOne, GivesTo};
+ghost use Rattle.run_report.specs.Report.{IsFindingsText, IsFrontPart, IsNoRunPart, IsNoRunText, IsPatienceText, IsToldBy, is_failed, is_no_run, is_run, statuses_text};
 
 use crate::findings::{
     NodeFinding, blocked_text, counts_text, differences_text, has_blocked, has_stuck, statuses_text,
 };
+use crate::gathered::{findings_of, front_text, gaps_of, sent_of};
+use crate::replays::Replays;
 use crate::status::Ending;
-use crate::unsent::{Gap, SentMessage, gaps_text};
+use crate::texts::Texts;
+use crate::unsent::{gaps_text, is_searched};
 use std::alloc::{AllocError, Global};
 
-/// What the outputs of the nodes of a run tell.
+/// A run whose nodes' outputs are told of.
 #[derive(Clone, Copy)]
-pub struct Findings<'a> {
-    /// How the run ended.
+pub(crate) struct Judged<'a> {
+    /// How it ended.
     pub ending: Ending,
     /// Whether the command is `check`.
     pub is_check: bool,
-    /// The steps of the nodes that ended.
-    pub steps: &'a str,
-    /// The steps that the threads of the nodes wait for.
-    pub waits: &'a str,
-    /// That the patience of the nodes ends before anything is sent again.
-    pub patience: &'a str,
-    /// What the output of each node tells.
-    pub nodes: &'a [NodeFinding],
-    /// Of each node the first entry that got what no node sent to it, if it has one.
-    pub gaps: &'a [Gap],
-    /// What the replays of all traces sent.
-    pub sent: &'a [SentMessage],
-    /// Whether such entries were looked for: they aren't in very long traces.
-    pub is_searched: bool,
+    /// What was read, which begins with the job's text.
+    pub job: &'a [u8],
 }
 
 /// Whether a run failed.
@@ -64,64 +56,104 @@ fn is_run(ending: Ending) -> bool
 }
 
 /// What is told first where there is no run: the steps that ended, and those that are waited for.
-#[tactic(auto, unfolding(crate::specs::Report::front_text))]
-fn front_text(alloc: Global, findings: &Findings<'_>) -> Result<String, AllocError>
-    ensures { IfOk result (λ text. string_bytes text ≡ front_text
-        findings.now.ending findings.now.steps.now findings.now.waits.now) }
+fn front_part<T: Texts, R: Replays>(
+    alloc: Global,
+    judged: Judged<'_>,
+    replays: &R,
+) -> Result<String, AllocError>
+    ensures { IfOk result (λ text. IsFrontPart T.Texts R.Replays judged.entry replays.now
+        (string_bytes text)) }
 {
-    if is_run(findings.ending) {
+    if is_run(judged.ending) {
         return Ok(String::new(alloc));
     }
-    let (steps, waits) = (findings.steps, findings.waits);
-    format!(in alloc; "{steps}{waits}")
+    front_text::<T, R>(alloc, judged.job, replays)
 }
 
 /// What is told of traces that are no run: where their replays stop, and what no node sent.
-#[tactic(auto, unfolding(crate::specs::Report::no_run_text))]
-fn no_run_text(alloc: Global, findings: &Findings<'_>) -> Result<String, AllocError>
-    ensures { IfOk result (λ text. string_bytes text ≡ no_run_text
-        findings.now.ending findings.now.is_searched findings.now.nodes.now findings.now.gaps.now
-        findings.now.sent.now) }
+fn no_run_text<R: Replays>(
+    alloc: Global,
+    nodes: &[NodeFinding],
+    replays: &R,
+) -> Result<String, AllocError>
+    ensures { IfOk result (λ text. IsNoRunText R.Replays nodes.now replays.now
+        (string_bytes text)) }
 {
-    if !is_no_run(findings.ending) {
-        return Ok(String::new(alloc));
-    }
-    let blocked = blocked_text(alloc, findings.nodes)?;
-    if !findings.is_searched {
+    let blocked = blocked_text(alloc, nodes)?;
+    let sent = sent_of(alloc, replays)?;
+    if !is_searched(nodes, &sent) {
         return Ok(blocked);
     }
-    let is_blocked = has_blocked(findings.nodes);
-    let unsent = gaps_text(alloc, findings.gaps, findings.sent, is_blocked)?;
+    let gaps = gaps_of(alloc, replays)?;
+    let unsent = gaps_text(alloc, &gaps, &sent, has_blocked(nodes))?;
     let (first, last) = (blocked.as_str(), unsent.as_str());
     format!(in alloc; "{first}{last}")
 }
 
-/// What is told of the patience of nodes of which one got stuck.
-#[tactic(auto, unfolding(crate::specs::Report::patience_text))]
-fn patience_text<'a>(findings: &Findings<'a>) -> &'a str
-    ensures { result.now ≡ patience_text findings.now.nodes.now findings.now.patience.now }
+/// What is told of traces, where they are no run.
+fn no_run_part<R: Replays>(
+    alloc: Global,
+    ending: Ending,
+    nodes: &[NodeFinding],
+    replays: &R,
+) -> Result<String, AllocError>
+    ensures { IfOk result (λ text. IsNoRunPart R.Replays ending nodes.now replays.now
+        (string_bytes text)) }
 {
-    if has_stuck(findings.nodes) {
-        findings.patience
-    } else {
-        ""
+    if !is_no_run(ending) {
+        return Ok(String::new(alloc));
     }
+    no_run_text(alloc, nodes, replays)
+}
+
+/// What is told of the patience of nodes of which one got stuck.
+fn patience_text<T: Texts>(
+    alloc: Global,
+    nodes: &[NodeFinding],
+    job: &[u8],
+) -> Result<String, AllocError>
+    ensures { IfOk result (λ text. IsPatienceText T.Texts nodes.now job.now (string_bytes text)) }
+{
+    if has_stuck(nodes) {
+        return T::patience_told(alloc, job);
+    }
+    Ok(String::new(alloc))
 }
 
 /// How the nodes of a check ended that ended with another status than 0 and 1: those that failed of
 /// their own, and then those that got stuck.
 #[tactic(auto, unfolding(crate::specs::Report::statuses_text))]
-fn ends_of_check(alloc: Global, findings: &Findings<'_>) -> Result<String, AllocError>
-    ensures { IfOk result (λ text. string_bytes text
-        ≡ statuses_text findings.now.is_check findings.now.nodes.now) }
+fn ends_of_check(alloc: Global, is_check: bool, nodes: &[NodeFinding]) -> Result<String, AllocError>
+    ensures { IfOk result (λ text. string_bytes text ≡ statuses_text is_check nodes.now) }
 {
-    if !findings.is_check {
+    if !is_check {
         return Ok(String::new(alloc));
     }
-    let own = statuses_text(alloc, findings.nodes, false)?;
-    let stuck = statuses_text(alloc, findings.nodes, true)?;
+    let own = statuses_text(alloc, nodes, false)?;
+    let stuck = statuses_text(alloc, nodes, true)?;
     let (first, last) = (own.as_str(), stuck.as_str());
     format!(in alloc; "{first}{last}")
+}
+
+/// What is told of what the output of each node tells.
+fn told_by<T: Texts, R: Replays>(
+    alloc: Global,
+    judged: Judged<'_>,
+    nodes: &[NodeFinding],
+    replays: &R,
+) -> Result<String, AllocError>
+    ensures { IfOk result (λ text. IsToldBy T.Texts R.Replays judged.entry nodes.now replays.now
+        (string_bytes text)) }
+{
+    let front = front_part::<T, R>(alloc, judged, replays)?;
+    let counts = counts_text(alloc, nodes, is_failed(judged.ending))?;
+    let differences = differences_text(alloc, nodes)?;
+    let no_run = no_run_part(alloc, judged.ending, nodes, replays)?;
+    let patience = patience_text::<T>(alloc, nodes, judged.job)?;
+    let ends = ends_of_check(alloc, judged.is_check, nodes)?;
+    let (first, second, third) = (front.as_str(), counts.as_str(), differences.as_str());
+    let (fourth, fifth, last) = (no_run.as_str(), patience.as_str(), ends.as_str());
+    format!(in alloc; "{first}{second}{third}{fourth}{fifth}{last}")
 }
 
 /// What the outputs of the nodes of a run tell. Where it is none: the steps that ended, those that
@@ -131,16 +163,15 @@ fn ends_of_check(alloc: Global, findings: &Findings<'_>) -> Result<String, Alloc
 /// # Errors
 ///
 /// `AllocError` where memory ran out.
-pub fn findings_text(alloc: Global, findings: &Findings<'_>) -> Result<String, AllocError>
-    ensures { IfOk result (λ text. string_bytes text ≡ findings_text findings.now) }
+pub(crate) fn findings_text<T: Texts, R: Replays>(
+    alloc: Global,
+    judged: Judged<'_>,
+    replays: &R,
+) -> Result<String, AllocError>
+    ensures { IfOk result (λ text. IsFindingsText T.Texts R.Replays judged.entry replays.now
+        (string_bytes text)) }
 {
-    let failed = is_failed(findings.ending);
-    let front = front_text(alloc, findings)?;
-    let counts = counts_text(alloc, findings.nodes, failed)?;
-    let differences = differences_text(alloc, findings.nodes)?;
-    let no_run = no_run_text(alloc, findings)?;
-    let ends = ends_of_check(alloc, findings)?;
-    let (first, second, third) = (front.as_str(), counts.as_str(), differences.as_str());
-    let (fourth, fifth, last) = (no_run.as_str(), patience_text(findings), ends.as_str());
-    format!(in alloc; "{first}{second}{third}{fourth}{fifth}{last}")
+    let nodes = findings_of(alloc, replays)?;
+    let text = told_by::<T, R>(alloc, judged, &nodes, replays)?;
+    Ok(text)
 }

@@ -1,14 +1,17 @@
 //! Streams whose bytes are looked at as they go by.
 
-ghost use Rattle.std.specs.Prelude.{◌≡◌, true, false, [], None};
+ghost use Rattle.std.specs.Prelude.{◌≡◌, ◌==◌, ℕ, true, false, [], None, count_by};
+ghost use Rattle.run_report.specs.Progress.{AreCounted};
+ghost use Rattle.run_report.specs.declared.progress.Counter.{Counter};
 ghost use Rattle.run_report.specs.Seen.{KeepsAll, KeepsEnd, KeepsFront};
 
+use crate::progress::{Counted, Counter};
 use std::alloc::Global;
 use std::io;
 use std::io::{Read, Write};
 
 /// The most bytes of the input that are kept.
-pub const MOST_INPUT: usize = 8_388_608;
+pub(crate) const MOST_INPUT: usize = 8_388_608;
 
 /// So many bytes of the end of the output are enough, where not all of it is kept. A status line
 /// has far fewer.
@@ -16,17 +19,37 @@ const END: usize = 4_096;
 
 /// Counts the bytes that go by, and the nodes that are started and finished.
 pub trait Counts {
-    /// So many bytes more were read.
-    fn count_read(&self, bytes: usize);
+    /// How many were found to be counted.
+    ghost counted: { Self → Counter → ℕ → Type 0 };
 
-    /// These bytes were written.
-    fn count_written(&self, bytes: &[u8]);
+    /// Whether lines are counted.
+    fn counts_lines(&self) -> bool;
 
-    /// One more node was started.
-    fn count_started(&self);
+    /// Adds so many to what is counted.
+    fn add(&self, counter: Counter, by: u64);
 
-    /// One more node has ended.
-    fn count_ended(&self);
+    /// How many were counted.
+    fn count(&self, counter: Counter) -> u64
+        ensures { counted self.now counter result };
+}
+
+/// What was counted.
+pub fn counts_of<C: Counts>(counts: &C) -> Counted
+    ensures { AreCounted (C.counted counts.now) result }
+{
+    Counted {
+        read: counts.count(Counter::Read),
+        lines: counts.count(Counter::Lines),
+        started: counts.count(Counter::Started),
+        ended: counts.count(Counter::Ended),
+    }
+}
+
+/// How many lines end in these bytes.
+fn lines_in(bytes: &[u8]) -> u64
+    ensures { result ≡ count_by (λ byte. byte == 10) bytes.now }
+{
+    bytes.iter().filter(|byte| **byte == b'\n').count() as u64
 }
 
 /// What went by in a stream.
@@ -44,16 +67,16 @@ pub struct Seen {
 }
 
 impl Seen {
-    /// Nothing yet.
-    pub fn new(alloc: Global) -> Seen
+    /// Nothing yet of a stream whose bytes are kept or not.
+    pub(crate) fn new(alloc: Global, keeps: bool) -> Seen
         ensures bytes { result.bytes.items ≡ [] }
-        ensures keeps { result.keeps ≡ true }
+        ensures keeps { result.keeps ≡ keeps }
         ensures fault { result.fault ≡ None }
         ensures failed { result.failed ≡ false }
     {
         Seen {
             bytes: Vec::new(alloc),
-            keeps: true,
+            keeps,
             fault: None,
             failed: false,
         }
@@ -139,7 +162,7 @@ impl<R: Read, C: Counts> Read for WatchedReader<'_, R, C> {
             Ok(len) => {
                 let (bytes, _) = buf.split_at(len);
                 self.seen.keep_front(bytes);
-                self.counts.count_read(len);
+                self.counts.add(Counter::Read, len as u64);
                 Ok(len)
             }
             Err(error) => {
@@ -185,7 +208,9 @@ impl<W: Write, C: Counts> Write for WatchedWriter<'_, W, C> {
                 } else {
                     self.seen.keep_end(bytes);
                 }
-                self.counts.count_written(bytes);
+                if self.counts.counts_lines() {
+                    self.counts.add(Counter::Lines, lines_in(bytes));
+                }
                 Ok(len)
             }
             Err(error) => {

@@ -108,7 +108,7 @@ pub fn is_one(value: &Option<String>) -> bool
 }
 
 /// Whether no other than its owner may use a file of this mode.
-pub fn is_private(mode: u32) -> bool
+pub(crate) fn is_private(mode: u32) -> bool
     ensures { result ≡ (bit_and mode 63 == 0) }
 {
     mode & OTHERS == 0

@@ -5,7 +5,7 @@ ghost use Rattle.run_report.specs.Status.{IsEnd, IsLastLine, IsStart, ending_of,
 
 /// How a run ended whose nodes' outputs are told of.
 #[derive(Clone, Copy)]
-pub enum Ending {
+pub(crate) enum Ending {
     /// It is one, and its lines were written.
     Run,
     /// The traces are no run.
@@ -41,7 +41,7 @@ fn line_start(bytes: &[u8]) -> usize
 }
 
 /// The last line that isn't empty, without the byte that ends it.
-pub fn last_line(bytes: &[u8]) -> &[u8]
+pub(crate) fn last_line(bytes: &[u8]) -> &[u8]
     ensures { IsLastLine bytes.now result.now }
 {
     let (front, _) = bytes.split_at(line_end(bytes));
@@ -72,7 +72,7 @@ fn word_of(text: &[u8]) -> &[u8]
 }
 
 /// How the run of this status line ended. None where there is nothing to tell.
-pub fn ending_of(line: &[u8]) -> Option<Ending>
+pub(crate) fn ending_of(line: &[u8]) -> Option<Ending>
     ensures { result ≡ ending_of line.now }
 {
     if !line.starts_with(b"status ") {
@@ -93,7 +93,7 @@ pub fn ending_of(line: &[u8]) -> Option<Ending>
 
 /// Whether what was read is needed to tell of the run of this command: each step, what nodes tell,
 /// or why words or a job are refused.
-pub fn needs_input(steps: bool, name: &str, line: &[u8]) -> bool
+pub(crate) fn needs_input(steps: bool, name: &str, line: &[u8]) -> bool
     ensures { result ≡ needs_input steps name.now line.now }
 {
     steps

@@ -1,9 +1,10 @@
 //! Telling a person.
 
-ghost use Rattle.std.specs.Prelude.{◌≡◌, ℕ, List, Option, IfOk, string_bytes};
-ghost use Rattle.run_report.specs.Telling.{TellsMade, TellsText, after_text, end_text};
+ghost use Rattle.std.specs.Prelude.{◌≡◌, ℕ, Bool, List, Option, IfOk, string_bytes};
+ghost use Rattle.run_report.specs.Telling.{TellsHelp, TellsLine, TellsMade, TellsText, after_text, asks, end_text};
 
 use crate::causes::fault_line;
+use crate::texts::Texts;
 use gas_outside::Wrote;
 use std::alloc::{AllocError, Global};
 
@@ -28,6 +29,33 @@ pub fn tell_made<T: Tells>(to: &mut T, made: &Result<String, AllocError>) -> boo
         Wrote::Done => true,
         Wrote::Fault => false,
     }
+}
+
+/// Whether a text was made that isn't empty.
+fn asks(made: &Result<String, AllocError>) -> bool
+    ensures { result ≡ asks made.now }
+{
+    match made {
+        Ok(text) => !text.is_empty(),
+        Err(AllocError) => false,
+    }
+}
+
+/// Tells the help that words ask for. False where they ask for none, or memory ran out.
+pub fn tell_help<X: Texts, T: Tells>(alloc: Global, words: &[String], to: &mut T) -> bool
+    ensures { TellsHelp X.helps (T.told to.old) (T.told to.new) words.now result }
+{
+    let help = X::help(alloc, words);
+    tell_made(to, &help);
+    asks(&help)
+}
+
+/// Tells why no command runs, if there is memory for it.
+pub fn tell_fault<T: Tells>(alloc: Global, fault: &str, to: &mut T)
+    ensures { TellsLine (T.told to.old) (T.told to.new) fault.now }
+{
+    let line = fault_line(alloc, fault);
+    tell_made(to, &line);
 }
 
 /// What is told after a run, each part a text, empty where there is nothing.

@@ -60,7 +60,7 @@ fn entries_of(nodes: &[NodeFinding]) -> usize
 
 /// Whether what no node sent is looked for: it isn't where that takes too many comparisons, of each
 /// entry with each datagram that was sent.
-pub fn is_searched(nodes: &[NodeFinding], sent: &[SentMessage]) -> bool
+pub(crate) fn is_searched(nodes: &[NodeFinding], sent: &[SentMessage]) -> bool
     ensures { result ≡ is_searched nodes.now sent.now }
 {
     entries_of(nodes).saturating_mul(sent.len()) <= MOST

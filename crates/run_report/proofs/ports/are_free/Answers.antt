@@ -1,0 +1,12 @@
+-- One port more.
+use Rattle.std.proofs.Common.{ℕ, ◌+◌, ◌<◌}
+use Rattle.run_report.proofs.Gathering.{below_more}
+use Rattle.run_report.specs.Ports.{IsFree}
+use Rattle.run_report.proofs.ports.are_free.Goals as goal
+
+pub loop-place-preserved : goal.loop-place-preserved
+loop-place-preserved g c = λ place positive within.
+    below_more (λ (at : ℕ). 0 < at → IsFree (g.P.Ports.holds c.args.from.now) (c.args.first + at)) c.loop-place.place
+    (λ at less above. c.loop-place.invariant at above less)
+    (λ above. record { by = c.in-Some.held; held = c.in-Some.ensures })
+    place within positive
