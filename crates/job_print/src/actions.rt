@@ -8,7 +8,8 @@ ghost use Rattle.step_text.specs.declared.steps.Action.TheVariants as actions;
 use crate::forms::{Last, write, write_form};
 use crate::words::Word;
 use gas_outside::{BufferedSink, Sink, Wrote};
-use step_text::{Action, ReplyAction};
+use line_forms::LineForm;
+use step_text::{Action, ActionForm, ReplyAction, ReplyForm};
 
 /// Writes what stands behind the word `reply`.
 fn write_reply<K: Sink>(reply: &ReplyAction, sink: &mut BufferedSink<K>) -> Wrote
@@ -18,7 +19,12 @@ fn write_reply<K: Sink>(reply: &ReplyAction, sink: &mut BufferedSink<K>) -> Wrot
     use Word::{Payload, U8, U64};
     match reply {
         ReplyAction::Short { handler, operands } => {
-            write_form(b"short", &[U8(*handler)], Last::Operands(operands), sink)
+            write_form(
+                ReplyForm::Short,
+                &[U8(*handler)],
+                Last::Operands(operands),
+                sink,
+            )
         }
         ReplyAction::Medium {
             handler,
@@ -26,7 +32,7 @@ fn write_reply<K: Sink>(reply: &ReplyAction, sink: &mut BufferedSink<K>) -> Wrot
             operands,
         } => {
             let words = [U8(*handler), Payload(payload)];
-            write_form(b"medium", &words, Last::Operands(operands), sink)
+            write_form(ReplyForm::Medium, &words, Last::Operands(operands), sink)
         }
         ReplyAction::Long {
             handler,
@@ -35,7 +41,7 @@ fn write_reply<K: Sink>(reply: &ReplyAction, sink: &mut BufferedSink<K>) -> Wrot
             operands,
         } => {
             let words = [U8(*handler), Payload(payload), U64(*offset)];
-            write_form(b"long", &words, Last::Operands(operands), sink)
+            write_form(ReplyForm::Long, &words, Last::Operands(operands), sink)
         }
     }
 }
@@ -45,7 +51,10 @@ fn write_replying<K: Sink>(reply: &ReplyAction, sink: &mut BufferedSink<K>) -> W
     ensures { GathersAll (outbox K.taken K.faults sink.old) (outbox K.taken K.faults sink.new)
         (action_text (actions.Reply reply.now)) result }
 {
-    if let Wrote::Fault = sink.write_all(b"reply ") {
+    if let Wrote::Fault = sink.write_all(ActionForm::Reply.name()) {
+        return Wrote::Fault;
+    }
+    if let Wrote::Fault = sink.write_all(b" ") {
         return Wrote::Fault;
     }
     write_reply(reply, sink)
@@ -58,18 +67,22 @@ pub(crate) fn write_action<K: Sink>(action: &Action, sink: &mut BufferedSink<K>)
 {
     use Word::{Kind, U8, U64, Value};
     match action {
-        Action::Add { cell, operand } => write(b"add", &[U8(*cell), Value(*operand)], sink),
-        Action::SetCell { cell, operand } => write(
-            b"set-cell",
+        Action::Add { cell, operand } => write(
+            ActionForm::Add,
             &[U8(*cell), Value(*operand)],
             sink,
         ),
-        Action::Source { cell } => write(b"source", &[U8(*cell)], sink),
-        Action::Sum { cell } => write(b"sum", &[U8(*cell)], sink),
-        Action::Keep { offset } => write(b"keep", &[U64(*offset)], sink),
-        Action::Lock { lock } => write(b"lock", &[U8(*lock)], sink),
-        Action::Unlock { lock } => write(b"unlock", &[U8(*lock)], sink),
-        Action::Attempt { call } => write(b"attempt", &[Kind(*call)], sink),
+        Action::SetCell { cell, operand } => write(
+            ActionForm::SetCell,
+            &[U8(*cell), Value(*operand)],
+            sink,
+        ),
+        Action::Source { cell } => write(ActionForm::Source, &[U8(*cell)], sink),
+        Action::Sum { cell } => write(ActionForm::Sum, &[U8(*cell)], sink),
+        Action::Keep { offset } => write(ActionForm::Keep, &[U64(*offset)], sink),
+        Action::Lock { lock } => write(ActionForm::Lock, &[U8(*lock)], sink),
+        Action::Unlock { lock } => write(ActionForm::Unlock, &[U8(*lock)], sink),
+        Action::Attempt { call } => write(ActionForm::Attempt, &[Kind(*call)], sink),
         Action::Reply { reply } => write_replying(reply, sink),
     }
 }

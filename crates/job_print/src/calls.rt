@@ -9,9 +9,9 @@ ghost use Rattle.call_text.specs.declared.scheduled.ScheduledCall.TheVariants as
 
 use crate::forms::{Last, write, write_form, write_list};
 use crate::words::Word;
-use call_text::{BatchText, LongText, MediumText, ScheduledCall};
+use call_text::{BatchText, CallForm, LongText, MediumText, ScheduledCall};
 use gas_outside::{BufferedSink, Sink, Wrote};
-use line_forms::Operands;
+use line_forms::{LineForm, Operands};
 use put_get::Transfer;
 
 /// Writes a Short request.
@@ -25,7 +25,7 @@ fn write_short<K: Sink>(
         (call_text (calls.Short to handler operands.now)) result }
 {
     let words = [Word::U16(to), Word::U8(handler)];
-    write_form(b"short", &words, Last::Operands(operands), sink)
+    write_form(CallForm::Short, &words, Last::Operands(operands), sink)
 }
 
 /// Writes a Medium request.
@@ -38,13 +38,18 @@ fn write_medium<K: Sink>(text: &MediumText, sink: &mut BufferedSink<K>) -> Wrote
         Word::U8(text.handler),
         Word::Payload(&text.payload),
     ];
-    write_form(b"medium", &words, Last::Operands(&text.operands), sink)
+    write_form(
+        CallForm::Medium,
+        &words,
+        Last::Operands(&text.operands),
+        sink,
+    )
 }
 
-/// Writes a Long request of this name.
-fn write_long<K: Sink>(name: &[u8], text: &LongText, sink: &mut BufferedSink<K>) -> Wrote
+/// Writes a Long request of this form.
+fn write_long<K: Sink, F: LineForm>(form: F, text: &LongText, sink: &mut BufferedSink<K>) -> Wrote
     ensures { GathersAll (outbox K.taken K.faults sink.old) (outbox K.taken K.faults sink.new)
-        (name.now ++ values_text none_text long_row.shape (
+        (F.name_of form ++ values_text none_text long_row.shape (
           text.now.to,
           (
             text.now.handler,
@@ -58,7 +63,7 @@ fn write_long<K: Sink>(name: &[u8], text: &LongText, sink: &mut BufferedSink<K>)
         Word::Payload(&text.payload),
         Word::U64(text.offset),
     ];
-    write_form(name, &words, Last::Operands(&text.operands), sink)
+    write_form(form, &words, Last::Operands(&text.operands), sink)
 }
 
 /// Writes the call that puts the same byte at each place of a range.
@@ -67,7 +72,7 @@ fn write_fill<K: Sink>(offset: u64, len: u64, byte: u8, sink: &mut BufferedSink<
         (call_text (calls.Fill offset len byte)) result }
 {
     let words = [Word::U64(offset), Word::U64(len), Word::U8(byte)];
-    write(b"fill", &words, sink)
+    write(CallForm::Fill, &words, sink)
 }
 
 /// Writes an explicit transfer, whose handle is put into the register.
@@ -84,7 +89,7 @@ fn write_begin<K: Sink>(register: u8, transfer: &Transfer, sink: &mut BufferedSi
             len,
         } => {
             let words = [U8(register), U16(to), U64(remote), U64(local), U64(len)];
-            write(b"put-nb-bulk", &words, sink)
+            write(CallForm::Put, &words, sink)
         }
         Transfer::Get {
             to,
@@ -93,7 +98,7 @@ fn write_begin<K: Sink>(register: u8, transfer: &Transfer, sink: &mut BufferedSi
             len,
         } => {
             let words = [U8(register), U16(to), U64(remote), U64(local), U64(len)];
-            write(b"get-nb", &words, sink)
+            write(CallForm::Get, &words, sink)
         }
         Transfer::Memset {
             to,
@@ -102,7 +107,7 @@ fn write_begin<K: Sink>(register: u8, transfer: &Transfer, sink: &mut BufferedSi
             byte,
         } => {
             let words = [U8(register), U16(to), U64(remote), U64(len), U8(byte)];
-            write(b"memset-nb", &words, sink)
+            write(CallForm::Memset, &words, sink)
         }
     }
 }
@@ -121,7 +126,7 @@ fn write_implicit<K: Sink>(transfer: &Transfer, sink: &mut BufferedSink<K>) -> W
             len,
         } => {
             let words = [U16(to), U64(remote), U64(local), U64(len)];
-            write(b"put-nbi-bulk", &words, sink)
+            write(CallForm::ImplicitPut, &words, sink)
         }
         Transfer::Get {
             to,
@@ -130,7 +135,7 @@ fn write_implicit<K: Sink>(transfer: &Transfer, sink: &mut BufferedSink<K>) -> W
             len,
         } => {
             let words = [U16(to), U64(remote), U64(local), U64(len)];
-            write(b"get-nbi", &words, sink)
+            write(CallForm::ImplicitGet, &words, sink)
         }
         Transfer::Memset {
             to,
@@ -139,22 +144,22 @@ fn write_implicit<K: Sink>(transfer: &Transfer, sink: &mut BufferedSink<K>) -> W
             byte,
         } => {
             let words = [U16(to), U64(remote), U64(len), U8(byte)];
-            write(b"memset-nbi", &words, sink)
+            write(CallForm::ImplicitMemset, &words, sink)
         }
     }
 }
 
-/// Writes a call on the barrier of this name, by the identifier and the flags.
-pub(crate) fn write_barrier<K: Sink>(
-    name: &[u8],
+/// Writes a call on the barrier of this form, by the identifier and the flags.
+pub(crate) fn write_barrier<K: Sink, F: LineForm>(
+    form: F,
     id: i32,
     flags: u8,
     sink: &mut BufferedSink<K>,
 ) -> Wrote
     ensures { GathersAll (outbox K.taken K.faults sink.old) (outbox K.taken K.faults sink.new)
-        (name.now ++ values_text none_text notify_row.shape (id, (flags, tt))) result }
+        (F.name_of form ++ values_text none_text notify_row.shape (id, (flags, tt))) result }
 {
-    write(name, &[Word::Integer(id), Word::U8(flags)], sink)
+    write(form, &[Word::Integer(id), Word::U8(flags)], sink)
 }
 
 /// Writes a batch of remote atomics.
@@ -167,7 +172,7 @@ fn write_batch<K: Sink>(batch: &BatchText, sink: &mut BufferedSink<K>) -> Wrote
         Word::U64(batch.local()),
         Word::U64(batch.tag()),
     ];
-    write_form(b"atomic", &words, Last::WordOps(batch.ops()), sink)
+    write_form(CallForm::Atomic, &words, Last::WordOps(batch.ops()), sink)
 }
 
 /// Writes a call.
@@ -184,30 +189,38 @@ pub(crate) fn write_call<K: Sink>(call: &ScheduledCall, sink: &mut BufferedSink<
             operands,
         } => write_short(*to, *handler, operands, sink),
         Call::Medium { text } => write_medium(text.text(), sink),
-        Call::Long { text } => write_long(b"long", text.text(), sink),
-        Call::LongAsync { text } => write_long(b"async", text.text(), sink),
-        Call::Lock { lock } => write(b"lock", &[U8(*lock)], sink),
-        Call::Unlock { lock } => write(b"unlock", &[U8(*lock)], sink),
-        Call::Poll => write(b"poll", &[], sink),
-        Call::Attempt { call } => write(b"attempt", &[Kind(*call)], sink),
-        Call::Cell { cell } => write(b"cell", &[U8(*cell)], sink),
-        Call::SetCell { cell, operand } => write(b"set-cell", &[U8(*cell), Value(*operand)], sink),
-        Call::Show { offset, len } => write(b"show", &[U64(*offset), U16(*len)], sink),
-        Call::Set { offset, bytes } => write(b"set", &[U64(*offset), Bytes(bytes)], sink),
+        Call::Long { text } => write_long(CallForm::Long, text.text(), sink),
+        Call::LongAsync { text } => write_long(CallForm::Async, text.text(), sink),
+        Call::Lock { lock } => write(CallForm::Lock, &[U8(*lock)], sink),
+        Call::Unlock { lock } => write(CallForm::Unlock, &[U8(*lock)], sink),
+        Call::Poll => write(CallForm::Poll, &[], sink),
+        Call::Attempt { call } => write(CallForm::Attempt, &[Kind(*call)], sink),
+        Call::Cell { cell } => write(CallForm::Cell, &[U8(*cell)], sink),
+        Call::SetCell { cell, operand } => write(
+            CallForm::SetCell,
+            &[U8(*cell), Value(*operand)],
+            sink,
+        ),
+        Call::Show { offset, len } => write(CallForm::Show, &[U64(*offset), U16(*len)], sink),
+        Call::Set { offset, bytes } => write(CallForm::Set, &[U64(*offset), Bytes(bytes)], sink),
         Call::Fill { offset, len, byte } => write_fill(*offset, *len, *byte, sink),
-        Call::Word { offset } => write(b"word", &[U64(*offset)], sink),
-        Call::SetWord { offset, number } => write(b"set-word", &[U64(*offset), U64(*number)], sink),
+        Call::Word { offset } => write(CallForm::Word, &[U64(*offset)], sink),
+        Call::SetWord { offset, number } => write(
+            CallForm::SetWord,
+            &[U64(*offset), U64(*number)],
+            sink,
+        ),
         Call::Begin { register, transfer } => write_begin(*register, transfer.text(), sink),
         Call::BeginImplicit { transfer } => write_implicit(transfer.text(), sink),
-        Call::IsIssued { register } => write(b"issued", &[U8(*register)], sink),
-        Call::Sync { register } => write(b"try", &[U8(*register)], sink),
-        Call::SyncAll { registers } => write_list(b"try-all", registers, sink),
-        Call::SyncSome { registers } => write_list(b"try-some", registers, sink),
-        Call::SyncImplicit { which } => write(b"try-nbi", &[Implicit(*which)], sink),
-        Call::RegionBegin => write(b"region-begin", &[], sink),
-        Call::RegionEnd { register } => write(b"region-end", &[U8(*register)], sink),
-        Call::Notify { id, flags } => write_barrier(b"notify", *id, *flags, sink),
-        Call::TryBarrier { id, flags } => write_barrier(b"try-barrier", *id, *flags, sink),
+        Call::IsIssued { register } => write(CallForm::Issued, &[U8(*register)], sink),
+        Call::Sync { register } => write(CallForm::Try, &[U8(*register)], sink),
+        Call::SyncAll { registers } => write_list(CallForm::TryAll, registers, sink),
+        Call::SyncSome { registers } => write_list(CallForm::TrySome, registers, sink),
+        Call::SyncImplicit { which } => write(CallForm::TryImplicit, &[Implicit(*which)], sink),
+        Call::RegionBegin => write(CallForm::RegionBegin, &[], sink),
+        Call::RegionEnd { register } => write(CallForm::RegionEnd, &[U8(*register)], sink),
+        Call::Notify { id, flags } => write_barrier(CallForm::Notify, *id, *flags, sink),
+        Call::TryBarrier { id, flags } => write_barrier(CallForm::TryBarrier, *id, *flags, sink),
         Call::Atomic { batch } => write_batch(batch.text(), sink),
     }
 }

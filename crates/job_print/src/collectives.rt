@@ -6,7 +6,7 @@ ghost use Rattle.step_text.specs.CollectiveLines.{collective_text};
 use crate::forms::write;
 use crate::words::Word;
 use gas_outside::{BufferedSink, Sink, Wrote};
-use step_text::CollectiveText;
+use step_text::{CollectiveForm, CollectiveText};
 
 /// Writes the words of such a line.
 pub(crate) fn write_collective<K: Sink>(call: &CollectiveText, sink: &mut BufferedSink<K>) -> Wrote
@@ -22,9 +22,9 @@ pub(crate) fn write_collective<K: Sink>(call: &CollectiveText, sink: &mut Buffer
                 U64(from),
                 U64(shape.len),
             ];
-            write(b"coll-start", &words, sink)
+            write(CollectiveForm::Start, &words, sink)
         }
-        CollectiveText::Step => write(b"coll-step", &[], sink),
-        CollectiveText::Try { dest } => write(b"coll-try", &[U64(dest)], sink),
+        CollectiveText::Step => write(CollectiveForm::Step, &[], sink),
+        CollectiveText::Try { dest } => write(CollectiveForm::Try, &[U64(dest)], sink),
     }
 }

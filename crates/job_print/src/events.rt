@@ -12,7 +12,7 @@ use crate::vis::write_vis;
 use crate::words::Word;
 use call_text::ScheduledCall;
 use gas_outside::{BufferedSink, Sink, Wrote};
-use step_text::{CollectiveText, ScheduledEvent, TimedEvent};
+use step_text::{CollectiveText, EventForm, ScheduledEvent, TimedEvent};
 use text_lines::write_number;
 use vis_text::VisText;
 
@@ -27,7 +27,7 @@ fn write_thread_call<K: Sink>(
         (outbox K.taken K.faults sink.new)
         (event_text nodes threads (events.Call node thread call.now)) result }
 {
-    if let Wrote::Fault = write(b"call", &[Word::U16(node), Word::U16(thread)], sink) {
+    if let Wrote::Fault = write(EventForm::Call, &[Word::U16(node), Word::U16(thread)], sink) {
         return Wrote::Fault;
     }
     if let Wrote::Fault = sink.write_all(b" ") {
@@ -47,7 +47,7 @@ fn write_thread_vis<K: Sink>(
         (outbox K.taken K.faults sink.new)
         (event_text nodes threads (events.Vis node thread vis.now)) result }
 {
-    if let Wrote::Fault = write(b"call", &[Word::U16(node), Word::U16(thread)], sink) {
+    if let Wrote::Fault = write(EventForm::Call, &[Word::U16(node), Word::U16(thread)], sink) {
         return Wrote::Fault;
     }
     if let Wrote::Fault = sink.write_all(b" ") {
@@ -67,7 +67,7 @@ fn write_thread_collective<K: Sink>(
         (outbox K.taken K.faults sink.new)
         (event_text nodes threads (events.Collective node thread call.now)) result }
 {
-    if let Wrote::Fault = write(b"call", &[Word::U16(node), Word::U16(thread)], sink) {
+    if let Wrote::Fault = write(EventForm::Call, &[Word::U16(node), Word::U16(thread)], sink) {
         return Wrote::Fault;
     }
     if let Wrote::Fault = sink.write_all(b" ") {
@@ -96,13 +96,21 @@ fn write_event<K: Sink>(event: &ScheduledEvent, sink: &mut BufferedSink<K>) -> W
             *node, *thread, call, sink,
         ),
         ScheduledEvent::Request { from, to, number } => {
-            write(b"request", &[U16(*from), U16(*to), U64(*number)], sink)
+            write(
+                EventForm::Request,
+                &[U16(*from), U16(*to), U64(*number)],
+                sink,
+            )
         }
         ScheduledEvent::Reply { from, to, number } => {
-            write(b"reply", &[U16(*from), U16(*to), U64(*number)], sink)
+            write(
+                EventForm::Reply,
+                &[U16(*from), U16(*to), U64(*number)],
+                sink,
+            )
         }
-        ScheduledEvent::Tick { node } => write(b"tick", &[U16(*node)], sink),
-        ScheduledEvent::Settle { rounds } => write(b"settle", &[U32(*rounds)], sink),
+        ScheduledEvent::Tick { node } => write(EventForm::Tick, &[U16(*node)], sink),
+        ScheduledEvent::Settle { rounds } => write(EventForm::Settle, &[U32(*rounds)], sink),
     }
 }
 

@@ -13,7 +13,7 @@ use gas_atomic::WordOp;
 use gas_outside::{BufferedSink, Sink, Wrote};
 use gas_strided::Level;
 use job_text::ListedLocks;
-use line_forms::{Operand, Operands, Registers};
+use line_forms::{LineForm, Operand, Operands, Registers};
 use text_lines::write_number;
 
 /// The list of words at the end of a line.
@@ -173,7 +173,7 @@ fn write_last<K: Sink>(last: Last<'_>, sink: &mut BufferedSink<K>) -> Wrote
 }
 
 /// Writes a name, a space and a word for each of the words, and a list.
-pub(crate) fn write_form<K: Sink>(
+pub(crate) fn write_named_form<K: Sink>(
     name: &[u8],
     words: &[Word<'_>],
     last: Last<'_>,
@@ -192,21 +192,50 @@ pub(crate) fn write_form<K: Sink>(
 }
 
 /// Writes a name, and a space and a word for each of the words.
-pub(crate) fn write<K: Sink>(name: &[u8], words: &[Word<'_>], sink: &mut BufferedSink<K>) -> Wrote
+pub(crate) fn write_named<K: Sink>(
+    name: &[u8],
+    words: &[Word<'_>],
+    sink: &mut BufferedSink<K>,
+) -> Wrote
     ensures { GathersAll (outbox K.taken K.faults sink.old) (outbox K.taken K.faults sink.new)
         (name.now ++ words_then words.now []) result }
 {
-    write_form(name, words, Last::Nothing, sink)
+    write_named_form(name, words, Last::Nothing, sink)
 }
 
-/// Writes a name, and a space and a word for each of the registers.
-pub(crate) fn write_list<K: Sink>(
-    name: &[u8],
+/// Writes the name of a form, a space and a word for each of the words, and a list.
+pub(crate) fn write_form<K: Sink, F: LineForm>(
+    form: F,
+    words: &[Word<'_>],
+    last: Last<'_>,
+    sink: &mut BufferedSink<K>,
+) -> Wrote
+    ensures { GathersAll (outbox K.taken K.faults sink.old) (outbox K.taken K.faults sink.new)
+        (F.name_of form ++ words_then words.now (last_text last.entry)) result }
+{
+    write_named_form(form.name(), words, last, sink)
+}
+
+/// Writes the name of a form, and a space and a word for each of the words.
+pub(crate) fn write<K: Sink, F: LineForm>(
+    form: F,
+    words: &[Word<'_>],
+    sink: &mut BufferedSink<K>,
+) -> Wrote
+    ensures { GathersAll (outbox K.taken K.faults sink.old) (outbox K.taken K.faults sink.new)
+        (F.name_of form ++ words_then words.now []) result }
+{
+    write_named_form(form.name(), words, Last::Nothing, sink)
+}
+
+/// Writes the name of a form, and a space and a word for each of the registers.
+pub(crate) fn write_list<K: Sink, F: LineForm>(
+    form: F,
     registers: &Registers,
     sink: &mut BufferedSink<K>,
 ) -> Wrote
     ensures { GathersAll (outbox K.taken K.faults sink.old) (outbox K.taken K.faults sink.new)
-        (name.now ++ flat_map (λ register. 32 ∷ decimal register) registers.now) result }
+        (F.name_of form ++ flat_map (λ register. 32 ∷ decimal register) registers.now) result }
 {
-    write_form(name, &[], Last::Registers(registers), sink)
+    write_named_form(form.name(), &[], Last::Registers(registers), sink)
 }

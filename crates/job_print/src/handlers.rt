@@ -7,7 +7,7 @@ ghost use Rattle.step_text.specs.Bodies.{action_text};
 ghost use Rattle.job_text.specs.JobText.{handler_lines, header_line, spell};
 
 use crate::actions::write_action;
-use crate::forms::{Last, write_form};
+use crate::forms::{Last, write_named_form};
 use crate::words::Word;
 use gas_outside::{BufferedSink, Sink, Wrote};
 use job_text::HandlerText;
@@ -19,7 +19,7 @@ fn write_header<K: Sink>(handler: &HandlerText, sink: &mut BufferedSink<K>) -> W
         (header_line handler.now ++ 10 ∷ []) result }
 {
     let words = [Word::U8(handler.index), Word::Role(handler.role)];
-    if let Wrote::Fault = write_form(b"handler", &words, Last::Locks(&handler.locks), sink) {
+    if let Wrote::Fault = write_named_form(b"handler", &words, Last::Locks(&handler.locks), sink) {
         return Wrote::Fault;
     }
     sink.write_all(b"\n")

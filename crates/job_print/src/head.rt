@@ -8,7 +8,7 @@ ghost use Rattle.job_text.specs.JobText.{all_settings, head_lines, pair_line, se
 ghost use Rattle.job_text.specs.JobText.{sieve_line, spell};
 ghost use Rattle.job_print.specs.Writing.{number_line};
 
-use crate::forms::write;
+use crate::forms::write_named;
 use crate::words::Word;
 use datagram_grammar::PairCredits;
 use gas_outside::{BufferedSink, Sink, Wrote};
@@ -24,7 +24,7 @@ fn write_number_lines<K: Sink>(lines: &[NumberLine<'_>], sink: &mut BufferedSink
         (spell (map number_line lines.now)) result }
 {
     for line in lines {
-        if let Wrote::Fault = write(line.0, &[line.1], sink) {
+        if let Wrote::Fault = write_named(line.0, &[line.1], sink) {
             return Wrote::Fault;
         }
         if let Wrote::Fault = sink.write_all(b"\n") {
@@ -64,7 +64,7 @@ fn write_sieve<K: Sink>(sieve: SieveRule, sink: &mut BufferedSink<K>) -> Wrote
         Word::U32(sieve.repeat),
         Word::U32(sieve.swap),
     ];
-    if let Wrote::Fault = write(b"sieve", &words, sink) {
+    if let Wrote::Fault = write_named(b"sieve", &words, sink) {
         return Wrote::Fault;
     }
     sink.write_all(b"\n")
@@ -92,7 +92,7 @@ pub(crate) fn write_pairs<K: Sink>(pairs: &[PairCredits], sink: &mut BufferedSin
             Word::U16(pair.to),
             Word::U16(pair.credits),
         ];
-        if let Wrote::Fault = write(b"pair", &words, sink) {
+        if let Wrote::Fault = write_named(b"pair", &words, sink) {
             return Wrote::Fault;
         }
         if let Wrote::Fault = sink.write_all(b"\n") {
@@ -122,7 +122,7 @@ pub(crate) fn write_collect<K: Sink>(area: Option<CollectArea>, sink: &mut Buffe
         return Wrote::Done;
     };
     let words = [Word::U64(area.base), Word::U64(area.room)];
-    if let Wrote::Fault = write(b"collect", &words, sink) {
+    if let Wrote::Fault = write_named(b"collect", &words, sink) {
         return Wrote::Fault;
     }
     sink.write_all(b"\n")

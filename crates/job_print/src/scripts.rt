@@ -6,7 +6,7 @@ ghost use Rattle.gas_outside.specs.Buffered.{GathersAll, outbox};
 ghost use Rattle.step_text.specs.Scripts.{step_text};
 ghost use Rattle.job_text.specs.JobText.{script_line, script_lines, spell};
 
-use crate::forms::write;
+use crate::forms::write_named;
 use crate::steps::write_step;
 use crate::words::Word;
 use gas_outside::{BufferedSink, Sink, Wrote};
@@ -19,7 +19,7 @@ fn write_begin<K: Sink>(script: &NodeScript, sink: &mut BufferedSink<K>) -> Wrot
         (script_line script.now ++ 10 ∷ []) result }
 {
     let words = [Word::U16(script.node), Word::U16(script.thread)];
-    if let Wrote::Fault = write(b"script", &words, sink) {
+    if let Wrote::Fault = write_named(b"script", &words, sink) {
         return Wrote::Fault;
     }
     sink.write_all(b"\n")

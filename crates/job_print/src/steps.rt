@@ -13,7 +13,7 @@ use crate::words::Word;
 use collective_area::Shape;
 use gas_outside::{BufferedSink, Sink, Wrote};
 use put_get::Transfer;
-use step_text::{PutText, ScriptStep, WaitingStep};
+use step_text::{PutText, ScriptStep, WaitingForm, WaitingStep};
 
 /// Writes a transfer that is waited for.
 fn write_transfer<K: Sink>(transfer: &Transfer, sink: &mut BufferedSink<K>) -> Wrote
@@ -29,7 +29,7 @@ fn write_transfer<K: Sink>(transfer: &Transfer, sink: &mut BufferedSink<K>) -> W
             len,
         } => {
             let words = [U16(to), U64(remote), U64(local), U64(len)];
-            write(b"put", &words, sink)
+            write(WaitingForm::Put, &words, sink)
         }
         Transfer::Get {
             to,
@@ -38,7 +38,7 @@ fn write_transfer<K: Sink>(transfer: &Transfer, sink: &mut BufferedSink<K>) -> W
             len,
         } => {
             let words = [U16(to), U64(remote), U64(local), U64(len)];
-            write(b"get", &words, sink)
+            write(WaitingForm::Get, &words, sink)
         }
         Transfer::Memset {
             to,
@@ -47,7 +47,7 @@ fn write_transfer<K: Sink>(transfer: &Transfer, sink: &mut BufferedSink<K>) -> W
             byte,
         } => {
             let words = [U16(to), U64(remote), U64(len), U8(byte)];
-            write(b"memset", &words, sink)
+            write(WaitingForm::Memset, &words, sink)
         }
     }
 }
@@ -65,7 +65,7 @@ fn write_coll<K: Sink>(shape: Shape, from: u64, dest: u64, sink: &mut BufferedSi
         U64(shape.len),
         U64(dest),
     ];
-    write(b"coll", &words, sink)
+    write(WaitingForm::Coll, &words, sink)
 }
 
 /// Writes a step that scripts alone have.
@@ -76,7 +76,11 @@ fn write_waiting<K: Sink>(step: &WaitingStep, sink: &mut BufferedSink<K>) -> Wro
     use WaitingStep as Step;
     use Word::{Implicit, U8, U16, U64, Value};
     match step {
-        Step::Until { cell, operand } => write(b"until", &[U8(*cell), Value(*operand)], sink),
+        Step::Until { cell, operand } => write(
+            WaitingForm::Until,
+            &[U8(*cell), Value(*operand)],
+            sink,
+        ),
         Step::Transfer { transfer } => write_transfer(transfer.text(), sink),
         Step::PutBegin { register, put } => {
             let PutText {
@@ -86,19 +90,24 @@ fn write_waiting<K: Sink>(step: &WaitingStep, sink: &mut BufferedSink<K>) -> Wro
                 len,
             } = *put;
             let words = [U8(*register), U16(to), U64(remote), U64(local), U64(len)];
-            write(b"put-nb", &words, sink)
+            write(WaitingForm::PutBegin, &words, sink)
         }
         Step::PutImplicit { put } => {
             let words = [U16(put.to), U64(put.remote), U64(put.local), U64(put.len)];
-            write(b"put-nbi", &words, sink)
+            write(WaitingForm::PutImplicit, &words, sink)
         }
-        Step::Wait { register } => write(b"wait", &[U8(*register)], sink),
-        Step::WaitAll { registers } => write_list(b"wait-all", registers, sink),
-        Step::WaitSome { registers } => write_list(b"wait-some", registers, sink),
-        Step::WaitImplicit { which } => write(b"wait-nbi", &[Implicit(*which)], sink),
-        Step::BarrierWait { id, flags } => write_barrier(b"barrier-wait", *id, *flags, sink),
+        Step::Wait { register } => write(WaitingForm::Wait, &[U8(*register)], sink),
+        Step::WaitAll { registers } => write_list(WaitingForm::WaitAll, registers, sink),
+        Step::WaitSome { registers } => write_list(WaitingForm::WaitSome, registers, sink),
+        Step::WaitImplicit { which } => write(WaitingForm::WaitImplicit, &[Implicit(*which)], sink),
+        Step::BarrierWait { id, flags } => write_barrier(
+            WaitingForm::BarrierWait,
+            *id,
+            *flags,
+            sink,
+        ),
         Step::UntilWord { offset, number } => {
-            write(b"until-word", &[U64(*offset), U64(*number)], sink)
+            write(WaitingForm::UntilWord, &[U64(*offset), U64(*number)], sink)
         }
         Step::Collective { shape, from, dest } => write_coll(*shape, *from, *dest, sink),
     }

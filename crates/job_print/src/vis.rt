@@ -5,19 +5,20 @@ ghost use Rattle.gas_outside.specs.Buffered.{GathersAll, outbox};
 ghost use Rattle.vis_text.specs.VisLines.{vis_text};
 ghost use Rattle.job_print.specs.Writing.{indexed_name, strided_name};
 
-use crate::forms::{Last, write_form};
+use crate::forms::{Last, write_named_form};
 use crate::words::Word;
 use gas_outside::{BufferedSink, Sink, Wrote};
 use gas_strided::Way;
-use vis_text::{VisShape, VisText};
+use line_forms::LineForm;
+use vis_text::{VisForm, VisShape, VisText};
 
 /// The name of a strided transfer.
 fn strided_name(way: Way) -> &'static [u8]
     ensures { result.now ≡ strided_name way }
 {
     match way {
-        Way::Put => b"put-s",
-        Way::Get => b"get-s",
+        Way::Put => VisForm::PutStrided.name(),
+        Way::Get => VisForm::GetStrided.name(),
     }
 }
 
@@ -26,8 +27,8 @@ fn indexed_name(way: Way) -> &'static [u8]
     ensures { result.now ≡ indexed_name way }
 {
     match way {
-        Way::Put => b"put-v",
-        Way::Get => b"get-v",
+        Way::Put => VisForm::PutIndexed.name(),
+        Way::Get => VisForm::GetIndexed.name(),
     }
 }
 
@@ -48,7 +49,7 @@ pub(crate) fn write_vis<K: Sink>(vis: &VisText, sink: &mut BufferedSink<K>) -> W
             levels,
         } => {
             let first = [register, from, to, U64(*remote), U64(*local), U64(*len)];
-            write_form(
+            write_named_form(
                 strided_name(words.way),
                 &first,
                 Last::Levels(levels.items()),
@@ -59,7 +60,7 @@ pub(crate) fn write_vis<K: Sink>(vis: &VisText, sink: &mut BufferedSink<K>) -> W
             let remote = remote.items();
             let local = local.items();
             let first = [register, from, to, U64(remote.len() as u64)];
-            write_form(
+            write_named_form(
                 indexed_name(words.way),
                 &first,
                 Last::Ranges(remote, local),

@@ -13,9 +13,9 @@ returns-in-Strided g c =
     let text = ap (λ (s : VisShape). entry_text none_text (entry_by words.way s words.register words.from words.to))
     c.in-Strided.is
     ∙ strided_parts words.way words.register words.from words.to shape.remote shape.local shape.len shape.levels in
-    let written = rw (c.strided_name.ensures, c.items.ensures.items) at c.write_form.ensures in
+    let written = rw (c.strided_name.ensures, c.items.ensures.items) at c.write_named_form.ensures in
     subst (λ (t : List ℕ). GathersAll (outbox g.K.Sink.taken g.K.Sink.faults c.args.sink.now)
-    (outbox g.K.Sink.taken g.K.Sink.faults c.write_form.new.sink) t c.write_form.result) (sym text) written
+    (outbox g.K.Sink.taken g.K.Sink.faults c.write_named_form.new.sink) t c.write_named_form.result) (sym text) written
 
 pub returns-in-Indexed : goal.returns-in-Indexed
 returns-in-Indexed g c =
@@ -27,7 +27,7 @@ returns-in-Indexed g c =
       c.indexed_name.ensures,
       c.items-remote.ensures.items,
       c.items-local.ensures.items,
-    ) at c.write_form-in-Indexed.ensures in
+    ) at c.write_named_form-in-Indexed.ensures in
     subst (λ (t : List ℕ). GathersAll (outbox g.K.Sink.taken g.K.Sink.faults c.args.sink.now)
-    (outbox g.K.Sink.taken g.K.Sink.faults c.write_form-in-Indexed.new.sink) t c.write_form-in-Indexed.result)
-    (sym text) written
+    (outbox g.K.Sink.taken g.K.Sink.faults c.write_named_form-in-Indexed.new.sink) t
+    c.write_named_form-in-Indexed.result) (sym text) written
