@@ -31,25 +31,26 @@ mod settings;
 mod texts;
 
 use crate::again::InputFile;
-use crate::facts::KeptEnds;
+use crate::facts::{KeptEnds, facts_of};
+use crate::notes::StandardNotes;
 use crate::ports::SystemPorts;
 use crate::progress::shown_progress;
 use crate::replays::OutputReplays;
-use crate::run::{Devices, run_over};
+use crate::run::{Behind, run};
 use crate::settings::SystemEnvironment;
 use crate::texts::UserTexts;
-use real_outside::{ChildEnds, LinkSocket};
-use run_report::{
-    Command, Outcome, Refusal, StandardError, hosts_told, is_node, settings_told, tell_after,
-    tell_fault, tell_help, with_port,
+use real_outside::{
+    ChildEnds, Hosts, LinkSocket, ProcessSpawner, SocketWaiter, SystemClock, UdpLink,
 };
+use run_report::{
+    Command, CountedSpawner, Outcome, Refusal, SettingsTold, StandardError, hosts_told, is_node,
+    settings_told, tell_after, tell_fault, tell_help, with_port,
+};
+use sealed_link::{Dropped, Key, SealedLink};
+use std::alloc::AllocError;
 use std::env;
-use std::io::{Eprint, Input, IsTerminal, Print};
-use std::net::Net;
-use std::process::{ExitCode, Processes, SystemProcess};
-use std::rt::{Clock, Env, Files};
-use std::sync::Wait;
-use std::thread::Threads;
+use std::io::{IsTerminal, Print};
+use std::process::ExitCode;
 use top_call::words_of;
 
 /// Ends the program before any command, for what the environment sets.
@@ -62,63 +63,86 @@ fn refuse(rt: &HostRuntime, why: Refusal) -> ExitCode {
     }
 }
 
-/// Does what the words of the command line say, and tells of it.
+/// What the environment sets, where all of it can be taken.
 ///
 /// # Errors
 ///
-/// A `Refusal` before any command, for what the environment sets, or for want of memory.
-fn program<
-    H: AllocGlobal
-        + Input
-        + Print
-        + Eprint
-        + Threads
-        + Wait
-        + Net
-        + Clock
-        + Processes<Started = SystemProcess>
-        + Env
-        + Files
-        + Clone
-        + Copy
-        + Send
-        + Sync
-        + Drop
-        + 'static,
->(rt: H, words: Vec<String>, is_terminal: bool) -> Result<ExitCode, Refusal> {
-    let (alloc, mut person) = (rt.alloc(), StandardError::new(&rt));
-    let is_help = tell_help::<UserTexts, _>(alloc, &words, &mut person);
-    let environment = SystemEnvironment::new(&rt);
-    let hosts = hosts_told(alloc, &environment)?;
+/// The `Refusal` of the first that can't.
+fn settings_of(rt: &HostRuntime) -> Result<(Hosts, SettingsTold), Refusal> {
+    let environment = SystemEnvironment::new(rt);
+    let hosts = hosts_told(rt.alloc(), &environment)?;
     let settings = settings_told(&environment)?;
+    Ok((hosts, settings))
+}
+
+/// The spawner of the program that `launch` starts. How its children end is kept there.
+fn spawner_of(
+    rt: HostRuntime,
+    agent: Option<String>,
+    folder: Option<String>,
+    ends: &ChildEnds,
+) -> ProcessSpawner<'_, HostRuntime> {
+    let mut spawner = match agent {
+        Some(agent) => ProcessSpawner::new(rt, rt.alloc(), agent, ends),
+        None => ProcessSpawner::of_own_program(rt, ends),
+    };
+    if let Some(folder) = folder {
+        spawner.keep_in(folder);
+    }
+    spawner
+}
+
+fn main(rt: HostRuntime) -> ExitCode {
+    let (alloc, mut person) = (rt.alloc(), StandardError::new(&rt));
+    let Ok(words) = words_of(alloc, env::args(&rt)) else {
+        return refuse(&rt, Refusal::NoMemory);
+    };
+    let is_help = tell_help::<UserTexts, _>(alloc, &words, &mut person);
+    let (hosts, told) = match settings_of(&rt) {
+        Ok(told) => told,
+        Err(why) => return refuse(&rt, why),
+    };
+    let SettingsTold {
+        secret,
+        agent,
+        folder,
+        steps,
+    } = told;
     let (words, ports) = with_port(alloc, words, &SystemPorts::new(&rt), &mut person);
-    let is_shown = !is_node(&words) && is_terminal;
+    let is_shown = !is_node(&words) && rt.stderr().is_terminal();
     let input = InputFile::new(&rt);
-    let mut command = Command::new(alloc, words, settings.steps, !input.is_unread());
-    let progress = shown_progress(&rt, is_shown)?;
+    let mut command = Command::new(alloc, words, steps, !input.is_unread());
+    let Ok(progress) = shown_progress(&rt, is_shown) else {
+        return refuse(&rt, Refusal::NoMemory);
+    };
     let (socket, ends) = (LinkSocket::new(), ChildEnds::new(alloc));
-    let devices = Devices {
-        hosts: &hosts,
-        socket: &socket,
-        ends: &ends,
+    let unsealed = Dropped::new(socket.sender());
+    let link = UdpLink::new(rt, &socket, &hosts);
+    let behind = Behind {
+        spawner: CountedSpawner::new(alloc, spawner_of(rt, agent, folder, &ends), &*progress),
+        clock: SystemClock::new(rt),
+        waiter: SocketWaiter::new(rt, alloc, &socket),
         progress: &progress,
     };
-    let (status, outputs, facts) = run_over(rt, &mut command, settings, devices)?;
+    let mut notes = StandardNotes::new(&rt);
+    let (status, spawner) = match secret {
+        None => run(&rt, &mut command, link, behind, &mut notes),
+        Some(secret) => match SealedLink::new(alloc, link, Key::new(secret), &unsealed) {
+            Ok(link) => run(&rt, &mut command, link, behind, &mut notes),
+            Err(AllocError) => {
+                drop(behind);
+                return refuse(&rt, Refusal::NoMemory);
+            }
+        },
+    };
     progress.end(&rt);
     command.read_again(&input);
+    let (spawner, outputs) = spawner.into_parts();
+    let facts = facts_of(&socket, &unsealed, spawner.unstarted());
+    drop(spawner);
     let kept = KeptEnds::new(&ends);
     let outcome = Outcome::new(is_help, outputs, facts, &kept);
     tell_after::<UserTexts, OutputReplays, _, _>(alloc, &command, outcome, &mut person);
     drop(ports);
-    Ok(status)
-}
-
-fn main(rt: HostRuntime) -> ExitCode {
-    let Ok(words) = words_of(rt.alloc(), env::args(&rt)) else {
-        return refuse(&rt, Refusal::NoMemory);
-    };
-    match program(rt, words, rt.stderr().is_terminal()) {
-        Ok(status) => status,
-        Err(why) => refuse(&rt, why),
-    }
+    status
 }
