@@ -5,9 +5,8 @@ use Rattle.collective_group.specs.Standing.{AreAsFar}
 use Rattle.collective_group.specs.Wholes.{world_of}
 use Rattle.collective_group.proofs.at_group.AtGroupCaller.call.Goals as goal
 
-pub returns-in-Node-clause-answered : goal.returns-in-Node-clause-answered
-returns-in-Node-clause-answered g c = λ answer is whole stands.
-    let both = c.in-Node.ensures.steps whole.group.records whole.most stands.world in
+pub returns-in-Node : goal.returns-in-Node
+returns-in-Node g c =
     let at : Site = record {
       settings = c.args.self.now.group.now.world.settings;
       table = c.args.self.now.group.now.world.table;
@@ -15,13 +14,21 @@ returns-in-Node-clause-answered g c = λ answer is whole stands.
       node = c.args.self.now.node;
       now = c.args.self.now.now;
     } in
-    let same : c.in-Node.answer ≡ answer = cc in (
-      sym same ∙ same_told at whole.group.records (called_by c.args.thread c.args.call.now) c.in-Node.answer both.0,
-      record {
-        world = both.1;
-        nodes = subst (AreAsFar whole.area whole.group.progress) (sym c.event.ensures.same) stands.nodes;
-      },
-    )
+    record {
+      site = λ i. record at { settings = c.event.ensures.settings i; table = c.event.ensures.table i };
+      lent = refl;
+      answered = λ answer is whole stands.
+          let both = c.in-Node.ensures.steps whole.group.records whole.most stands.world in
+          let same : c.in-Node.answer ≡ answer = cc in (
+            sym same
+                ∙ same_told at whole.group.records (called_by c.args.thread c.args.call.now) c.in-Node.answer both.0,
+            record {
+              world = both.1;
+              nodes = subst (AreAsFar whole.area whole.group.progress) (sym c.event.ensures.same) stands.nodes;
+            },
+          );
+      no_memory = λ is. absurd (cc);
+    }
 
 pub returns-in_default : goal.returns-in_default
 returns-in_default g c = record {
