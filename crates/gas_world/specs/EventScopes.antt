@@ -28,7 +28,7 @@ use Rattle.endpoint_rules.specs.declared.call.Event.TheVariants as event
 use Rattle.gas_world.specs.declared.event.WorldEvent.{WorldEvent}
 use Rattle.gas_world.specs.declared.event.WorldEvent.TheVariants as world_event
 use Rattle.gas_world.specs.declared.step.Envelope.{Envelope}
-use Rattle.gas_world.specs.declared.step.EventScope.{EventScope as Spot}
+use Rattle.gas_world.specs.declared.step.EventContext.{EventContext}
 use Rattle.endpoint_rules.specs.declared.answer.Answer.{Answer}
 use Rattle.endpoint_rules.specs.declared.answer.Answer.TheVariants as answers
 use Rattle.gas_world.specs.declared.event.WorldAnswer.{WorldAnswer}
@@ -39,17 +39,16 @@ pub record EventScope : Type 0 where
   pub exchanges : ExchangesState
   pub most : ℕ
 
--- what is behind the references
-abbrev pub scope_of : Spot → EventScope
-scope_of spot = record {
-  endpoint = spot.endpoint.now;
-  exchanges = spot.exchanges.now;
-  most = spot.most.now;
+-- an endpoint, with what the context lends
+abbrev pub scope_of : {H : Type 0} → EventContext H → EndpointState → EventScope
+scope_of context endpoint = record {
+  endpoint = endpoint;
+  exchanges = context.exchanges.now;
+  most = context.most.now;
 }
 
 -- they are the same references still
-pub record LendsOn (old new : Spot) : Type 0 where
-  pub endpoint : new.endpoint.ghost_name ≡ old.endpoint.ghost_name
+pub record LendsOn {H : Type 0} (old new : EventContext H) : Type 0 where
   pub exchanges : new.exchanges.ghost_name ≡ old.exchanges.ghost_name
   pub most : new.most.ghost_name ≡ old.most.ghost_name
 
@@ -320,15 +319,21 @@ IsBetween count (world_event.Request from to number) = (from < count) × (to < c
 IsBetween count (world_event.Reply from to number) = (from < count) × (to < count) × (from ≢ to)
 IsBetween count (world_event.Tick node) = node < count
 
--- where the event is a tick, this is the node to which it sends a request of its node's own accord
-abbrev pub IsPlanned : List EndpointState → Transition WorldEvent (Option ℕ) → Type 0
+-- whether a tick sends a request of its node's own accord
+pub record TickSends (endpoint : EndpointState) (now : ℕ) (sends : Bool) : Type 0 where
+  pub target : Option ℕ
+  pub target_is : IsTickTarget endpoint now target
+  pub sends_is : sends ≡ is_some target
+
+-- where the event is a tick, this is whether it sends one
+abbrev pub IsPlanned : List EndpointState → Transition WorldEvent Bool → Type 0
 IsPlanned endpoints step = elim step.event [
   | world_event.Call node thread call ↦ Unit {0}
   | world_event.Request from to number ↦ Unit {0}
   | world_event.Reply from to number ↦ Unit {0}
   | world_event.Tick node ↦
       (endpoint : EndpointState) → slice_get endpoints node ≡ Some endpoint
-      → IsTickTarget endpoint step.now step.answer
+      → TickSends endpoint step.now step.answer
 ]
 
 -- a call may be made at its node's endpoint
@@ -354,6 +359,11 @@ pub record ScopeStage : Type 0 where
   pub endpoints : List EndpointState
   pub exchanges : ExchangesState
   pub most : ℕ
+
+-- with what the context lends
+abbrev pub stage_of : {H : Type 0} → EventContext H → List EndpointState → ScopeStage
+stage_of context endpoints =
+    record { endpoints = endpoints; exchanges = context.exchanges.now; most = context.most.now }
 
 -- with one endpoint of them
 abbrev pub scope_with : ScopeStage → EndpointState → EventScope
