@@ -23,3 +23,9 @@ pub record GivesOne {A : Type 0} (gives : ℕ → Option A → Type 0) (place : 
   pub one : Option A
   pub is_one : gives place one
   pub are : all ≡ list_of one
+
+-- what is so was added
+pub record AddsBy {A : Type 0} (gives : List A → Type 0) (old new : List A) : Type 0 where
+  pub added : List A
+  pub are : gives added
+  pub is : new ≡ old ++ added

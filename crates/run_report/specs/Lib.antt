@@ -2,6 +2,7 @@ pub mod Ends
 pub mod Status
 pub mod Gathering
 pub mod Findings
+pub mod Lines
 pub mod Unsent
 pub mod Replays
 pub mod Report

@@ -35,19 +35,19 @@ abbrev pub IsFrontPart : {T R : Type 0} → Texts T → Replays R → Judged →
 IsFrontPart texts given judged replays text =
     MatchBool (is_run judged.ending) (text ≡ []) (IsFrontText texts given judged.job.now replays text)
 
--- what no node sent, by all that was sent
-pub record IsUnsentText {R : Type 0} (given : Replays R) (nodes : List NodeFinding) (replays : R)
-    (sent : List SentMessage) (text : List ℕ) : Type 0 where
+-- what no node sent was added, by all that was sent
+pub record AddsUnsent {R : Type 0} (given : Replays R) (nodes : List NodeFinding) (replays : R)
+    (sent : List SentMessage) (old new : List ℕ) : Type 0 where
   pub gaps : List Gap
   pub are : GivesTo (GivesOne (given.gaps replays)) (given.places replays) gaps
-  pub is : text ≡ flat_map blocked_told nodes ++ gaps_text gaps sent (list_any is_blocked nodes)
+  pub is : new ≡ old ++ gaps_text gaps sent (list_any is_blocked nodes)
 
 -- of traces that are no run: where their replays stop, and what no node sent, where that is looked for
 pub record IsNoRunText {R : Type 0} (given : Replays R) (nodes : List NodeFinding) (replays : R)
     (text : List ℕ) : Type 0 where
   pub sent : List SentMessage
   pub are : GivesTo (AreSent given replays) (given.places replays) sent
-  pub is : MatchBool (is_searched nodes sent) (IsUnsentText given nodes replays sent text)
+  pub is : MatchBool (is_searched nodes sent) (AddsUnsent given nodes replays sent (flat_map blocked_told nodes) text)
       (text ≡ flat_map blocked_told nodes)
 
 abbrev pub IsNoRunPart : {R : Type 0} → Replays R → Ending → List NodeFinding → R → List ℕ → Type 0

@@ -36,16 +36,16 @@ fn status_name(code: u8) -> &'static str
     }
 }
 
-/// The line of a node that ended with a status, which has the status with its name.
+/// Adds the line of a node that ended with a status, which has the status with its name.
 ///
 /// # Errors
 ///
 /// `AllocError` where memory ran out.
-pub(crate) fn ended_line(alloc: Global, rank: u16, code: u8) -> Result<String, AllocError>
-    ensures { IfOk result (λ text. string_bytes text ≡ ended_line rank code) }
+pub(crate) fn add_ended_line(text: &mut String, rank: u16, code: u8) -> Result<(), AllocError>
+    ensures { OnOk result (string_bytes text.new ≡ string_bytes text.old ++ ended_line rank code) }
 {
     let name = status_name(code);
-    format!(in alloc; "ended {rank} status {code} {name}\n")
+    write!(text, "ended {rank} status {code} {name}\n")
 }
 
 /// Whether a node that ended so is told of: among those that got stuck, or among those that failed
@@ -61,44 +61,39 @@ pub(crate) fn is_told(stuck: bool, code: Option<u8>) -> bool
     }
 }
 
-/// The line of how a node ended.
-fn end_line(alloc: Global, node: &EndedNode) -> Result<String, AllocError>
-    ensures { IfOk result (λ text. string_bytes text ≡ end_line node.now) }
+/// Adds the line of how a node ended.
+fn add_end_line(text: &mut String, node: &EndedNode) -> Result<(), AllocError>
+    ensures { OnOk result (string_bytes text.new ≡ string_bytes text.old ++ end_line node.now) }
 {
     let rank = node.rank;
     match node.code {
-        Some(code) => ended_line(alloc, rank, code),
+        Some(code) => add_ended_line(text, rank, code),
         None => {
             let how = node.how.as_str();
-            format!(in alloc; "ended {rank} {how}\n")
+            write!(text, "ended {rank} {how}\n")
         }
     }
 }
 
-/// The line of how a node ended, if it is told of.
+/// Adds the line of how a node ended, if it is told of.
 #[tactic(auto, unfolding(crate::specs::Ends::end_told))]
-fn end_told(alloc: Global, node: &EndedNode, stuck: bool) -> Result<String, AllocError>
-    ensures { IfOk result (λ text. string_bytes text ≡ end_told stuck node.now) }
+fn add_end(text: &mut String, node: &EndedNode, stuck: bool) -> Result<(), AllocError>
+    ensures { OnOk result (string_bytes text.new
+        ≡ string_bytes text.old ++ end_told stuck node.now) }
 {
     if is_told(stuck, node.code) {
-        return end_line(alloc, node);
+        return add_end_line(text, node);
     }
-    Ok(String::new(alloc))
+    Ok(())
 }
 
 /// Adds the lines of the nodes that are told of.
-fn add_ends(
-    alloc: Global,
-    nodes: &[EndedNode],
-    stuck: bool,
-    text: &mut String,
-) -> Result<(), AllocError>
+fn add_ends(text: &mut String, nodes: &[EndedNode], stuck: bool) -> Result<(), AllocError>
     ensures { OnOk result (string_bytes text.new
         ≡ string_bytes text.old ++ flat_map (end_told stuck) nodes.now) }
 {
     for node in nodes {
-        let line = end_told(alloc, node, stuck)?;
-        text.push_str(line.as_str())?;
+        add_end(text, node, stuck)?;
     }
     Ok(())
 }
@@ -113,7 +108,7 @@ pub(crate) fn ends_text(alloc: Global, nodes: &[EndedNode]) -> Result<String, Al
     ensures { IfOk result (λ text. string_bytes text ≡ ends_text nodes.now) }
 {
     let mut text = String::new(alloc);
-    add_ends(alloc, nodes, false, &mut text)?;
-    add_ends(alloc, nodes, true, &mut text)?;
+    add_ends(&mut text, nodes, false)?;
+    add_ends(&mut text, nodes, true)?;
     Ok(text)
 }

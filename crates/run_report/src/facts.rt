@@ -111,8 +111,7 @@ pub(crate) fn dropped_text(alloc: Global, facts: Facts) -> Result<String, AllocE
         return Ok(String::new(alloc));
     };
     let address = format!(in alloc; "{address}")?;
-    let text = dropped_at(alloc, address.as_str(), facts)?;
-    Ok(text)
+    dropped_at(alloc, address.as_str(), facts)
 }
 
 /// Why an address can't be bound.

@@ -1,10 +1,11 @@
 //! What the outputs of the nodes of a run tell.
 
-ghost use Rattle.std.specs.Prelude.{◌≡◌, ◌++◌, ◌+◌, ◌==◌, Bool, IfOk, OnOk, string_bytes};
+ghost use Rattle.std.specs.Prelude.{◌≡◌, ◌++◌, ◌==◌, Bool, IfOk, OnOk, string_bytes};
 ghost use Rattle.std.specs.List.{flat_map, list_any};
+ghost use Rattle.run_report.specs.Lines.{line_told};
 ghost use Rattle.run_report.specs.Findings.{blocked_told, counts_told, difference_told, fault_of, is_blocked, is_stuck, open_told, refused_line, refused_told, status_told};
 
-use crate::ends::{ended_line, is_told};
+use crate::ends::{add_ended_line, is_told};
 use std::alloc::{AllocError, Global};
 
 /// What the output of a node tells, by the replay of its trace.
@@ -28,6 +29,17 @@ pub struct NodeFinding {
     pub turns: usize,
 }
 
+/// Adds what is told of a node some of whose turns got what it refused.
+fn add_refused_line(text: &mut String, rank: u16, turns: usize) -> Result<(), AllocError>
+    ensures { OnOk result (string_bytes text.new
+        ≡ string_bytes text.old ++ refused_line rank turns) }
+{
+    write!(
+        text,
+        "gasnet: node {rank} refused what {turns} of its turns got\n"
+    )
+}
+
 /// What is told of a node some of whose turns got what it refused.
 ///
 /// # Errors
@@ -36,67 +48,42 @@ pub struct NodeFinding {
 pub fn refused_line(alloc: Global, rank: u16, turns: usize) -> Result<String, AllocError>
     ensures { IfOk result (λ text. string_bytes text ≡ refused_line rank turns) }
 {
-    format!(in alloc; "gasnet: node {rank} refused what {turns} of its turns got\n")
+    let mut text = String::new(alloc);
+    add_refused_line(&mut text, rank, turns)?;
+    Ok(text)
 }
 
-/// How many turns of a node of a run that failed got what it refused, where there are any.
+/// Adds how many turns of a node of a run that failed got what it refused, where there are any.
 #[tactic(auto, unfolding(crate::specs::Findings::refused_told))]
-fn refused_told(alloc: Global, failed: bool, node: NodeFinding) -> Result<String, AllocError>
-    ensures { IfOk result (λ text. string_bytes text ≡ refused_told failed node) }
+fn add_refused(text: &mut String, failed: bool, node: NodeFinding) -> Result<(), AllocError>
+    ensures { OnOk result (string_bytes text.new
+        ≡ string_bytes text.old ++ refused_told failed node) }
 {
     if failed && node.refused != 0 {
-        return refused_line(alloc, node.rank, node.refused);
-    }
-    Ok(String::new(alloc))
-}
-
-/// How many requests of a node aren't back, where there are any.
-#[tactic(auto, unfolding(crate::specs::Findings::open_told))]
-fn open_told(alloc: Global, node: NodeFinding) -> Result<String, AllocError>
-    ensures { IfOk result (λ text. string_bytes text ≡ open_told node) }
-{
-    let (rank, open) = (node.rank, node.unreturned);
-    if open != 0 {
-        return format!(in alloc; "open {rank} {open}\n");
-    }
-    Ok(String::new(alloc))
-}
-
-/// What is counted of a node.
-fn add_counts(
-    alloc: Global,
-    nodes: &[NodeFinding],
-    failed: bool,
-    text: &mut String,
-) -> Result<(), AllocError>
-    ensures { OnOk result (string_bytes text.new
-        ≡ string_bytes text.old ++ flat_map (counts_told failed) nodes.now) }
-{
-    for node in nodes {
-        let refused = refused_told(alloc, failed, *node)?;
-        text.push_str(refused.as_str())?;
-        let open = open_told(alloc, *node)?;
-        text.push_str(open.as_str())?;
+        return add_refused_line(text, node.rank, node.refused);
     }
     Ok(())
 }
 
-/// How many requests of each node aren't back, where there are any, and of a run that failed how
-/// many turns got what their node refused.
-///
-/// # Errors
-///
-/// `AllocError` where memory ran out.
-pub(crate) fn counts_text(
-    alloc: Global,
-    nodes: &[NodeFinding],
-    failed: bool,
-) -> Result<String, AllocError>
-    ensures { IfOk result (λ text. string_bytes text ≡ flat_map (counts_told failed) nodes.now) }
+/// Adds how many requests of a node aren't back, where there are any.
+#[tactic(auto, unfolding(crate::specs::Findings::open_told))]
+fn add_open(text: &mut String, node: NodeFinding) -> Result<(), AllocError>
+    ensures { OnOk result (string_bytes text.new ≡ string_bytes text.old ++ open_told node) }
 {
-    let mut text = String::new(alloc);
-    add_counts(alloc, nodes, failed, &mut text)?;
-    Ok(text)
+    let (rank, open) = (node.rank, node.unreturned);
+    if open != 0 {
+        return write!(text, "open {rank} {open}\n");
+    }
+    Ok(())
+}
+
+/// Adds what is counted of a node.
+fn add_counts(text: &mut String, failed: bool, node: NodeFinding) -> Result<(), AllocError>
+    ensures { OnOk result (string_bytes text.new
+        ≡ string_bytes text.old ++ counts_told failed node) }
+{
+    add_refused(text, failed, node)?;
+    add_open(text, node)
 }
 
 /// What is wrong with the status that a node told, by the replay of its trace. Empty where nothing
@@ -118,64 +105,34 @@ fn fault_of(node: NodeFinding) -> &'static str
     }
 }
 
-/// What is told of a node whose status isn't what the replay of its trace has.
+/// Adds what is told of a node whose status isn't what the replay of its trace has.
 #[tactic(auto, unfolding(crate::specs::Findings::difference_told))]
-fn difference_told(alloc: Global, node: NodeFinding) -> Result<String, AllocError>
-    ensures { IfOk result (λ text. string_bytes text ≡ difference_told node) }
+fn add_difference(text: &mut String, node: NodeFinding) -> Result<(), AllocError>
+    ensures { OnOk result (string_bytes text.new
+        ≡ string_bytes text.old ++ difference_told node) }
 {
     let fault = fault_of(node);
     if fault.is_empty() {
-        return Ok(String::new(alloc));
+        return Ok(());
     }
     let (rank, status) = (node.rank, node.status);
-    format!(in alloc; "differs {rank} status {status}: {fault}\n")
+    write!(text, "differs {rank} status {status}: {fault}\n")
 }
 
-/// What is told of the nodes whose status isn't what the replay of their trace has.
-///
-/// # Errors
-///
-/// `AllocError` where memory ran out.
-pub(crate) fn differences_text(alloc: Global, nodes: &[NodeFinding]) -> Result<String, AllocError>
-    ensures { IfOk result (λ text. string_bytes text ≡ flat_map difference_told nodes.now) }
-{
-    let mut text = String::new(alloc);
-    for node in nodes {
-        let line = difference_told(alloc, *node)?;
-        text.push_str(line.as_str())?;
-    }
-    Ok(text)
-}
-
-/// Where the replay of a node's trace stops, if it stops.
+/// Adds where the replay of a node's trace stops, if it stops.
 #[tactic(auto, unfolding(crate::specs::Findings::blocked_told))]
-fn blocked_told(alloc: Global, node: NodeFinding) -> Result<String, AllocError>
-    ensures { IfOk result (λ text. string_bytes text ≡ blocked_told node) }
+fn add_blocked(text: &mut String, node: NodeFinding) -> Result<(), AllocError>
+    ensures { OnOk result (string_bytes text.new ≡ string_bytes text.old ++ blocked_told node) }
 {
     let (rank, turns) = (node.rank, node.turns);
     if turns >= node.entries {
-        return Ok(String::new(alloc));
+        return Ok(());
     }
     let (entry, line) = (turns.saturating_add(1), turns.saturating_add(4));
-    format!(in alloc;
+    write!(
+        text,
         "blocked {rank} {entry} line {line}: its thread holds a lock, and gets nothing\n"
     )
-}
-
-/// Where the replays of traces stop.
-///
-/// # Errors
-///
-/// `AllocError` where memory ran out.
-pub(crate) fn blocked_text(alloc: Global, nodes: &[NodeFinding]) -> Result<String, AllocError>
-    ensures { IfOk result (λ text. string_bytes text ≡ flat_map blocked_told nodes.now) }
-{
-    let mut text = String::new(alloc);
-    for node in nodes {
-        let line = blocked_told(alloc, *node)?;
-        text.push_str(line.as_str())?;
-    }
-    Ok(text)
 }
 
 /// Whether the replay of a trace stops.
@@ -192,33 +149,58 @@ pub(crate) fn has_stuck(nodes: &[NodeFinding]) -> bool
     nodes.iter().any(|node| node.status == 9)
 }
 
-/// The status that a node ended with, if it is told of.
+/// Adds the status that a node ended with, if it is told of.
 #[tactic(auto, unfolding(crate::specs::Findings::status_told))]
-fn status_told(alloc: Global, stuck: bool, node: NodeFinding) -> Result<String, AllocError>
-    ensures { IfOk result (λ text. string_bytes text ≡ status_told stuck node) }
+fn add_status(text: &mut String, stuck: bool, node: NodeFinding) -> Result<(), AllocError>
+    ensures { OnOk result (string_bytes text.new
+        ≡ string_bytes text.old ++ status_told stuck node) }
 {
     if is_told(stuck, Some(node.status)) {
-        return ended_line(alloc, node.rank, node.status);
+        return add_ended_line(text, node.rank, node.status);
     }
-    Ok(String::new(alloc))
+    Ok(())
 }
 
-/// The statuses of the nodes that got stuck, or of those that failed of their own.
+/// What is told of each node.
+#[derive(Clone, Copy)]
+pub(crate) enum NodeLine {
+    /// What is counted of it, of a run that failed or not.
+    Counts(bool),
+    /// That its status isn't what the replay of its trace has.
+    Difference,
+    /// Where the replay of its trace stops.
+    Blocked,
+    /// The status that it ended with, if it got stuck, or if it failed of its own.
+    Status(bool),
+}
+
+/// Adds what is told of a node.
+fn add_line(text: &mut String, told: NodeLine, node: NodeFinding) -> Result<(), AllocError>
+    ensures { OnOk result (string_bytes text.new ≡ string_bytes text.old ++ line_told told node) }
+{
+    match told {
+        NodeLine::Counts(failed) => add_counts(text, failed, node),
+        NodeLine::Difference => add_difference(text, node),
+        NodeLine::Blocked => add_blocked(text, node),
+        NodeLine::Status(stuck) => add_status(text, stuck, node),
+    }
+}
+
+/// Adds what is told of each node.
 ///
 /// # Errors
 ///
 /// `AllocError` where memory ran out.
-pub(crate) fn statuses_text(
-    alloc: Global,
+pub(crate) fn add_lines(
+    text: &mut String,
+    told: NodeLine,
     nodes: &[NodeFinding],
-    stuck: bool,
-) -> Result<String, AllocError>
-    ensures { IfOk result (λ text. string_bytes text ≡ flat_map (status_told stuck) nodes.now) }
+) -> Result<(), AllocError>
+    ensures { OnOk result (string_bytes text.new
+        ≡ string_bytes text.old ++ flat_map (line_told told) nodes.now) }
 {
-    let mut text = String::new(alloc);
     for node in nodes {
-        let line = status_told(alloc, stuck, *node)?;
-        text.push_str(line.as_str())?;
+        add_line(text, told, *node)?;
     }
-    Ok(text)
+    Ok(())
 }

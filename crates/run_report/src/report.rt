@@ -1,17 +1,15 @@
 //! What is told of the outputs of the nodes of a run, one part after the other.
 
-ghost use Rattle.std.specs.Prelude.{◌≡◌, Bool, IfOk, string_bytes};
-ghost use Rattle.run_report.specs.Gathering.{GivesOne, GivesTo};
-ghost use Rattle.run_report.specs.Report.{IsFindingsText, IsFrontPart, IsNoRunPart, IsNoRunText, IsPatienceText, IsToldBy, is_failed, is_no_run, is_run, statuses_text};
+ghost use Rattle.std.specs.Prelude.{◌≡◌, ◌++◌, Bool, IfOk, OnOk, string_bytes};
+ghost use Rattle.run_report.specs.Gathering.{AddsBy, GivesOne, GivesTo};
+ghost use Rattle.run_report.specs.Report.{AddsUnsent, IsFindingsText, IsFrontPart, IsNoRunPart, IsNoRunText, IsPatienceText, IsToldBy, is_failed, is_no_run, is_run, statuses_text};
 
-use crate::findings::{
-    NodeFinding, blocked_text, counts_text, differences_text, has_blocked, has_stuck, statuses_text,
-};
+use crate::findings::{NodeFinding, NodeLine, add_lines, has_blocked, has_stuck};
 use crate::gathered::{findings_of, front_text, gaps_of, sent_of};
 use crate::replays::Replays;
 use crate::status::Ending;
 use crate::texts::Texts;
-use crate::unsent::{gaps_text, is_searched};
+use crate::unsent::{SentMessage, add_gaps, is_searched};
 use std::alloc::{AllocError, Global};
 
 /// A run whose nodes' outputs are told of.
@@ -70,6 +68,22 @@ fn front_part<T: Texts, R: Replays>(
     front_text::<T, R>(alloc, judged.job, replays)
 }
 
+/// Adds what no node sent, by all that was sent.
+fn add_unsent<R: Replays>(
+    alloc: Global,
+    nodes: &[NodeFinding],
+    replays: &R,
+    sent: &[SentMessage],
+    text: &mut String,
+) -> Result<(), AllocError>
+    ensures { OnOk result (AddsUnsent R.Replays nodes.now replays.now sent.now
+        (string_bytes text.old) (string_bytes text.new)) }
+{
+    let gaps = gaps_of(alloc, replays)?;
+    add_gaps(text, &gaps, sent, has_blocked(nodes))?;
+    Ok(())
+}
+
 /// What is told of traces that are no run: where their replays stop, and what no node sent.
 fn no_run_text<R: Replays>(
     alloc: Global,
@@ -79,15 +93,13 @@ fn no_run_text<R: Replays>(
     ensures { IfOk result (λ text. IsNoRunText R.Replays nodes.now replays.now
         (string_bytes text)) }
 {
-    let blocked = blocked_text(alloc, nodes)?;
     let sent = sent_of(alloc, replays)?;
-    if !is_searched(nodes, &sent) {
-        return Ok(blocked);
+    let mut text = String::new(alloc);
+    add_lines(&mut text, NodeLine::Blocked, nodes)?;
+    if is_searched(nodes, &sent) {
+        add_unsent(alloc, nodes, replays, &sent, &mut text)?;
     }
-    let gaps = gaps_of(alloc, replays)?;
-    let unsent = gaps_text(alloc, &gaps, &sent, has_blocked(nodes))?;
-    let (first, last) = (blocked.as_str(), unsent.as_str());
-    format!(in alloc; "{first}{last}")
+    Ok(text)
 }
 
 /// What is told of traces, where they are no run.
@@ -120,19 +132,49 @@ fn patience_text<T: Texts>(
     Ok(String::new(alloc))
 }
 
-/// How the nodes of a check ended that ended with another status than 0 and 1: those that failed of
-/// their own, and then those that got stuck.
+/// Adds what is told of traces, where they are no run.
+fn add_no_run_part<R: Replays>(
+    alloc: Global,
+    ending: Ending,
+    nodes: &[NodeFinding],
+    replays: &R,
+    text: &mut String,
+) -> Result<(), AllocError>
+    ensures { OnOk result (AddsBy (IsNoRunPart R.Replays ending nodes.now replays.now)
+        (string_bytes text.old) (string_bytes text.new)) }
+{
+    let part = no_run_part(alloc, ending, nodes, replays)?;
+    text.push_str(part.as_str())?;
+    Ok(())
+}
+
+/// Adds what is told of the patience of nodes of which one got stuck.
+fn add_patience<T: Texts>(
+    alloc: Global,
+    nodes: &[NodeFinding],
+    job: &[u8],
+    text: &mut String,
+) -> Result<(), AllocError>
+    ensures { OnOk result (AddsBy (IsPatienceText T.Texts nodes.now job.now)
+        (string_bytes text.old) (string_bytes text.new)) }
+{
+    let part = patience_text::<T>(alloc, nodes, job)?;
+    text.push_str(part.as_str())?;
+    Ok(())
+}
+
+/// Adds how the nodes of a check ended that ended with another status than 0 and 1: those that
+/// failed of their own, and then those that got stuck.
 #[tactic(auto, unfolding(crate::specs::Report::statuses_text))]
-fn ends_of_check(alloc: Global, is_check: bool, nodes: &[NodeFinding]) -> Result<String, AllocError>
-    ensures { IfOk result (λ text. string_bytes text ≡ statuses_text is_check nodes.now) }
+fn add_statuses(text: &mut String, is_check: bool, nodes: &[NodeFinding]) -> Result<(), AllocError>
+    ensures { OnOk result (string_bytes text.new
+        ≡ string_bytes text.old ++ statuses_text is_check nodes.now) }
 {
     if !is_check {
-        return Ok(String::new(alloc));
+        return Ok(());
     }
-    let own = statuses_text(alloc, nodes, false)?;
-    let stuck = statuses_text(alloc, nodes, true)?;
-    let (first, last) = (own.as_str(), stuck.as_str());
-    format!(in alloc; "{first}{last}")
+    add_lines(text, NodeLine::Status(false), nodes)?;
+    add_lines(text, NodeLine::Status(true), nodes)
 }
 
 /// What is told of what the output of each node tells.
@@ -145,15 +187,13 @@ fn told_by<T: Texts, R: Replays>(
     ensures { IfOk result (λ text. IsToldBy T.Texts R.Replays judged.entry nodes.now replays.now
         (string_bytes text)) }
 {
-    let front = front_part::<T, R>(alloc, judged, replays)?;
-    let counts = counts_text(alloc, nodes, is_failed(judged.ending))?;
-    let differences = differences_text(alloc, nodes)?;
-    let no_run = no_run_part(alloc, judged.ending, nodes, replays)?;
-    let patience = patience_text::<T>(alloc, nodes, judged.job)?;
-    let ends = ends_of_check(alloc, judged.is_check, nodes)?;
-    let (first, second, third) = (front.as_str(), counts.as_str(), differences.as_str());
-    let (fourth, fifth, last) = (no_run.as_str(), patience.as_str(), ends.as_str());
-    format!(in alloc; "{first}{second}{third}{fourth}{fifth}{last}")
+    let mut text = front_part::<T, R>(alloc, judged, replays)?;
+    add_lines(&mut text, NodeLine::Counts(is_failed(judged.ending)), nodes)?;
+    add_lines(&mut text, NodeLine::Difference, nodes)?;
+    add_no_run_part(alloc, judged.ending, nodes, replays, &mut text)?;
+    add_patience::<T>(alloc, nodes, judged.job, &mut text)?;
+    add_statuses(&mut text, judged.is_check, nodes)?;
+    Ok(text)
 }
 
 /// What the outputs of the nodes of a run tell. Where it is none: the steps that ended, those that

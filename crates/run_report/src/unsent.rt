@@ -1,11 +1,11 @@
 //! The datagrams of traces that no node sent.
 
-ghost use Rattle.std.specs.Prelude.{◌≡◌, ◌++◌, ◌==◌, Bool, IfOk, Some, MatchOption, find, string_bytes};
+ghost use Rattle.std.specs.Prelude.{◌≡◌, ◌++◌, ◌==◌, Bool, OnOk, Some, MatchOption, find, string_bytes};
 ghost use Rattle.std.specs.List.{flat_map, list_any};
 ghost use Rattle.run_report.specs.Unsent.{entries_from, gap_at, gap_end, gap_line, gap_told, gaps_text, has_cause, is_alike, is_cause, is_message, is_otherwise, is_searched, message_told, message_word, sent_otherwise, told_of_sender};
 
 use crate::findings::NodeFinding;
-use std::alloc::{AllocError, Global};
+use std::alloc::AllocError;
 
 /// More comparisons of datagrams than this aren't made.
 const MOST: usize = 268_435_456;
@@ -162,107 +162,107 @@ fn message_word(is_request: bool) -> &'static str
     }
 }
 
-/// What the node that a message is said to be from sent in its place.
+/// Adds what the node that a message is said to be from sent in its place.
 #[tactic(auto, unfolding(crate::specs::Unsent::told_of_sender))]
-fn told_of_sender(alloc: Global, turn: Option<usize>) -> Result<String, AllocError>
-    ensures { IfOk result (λ text. string_bytes text ≡ told_of_sender turn) }
+fn add_sender(text: &mut String, turn: Option<usize>) -> Result<(), AllocError>
+    ensures { OnOk result (string_bytes text.new ≡ string_bytes text.old ++ told_of_sender turn) }
 {
     match turn {
-        Some(turn) => format!(in alloc; ", which sent other bytes in its turn {turn}\n"),
-        None => String::from_str(alloc, ", which sent no such message to it\n"),
+        Some(turn) => write!(text, ", which sent other bytes in its turn {turn}\n"),
+        None => text.push_str(", which sent no such message to it\n"),
     }
 }
 
-/// How a message is told, with what the node that it is said to be from sent in its place.
+/// Adds how a message is told, with what the node that it is said to be from sent in its place.
 #[tactic(auto, unfolding(crate::specs::Unsent::message_told))]
-fn message_told(alloc: Global, message: Message, turn: Option<usize>) -> Result<String, AllocError>
-    ensures { IfOk result (λ text. string_bytes text ≡ message_told message turn) }
+fn add_message(text: &mut String, message: Message, turn: Option<usize>) -> Result<(), AllocError>
+    ensures { OnOk result (string_bytes text.new
+        ≡ string_bytes text.old ++ message_told message turn) }
 {
     let (word, number) = (message_word(message.is_request), message.number);
     let (slot, from) = (message.slot, message.from);
-    let told = told_of_sender(alloc, turn)?;
-    let end = told.as_str();
-    format!(in alloc; ": {word} {number} of slot {slot} by node {from}{end}")
+    write!(text, ": {word} {number} of slot {slot} by node {from}")?;
+    add_sender(text, turn)
 }
 
-/// What stands behind the place of a gap.
+/// Adds what stands behind the place of a gap.
 #[tactic(auto, unfolding(crate::specs::Unsent::gap_end))]
-fn gap_end(alloc: Global, sent: &[SentMessage], gap: Gap) -> Result<String, AllocError>
-    ensures { IfOk result (λ text. string_bytes text ≡ gap_end sent.now gap.rank gap.message) }
+fn add_gap_end(text: &mut String, sent: &[SentMessage], gap: Gap) -> Result<(), AllocError>
+    ensures { OnOk result (string_bytes text.new
+        ≡ string_bytes text.old ++ gap_end sent.now gap.rank gap.message) }
 {
     match gap.message {
         Some(message) => {
             let turn = sent_otherwise(sent, message, gap.rank);
-            message_told(alloc, message, turn)
+            add_message(text, message, turn)
         }
-        None => String::from_str(alloc, "\n"),
+        None => text.push_str("\n"),
     }
 }
 
-/// The line of a gap.
+/// Adds the line of a gap.
 #[tactic(auto, unfolding(crate::specs::Unsent::gap_line))]
-fn gap_line(alloc: Global, sent: &[SentMessage], gap: Gap) -> Result<String, AllocError>
-    ensures { IfOk result (λ text. string_bytes text ≡ gap_line sent.now gap) }
+fn add_gap_line(text: &mut String, sent: &[SentMessage], gap: Gap) -> Result<(), AllocError>
+    ensures { OnOk result (string_bytes text.new ≡ string_bytes text.old ++ gap_line sent.now gap) }
 {
     let (rank, entry, line) = (gap.rank, gap.entry, gap.entry.saturating_add(3));
-    let told = gap_end(alloc, sent, gap)?;
-    let end = told.as_str();
-    format!(in alloc; "unsent {rank} {entry} line {line}{end}")
+    write!(text, "unsent {rank} {entry} line {line}")?;
+    add_gap_end(text, sent, gap)
 }
 
-/// The line of a gap that is a cause, or of any where no one is.
+/// Adds the line of a gap that is a cause, or of any where no one is.
 #[tactic(auto, unfolding(crate::specs::Unsent::gap_told))]
-fn gap_told(
-    alloc: Global,
+fn add_gap(
+    text: &mut String,
     gaps: &[Gap],
     sent: &[SentMessage],
     gap: Gap,
     all: bool,
-) -> Result<String, AllocError>
-    ensures { IfOk result (λ text. string_bytes text ≡ gap_told gaps.now sent.now all gap) }
+) -> Result<(), AllocError>
+    ensures { OnOk result (string_bytes text.new
+        ≡ string_bytes text.old ++ gap_told gaps.now sent.now all gap) }
 {
     if all || is_cause(gaps, sent, gap) {
-        return gap_line(alloc, sent, gap);
+        return add_gap_line(text, sent, gap);
     }
-    Ok(String::new(alloc))
+    Ok(())
 }
 
-/// The lines of the gaps that are causes, or of all where no one is.
-fn lines_of_gaps(
-    alloc: Global,
+/// Adds the lines of the gaps that are causes, or of all where no one is.
+fn add_gap_lines(
+    text: &mut String,
     gaps: &[Gap],
     sent: &[SentMessage],
     all: bool,
-) -> Result<String, AllocError>
-    ensures { IfOk result (λ text. string_bytes text
-        ≡ flat_map (gap_told gaps.now sent.now all) gaps.now) }
+) -> Result<(), AllocError>
+    ensures { OnOk result (string_bytes text.new
+        ≡ string_bytes text.old ++ flat_map (gap_told gaps.now sent.now all) gaps.now) }
 {
-    let mut text = String::new(alloc);
     for gap in gaps {
-        let line = gap_told(alloc, gaps, sent, *gap, all)?;
-        text.push_str(line.as_str())?;
+        add_gap(text, gaps, sent, *gap, all)?;
     }
-    Ok(text)
+    Ok(())
 }
 
-/// Of each node the first entry that got what no node sent to it: of those that aren't mere
+/// Adds of each node the first entry that got what no node sent to it: of those that aren't mere
 /// consequences of others, or of all, where all may be such. Where there is none, and no replay
 /// stopped, that is told.
 ///
 /// # Errors
 ///
 /// `AllocError` where memory ran out.
-pub(crate) fn gaps_text(
-    alloc: Global,
+pub(crate) fn add_gaps(
+    text: &mut String,
     gaps: &[Gap],
     sent: &[SentMessage],
     is_blocked: bool,
-) -> Result<String, AllocError>
-    ensures { IfOk result (λ text. string_bytes text ≡ gaps_text gaps.now sent.now is_blocked) }
+) -> Result<(), AllocError>
+    ensures { OnOk result (string_bytes text.new
+        ≡ string_bytes text.old ++ gaps_text gaps.now sent.now is_blocked) }
 {
     if gaps.is_empty() && !is_blocked {
         let told = "each datagram was sent, but one or more were got before they were sent\n";
-        return String::from_str(alloc, told);
+        return text.push_str(told);
     }
-    lines_of_gaps(alloc, gaps, sent, !has_cause(gaps, sent))
+    add_gap_lines(text, gaps, sent, !has_cause(gaps, sent))
 }

@@ -1,0 +1,13 @@
+-- What is told of each node.
+use Rattle.std.specs.Prelude.{ℕ, List}
+use Rattle.run_report.specs.Findings.{blocked_told, counts_told, difference_told, status_told}
+use Rattle.run_report.specs.declared.findings.NodeFinding.{NodeFinding}
+use Rattle.run_report.specs.declared.findings.NodeLine.{NodeLine}
+use Rattle.run_report.specs.declared.findings.NodeLine.TheVariants as line
+
+-- what is told of a node
+abbrev pub line_told : NodeLine → NodeFinding → List ℕ
+line_told (line.Counts failed) = counts_told failed
+line_told line.Difference = difference_told
+line_told line.Blocked = blocked_told
+line_told (line.Status stuck) = status_told stuck
