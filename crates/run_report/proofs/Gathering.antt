@@ -1,7 +1,7 @@
 -- One place more.
-use Rattle.std.proofs.Common.{◌≡◌, ◌⊎◌, ℕ, suc, ◌+◌, ◌<◌, ◌≤◌, arith, inl, inr, subst, List, [], ◌∷◌, ◌++◌, Option, Some, None, add-one, append-nil, refl, sym, ◌∙◌}
+use Rattle.std.proofs.Common.{◌≡◌, ◌⊎◌, ℕ, ◌+◌, ◌<◌, ◌≤◌, arith, inl, inr, subst, List, [], ◌∷◌, ◌++◌, Option, Some, None, add-one, append-nil, refl, sym, ◌∙◌}
 use Rattle.std.proofs.lemmas.Bool.{cases_lt}
-use Rattle.run_report.specs.Gathering.{GivesMore, GivesOne, GivesTo}
+use Rattle.run_report.specs.Gathering.{GivesOne, GivesTo}
 
 -- a place gave these
 pub gives_more : {A : Type 0} (gives : ℕ → List A → Type 0) (place : ℕ) (front last all : List A) → GivesTo gives place front

@@ -1,5 +1,5 @@
 -- Why a run went wrong, as a person is told.
-use Rattle.std.specs.Prelude.{◌≡◌, ◌⊎◌, ℕ, ℤ, Option, ◌==◌, ◌||◌, List, [], ◌++◌, length, drop, Bool, if◌then◌else◌, codes, nat_eq}
+use Rattle.std.specs.Prelude.{◌≡◌, ◌⊎◌, ℕ, ℤ, Option, ◌==◌, ◌||◌, List, [], ◌++◌, length, if◌then◌else◌, codes, nat_eq}
 use Rattle.std.specs.Prelude.{String}
 use Rattle.std.specs.Global.{Global}
 use Rattle.std.specs.Bool.{MatchBool}

@@ -1,7 +1,6 @@
 -- What the outputs of the nodes of a run tell.
 use Rattle.std.specs.Prelude.{ℕ, ◌+◌, ◌-◌, ◌^◌, min, ◌==◌, ◌&&◌, ◌||◌, not, nat_lt, nat_le, List, [], ◌++◌, length, Bool}
 use Rattle.std.specs.Prelude.{if◌then◌else◌, Some, codes, decimal}
-use Rattle.std.specs.List.{flat_map, list_any}
 use Rattle.run_report.specs.Ends.{ended_line, is_told}
 use Rattle.run_report.specs.declared.findings.NodeFinding.{NodeFinding}
 

@@ -1,7 +1,6 @@
 -- Which message a datagram is, as far as it is told.
 use Rattle.std.specs.Prelude.{◌≡◌, ◌⊎◌, ℕ, List}
 use Rattle.datagram_grammar.specs.Content.{Message as Spelled, Spells, is_request}
-use Rattle.datagram_grammar.specs.Reading.{viewed_message}
 use Rattle.datagram_grammar.specs.declared.viewed.View.{View}
 use Rattle.run_report.specs.declared.unsent.Message.{Message}
 

@@ -1,8 +1,7 @@
 -- One rank more.
-use Rattle.std.proofs.Common.{Option, Some, None, Vec, Global, ◌∷◌, [], ap, append-nil, refl, subst, sym, ◌∙◌}
+use Rattle.std.proofs.Common.{Option, Some, None, ◌∷◌, [], append-nil, refl, subst}
 use Rattle.run_report.proofs.Gathering.{gives_more}
 use Rattle.run_report.specs.Facts.{GivesEnded}
-use Rattle.run_report.specs.declared.ends.EndedNode.{EndedNode}
 use Rattle.run_report.specs.declared.facts.ChildSeen.{ChildSeen}
 use Rattle.run_report.proofs.facts.ended_nodes.Goals as goal
 use Rattle.run_report.proofs.facts.ended_nodes.Goals.{in-Some+in_ok-node+in_ok-push, in_default}
@@ -20,7 +19,7 @@ loop-rank-preserved g c =
             is_end = subst (λ (it : Option ChildSeen). ended rank it) w.in-Some.is c.end_of.ensures;
             are = (w.in_ok-node.node, w.in_ok-node.ensures, refl);
           })
-          (ap (λ (it : Vec EndedNode Global). it.items) w.nodes-is ∙ w.in_ok-push.ensures.items)
+          (rw w.nodes-is w.in_ok-push.ensures.items)
       | in_default w ↦
           gives_more (GivesEnded ended) rank c.loop-rank.nodes.items [] c.match-end_of.nodes.items
           c.loop-rank.invariant
@@ -29,5 +28,5 @@ loop-rank-preserved g c =
             is_end = subst (λ (it : Option ChildSeen). ended rank it) w.in_default.is c.end_of.ensures;
             are = refl;
           })
-          (ap (λ (it : Vec EndedNode Global). it.items) w.nodes-is ∙ sym (append-nil c.loop-rank.nodes.items))
+          (rw (w.nodes-is, append-nil) refl)
     ]

@@ -1,5 +1,5 @@
 -- One datagram more, or none.
-use Rattle.std.proofs.Common.{Option, List, Vec, Global, ◌++◌, ◌∷◌, [], ap, append_assoc, refl, subst, ◌∙◌}
+use Rattle.std.proofs.Common.{Option, ◌++◌, ◌∷◌, [], append_assoc, refl, subst}
 use Rattle.run_report.proofs.Gathering.{none_more, one_more}
 use Rattle.run_report.specs.declared.unsent.SentMessage.{SentMessage}
 use Rattle.run_report.proofs.gathered.add_sent.Goals as goal
@@ -15,14 +15,13 @@ loop-number-preserved g c =
         one_more gives c.loop-number.number sent w.in-Some.one (sent ++ w.in-Some.one ∷ [])
             c.loop-number.invariant.1
             (subst (λ (it : Option SentMessage). gives c.loop-number.number it) w.in-Some.is c.sent_at.ensures) refl,
-        ap (λ (it : Vec SentMessage Global). it.items) w.all-is ∙ w.in_ok-push.ensures.items
-            ∙ ap (λ (it : List SentMessage). it ++ w.in-Some.one ∷ []) c.loop-number.invariant.2
-            ∙ append_assoc c.args.all.now.items sent (w.in-Some.one ∷ []),
+        rw (w.all-is, w.in_ok-push.ensures.items, c.loop-number.invariant.2)
+            (append_assoc c.args.all.now.items sent (w.in-Some.one ∷ [])),
       )
       | in_default w ↦ (
         sent,
         none_more gives c.loop-number.number sent sent c.loop-number.invariant.1
             (subst (λ (it : Option SentMessage). gives c.loop-number.number it) w.in_default.is c.sent_at.ensures) refl,
-        ap (λ (it : Vec SentMessage Global). it.items) w.all-is ∙ c.loop-number.invariant.2,
+        rw w.all-is c.loop-number.invariant.2,
       )
     ]

@@ -1,5 +1,5 @@
 -- One place more.
-use Rattle.std.proofs.Common.{Option, Vec, Global, ap, subst, ◌∙◌}
+use Rattle.std.proofs.Common.{Option, refl, subst}
 use Rattle.run_report.proofs.Gathering.{none_more, one_more}
 use Rattle.run_report.specs.declared.findings.NodeFinding.{NodeFinding}
 use Rattle.run_report.proofs.gathered.findings_of.Goals as goal
@@ -13,10 +13,10 @@ loop-place-preserved g c =
           one_more gives c.loop-place.place c.loop-place.all.items w.in-Some.finding c.match-finding.all.items
           c.loop-place.invariant
           (subst (λ (it : Option NodeFinding). gives c.loop-place.place it) w.in-Some.is c.finding.ensures)
-          (ap (λ (it : Vec NodeFinding Global). it.items) w.all-is ∙ w.in_ok-push.ensures.items)
+          (rw w.all-is w.in_ok-push.ensures.items)
       | in_default w ↦
           none_more gives c.loop-place.place c.loop-place.all.items c.match-finding.all.items
           c.loop-place.invariant
           (subst (λ (it : Option NodeFinding). gives c.loop-place.place it) w.in_default.is c.finding.ensures)
-          (ap (λ (it : Vec NodeFinding Global). it.items) w.all-is)
+          (rw w.all-is refl)
     ]

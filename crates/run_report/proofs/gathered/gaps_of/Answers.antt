@@ -1,5 +1,5 @@
 -- One place more.
-use Rattle.std.proofs.Common.{Option, Vec, Global, ap, subst, ◌∙◌}
+use Rattle.std.proofs.Common.{Option, refl, subst}
 use Rattle.run_report.proofs.Gathering.{none_more, one_more}
 use Rattle.run_report.specs.declared.unsent.Gap.{Gap}
 use Rattle.run_report.proofs.gathered.gaps_of.Goals as goal
@@ -13,10 +13,10 @@ loop-place-preserved g c =
           one_more gives c.loop-place.place c.loop-place.all.items w.in-Some.gap c.match-gap.all.items
           c.loop-place.invariant
           (subst (λ (it : Option Gap). gives c.loop-place.place it) w.in-Some.is c.gap.ensures)
-          (ap (λ (it : Vec Gap Global). it.items) w.all-is ∙ w.in_ok-push.ensures.items)
+          (rw w.all-is w.in_ok-push.ensures.items)
       | in_default w ↦
           none_more gives c.loop-place.place c.loop-place.all.items c.match-gap.all.items
           c.loop-place.invariant
           (subst (λ (it : Option Gap). gives c.loop-place.place it) w.in_default.is c.gap.ensures)
-          (ap (λ (it : Vec Gap Global). it.items) w.all-is)
+          (rw w.all-is refl)
     ]
