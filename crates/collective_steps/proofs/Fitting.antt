@@ -1,12 +1,13 @@
 -- What the calls of steps that run collectives say and write fits its places, and so does how far the node is then.
-use Rattle.std.proofs.Common.{◌≡◌, ℕ, zero, suc, ◌+◌, ◌-◌, ◌%◌, ◌<◌, ◌≤◌, ◌^◌, Bool, true, false, true≢false, ◌||◌}
+use Rattle.std.proofs.Common.{◌≡◌, ℕ, zero, suc, ◌+◌, ◌*◌, ◌-◌, ◌%◌, ◌<◌, ◌≤◌, ◌^◌, Bool, true, false}
 use Rattle.std.proofs.Common.{List, [], ◌∷◌, map, length, Option, None, Some, refl, arith, cond}
 use Rattle.std.specs.Prelude.{◌==◌, ◌/◌, max, min, nat_le, nat_lt}
 use Rattle.std.specs.List.{AllByRecursion}
+use Rattle.std.proofs.lemmas.Bool.{leb-false, ltb-false, ltb-true, or_parts}
 use Rattle.std.specs.Int.{w64, to_le_bytes}
 use Rattle.collective_area.specs.Area.{Area, data_place}
 use Rattle.collective_area.specs.Results.{at_root, contribution_of, pieces_by, sum_of, together_at, together_from}
-use Rattle.collective_area.specs.Shapes.{shape_word, uses}
+use Rattle.collective_area.specs.Shapes.{kind_code, shape_word, uses}
 use Rattle.collective_area.specs.declared.shape.CollectiveKind.{CollectiveKind}
 use Rattle.collective_area.specs.declared.shape.CollectiveKind.TheVariants as kind
 use Rattle.collective_area.specs.declared.shape.Shape.{Shape}
@@ -204,7 +205,7 @@ step_both at node it fits = by_open (is_open (progress_of it)) refl
     by_open : (open_ : Bool) → is_open (progress_of it) ≡ open_
         → Fits (from_open (site_of at) at.thread node it open_)
     by_open true is =
-        let opened : it.ended < it.started = grind (arith, is) in
+        let opened = ltb-true it.ended it.started is in
         steps_fit (site_of at) at.thread 0 it.area.nodes node it (record { opened = opened; fits = fits })
     by_open false is = record { calls = tt; next = fits }
 
@@ -215,10 +216,6 @@ record Passes (it : CollectivesState) (shape : Shape) : Type 0 where
   pub root : shape.root < it.area.nodes
   pub len : shape.len ≤ it.area.room
   pub left : it.started < 2 ^ 64 - 1
-
-or_parts : (a b : Bool) → (a || b) ≡ false → (a ≡ false) × (b ≡ false)
-or_parts true b e = absurd (true≢false e)
-or_parts false b e = (refl, e)
 
 unrefused : (busy root length_ source exhausted : Bool)
     → cond {A = Option StartAnswer} busy (Some starts.Busy)
@@ -237,22 +234,28 @@ passes : (it : CollectivesState) (shape : Shape) (from : ℕ)
     → start_refusal it.area it.settings.segment (progress_of it) shape from ≡ None → Passes it shape
 passes it shape from none =
     let all = unrefused (is_open (progress_of it)) _ _ _ _ none in
-    let root = (or_parts (nat_le it.area.nodes shape.root) _ all.0).0 in
-    let len = (or_parts (nat_lt it.area.room shape.len) _ all.1).0 in
-    let exhausted = all.2 in
-    record { root = grind (arith, root); len = grind (arith, len); left = grind (arith, exhausted) }
+    record {
+      root = leb-false it.area.nodes shape.root (or_parts (nat_le it.area.nodes shape.root) _ all.0).0;
+      len = ltb-false it.area.room shape.len (or_parts (nat_lt it.area.room shape.len) _ all.1).0;
+      left = leb-false (2 ^ 64 - 1) it.started all.2;
+    }
 
-word_fits : (k : CollectiveKind) (root len : ℕ) → root < 256 → len ≤ 8192
-    → shape_word (record { kind = k; root = root; len = len }) < 2 ^ 64
-word_fits kind.Broadcast root len low few = omega (arith, low, few)
-word_fits kind.Gather root len low few = omega (arith, low, few)
-word_fits kind.AllGather root len low few = omega (arith, low, few)
-word_fits kind.Sum root len low few = omega (arith, low, few)
-word_fits kind.Min root len low few = omega (arith, low, few)
-word_fits kind.Max root len low few = omega (arith, low, few)
-word_fits kind.AllSum root len low few = omega (arith, low, few)
-word_fits kind.AllMin root len low few = omega (arith, low, few)
-word_fits kind.AllMax root len low few = omega (arith, low, few)
+code_small : (k : CollectiveKind) → kind_code k < 9
+code_small k = ltb-true (kind_code k) 9 (by_kind k)
+  where
+    by_kind : (one : CollectiveKind) → nat_lt (kind_code one) 9 ≡ true
+    by_kind kind.Broadcast = refl
+    by_kind kind.Gather = refl
+    by_kind kind.AllGather = refl
+    by_kind kind.Sum = refl
+    by_kind kind.Min = refl
+    by_kind kind.Max = refl
+    by_kind kind.AllSum = refl
+    by_kind kind.AllMin = refl
+    by_kind kind.AllMax = refl
+
+word_below : (code root len : ℕ) → code < 9 → root < 256 → len ≤ 8192 → code * 2 ^ 48 + root * 2 ^ 32 + len < 2 ^ 64
+word_below code root len small low few = omega (arith, small, low, few)
 
 start_both : (at : TryContext) (shape : Shape) (from : ℕ) (node : Node EndpointLocal) (it : CollectivesState)
     → CollectivesFit it → Fits (start_outcome (site_of at) node it (start_asked at shape from))
@@ -260,8 +263,8 @@ start_both at shape from node it fits =
     by_refusal (start_refusal it.area it.settings.segment (progress_of it) shape from) refl
   where
     word : Passes it shape → shape_word shape < 2 ^ 64
-    word P = word_fits shape.kind shape.root shape.len (omega (arith, P.root, fits.nodes))
-        (omega (arith, P.len, fits.room))
+    word P = word_below (kind_code shape.kind) shape.root shape.len (code_small shape.kind)
+        (omega (arith, P.root, fits.nodes)) (omega (arith, P.len, fits.room))
 
     next_fits : Passes it shape → (answer : StartAnswer) → CollectivesFit (started_then answer it shape)
     next_fits P starts.Started = record {

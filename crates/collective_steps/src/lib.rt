@@ -9,7 +9,6 @@
 //! told, and the step ends as the part says.
 #![tactic(auto)]
 
-mod calls;
 mod last_answer;
 mod tries;
 mod whole;

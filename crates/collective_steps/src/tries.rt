@@ -7,7 +7,7 @@ ghost use Rattle.collective_steps.specs.Outcomes.{sent_by};
 ghost use Rattle.collective_steps.specs.Parts.{start_part, step_part, end_part};
 ghost use Rattle.collective_steps.specs.Tries.{AreOf, IsPartTried, IsSameCore, context_at};
 
-use crate::calls::{end, start, step};
+use crate::last_answer::LastAnswer;
 use am_core::SlotRef;
 use collective_area::Shape;
 use endpoint_rules::Answer;
@@ -72,9 +72,15 @@ pub fn try_start<H: Handlers>(
         IsPartTried here node (start_part here asked.shape asked.from node collectives.old)
         collectives.old result collectives.new endpoint.new) }
 {
-    let (answer, last) = start(endpoint, handlers, collectives, at, asked);
+    let mut caller = LastAnswer {
+        endpoint,
+        handlers,
+        now: at.now,
+        last: None,
+    };
+    let answer = collectives.start(&mut caller, at.thread, asked.shape, asked.from);
     PartTried {
-        sent: sent_by(&last),
+        sent: sent_by(&caller.last),
         ended: Some(ScriptAnswer::Start(answer)),
         moved: true,
     }
@@ -96,9 +102,15 @@ pub fn try_step<H: Handlers>(
         IsPartTried here node (step_part here node collectives.old) collectives.old result
         collectives.new endpoint.new) }
 {
-    let (answer, last) = step(endpoint, handlers, collectives, at);
+    let mut caller = LastAnswer {
+        endpoint,
+        handlers,
+        now: at.now,
+        last: None,
+    };
+    let answer = collectives.step(&mut caller, at.thread);
     PartTried {
-        sent: sent_by(&last),
+        sent: sent_by(&caller.last),
         ended: Some(ScriptAnswer::Step(answer)),
         moved: true,
     }
@@ -121,7 +133,13 @@ pub fn try_end<H: Handlers>(
         IsPartTried here node (end_part here dest node collectives.old) collectives.old result
         collectives.new endpoint.new) }
 {
-    let answer = end(endpoint, handlers, collectives, at, dest);
+    let mut caller = LastAnswer {
+        endpoint,
+        handlers,
+        now: at.now,
+        last: None,
+    };
+    let answer = collectives.try_end(&mut caller, at.thread, dest);
     PartTried {
         sent: None,
         ended: Some(ScriptAnswer::End(answer)),

@@ -8,7 +8,7 @@ ghost use Rattle.collective_steps.specs.Outcomes.{is_nothing, is_started, start_
 ghost use Rattle.collective_steps.specs.Parts.{first_part, later_part};
 ghost use Rattle.collective_steps.specs.Tries.{AreOf, IsPartTried, IsSameCore, context_at, first_of, went_on};
 
-use crate::calls::{end, start, step};
+use crate::last_answer::LastAnswer;
 use crate::tries::{AtThread, PartTried, Start, sent_by};
 use am_core::SlotRef;
 use endpoint_rules::Answer;
@@ -82,13 +82,19 @@ pub fn begin_whole<H: Handlers>(
         result.1 ≡ first_of here
         (first_part here asked.shape asked.from node collectives.old) node) }
 {
-    let (answer, last) = start(endpoint, handlers, collectives, at, asked);
+    let mut caller = LastAnswer {
+        endpoint,
+        handlers,
+        now: at.now,
+        last: None,
+    };
+    let answer = collectives.start(&mut caller, at.thread, asked.shape, asked.from);
     let tried = PartTried {
-        sent: sent_by(&last),
+        sent: sent_by(&caller.last),
         ended: start_said(answer),
         moved: is_started(answer),
     };
-    (tried, last)
+    (tried, caller.last)
 }
 
 /// How a later try went whose step didn't end the collective, and whose try to end was answered so. `quiet` says that the
@@ -128,8 +134,14 @@ pub fn go_on_whole<H: Handlers>(
         collectives.new endpoint.new) }
 {
     let unexhausted = collectives.is_unexhausted();
-    let (answer, last) = step(endpoint, handlers, collectives, at);
-    let sent = sent_by(&last);
+    let mut caller = LastAnswer {
+        endpoint,
+        handlers,
+        now: at.now,
+        last: None,
+    };
+    let answer = collectives.step(&mut caller, at.thread);
+    let sent = sent_by(&caller.last);
     if let Some(end) = step_ends(answer) {
         return PartTried {
             sent,
@@ -138,6 +150,6 @@ pub fn go_on_whole<H: Handlers>(
         };
     }
     let quiet = is_quiet(answer, unexhausted);
-    let ended = end(endpoint, handlers, collectives, at, dest);
+    let ended = collectives.try_end(&mut caller, at.thread, dest);
     went_on(sent, quiet, ended)
 }
