@@ -7,32 +7,59 @@ use Rattle.world_run.specs.ScheduleRun.{Collects, kept}
 use Rattle.world_run.proofs.Collecting.{asks, end_collects, start_collects, step_collects}
 use Rattle.world_run.proofs.nodes.Nodes.collect.Goals as goal
 
-pub returns-in-Start-clause-collects : goal.returns-in-Start-clause-collects
-returns-in-Start-clause-collects g c =
-    let meaning : Meaning = g.H.Handlers.meaning c.args.handlers.now in
-    let node = c.args.asked.now.node in
-    let thread = c.args.asked.now.thread in
-    subst (λ (call : CollectiveText). Collects (job_in meaning c.args.self.now.world) (kept c.args.self.now)
-    (asks c.args.now node thread call) (answers.Start c.start.result) (kept c.start.new.self)) (sym c.in-Start.is)
-    (start_collects meaning (kept c.args.self.now) (kept c.start.new.self) c.args.now node thread c.in-Start.shape
-    c.in-Start.from c.start.result c.start.ensures.does)
+pub start-requires : goal.start-requires
+start-requires g c = record { group = c.requires.group; node = c.requires.node; thread = c.requires.thread }
 
-pub returns-in-Step-clause-collects : goal.returns-in-Step-clause-collects
-returns-in-Step-clause-collects g c =
+pub returns-in-Start : goal.returns-in-Start
+returns-in-Start g c =
     let meaning : Meaning = g.H.Handlers.meaning c.args.handlers.now in
     let node = c.args.asked.now.node in
     let thread = c.args.asked.now.thread in
-    subst (λ (call : CollectiveText). Collects (job_in meaning c.args.self.now.world) (kept c.args.self.now)
-    (asks c.args.now node thread call) (answers.Step c.step.result) (kept c.step.new.self)) (sym c.in-Step.is)
-    (step_collects meaning (kept c.args.self.now) (kept c.step.new.self) c.args.now node thread c.step.result
-    c.step.ensures.does)
+    record {
+      settings = c.start.ensures.settings;
+      table = c.start.ensures.table;
+      group = c.start.ensures.group;
+      collects = subst (λ (call : CollectiveText).
+          Collects (job_in meaning c.args.self.now.world) (kept c.args.self.now) (asks c.args.now node thread call)
+          (answers.Start c.start.result) (kept c.start.new.self)) (sym c.in-Start.is)
+          (start_collects meaning (kept c.args.self.now) (kept c.start.new.self) c.args.now node thread c.in-Start.shape c.in-Start.from c.start.result
+          c.start.ensures.does);
+    }
 
-pub returns-in-Try-clause-collects : goal.returns-in-Try-clause-collects
-returns-in-Try-clause-collects g c =
+pub step-requires : goal.step-requires
+step-requires g c = record { group = c.requires.group; node = c.requires.node; thread = c.requires.thread }
+
+pub returns-in-Step : goal.returns-in-Step
+returns-in-Step g c =
     let meaning : Meaning = g.H.Handlers.meaning c.args.handlers.now in
     let node = c.args.asked.now.node in
     let thread = c.args.asked.now.thread in
-    subst (λ (call : CollectiveText). Collects (job_in meaning c.args.self.now.world) (kept c.args.self.now)
-    (asks c.args.now node thread call) (answers.End c.try_end.result) (kept c.try_end.new.self)) (sym c.in-Try.is)
-    (end_collects meaning (kept c.args.self.now) (kept c.try_end.new.self) c.args.now node thread c.in-Try.dest
-    c.try_end.result c.try_end.ensures.does)
+    record {
+      settings = c.step.ensures.settings;
+      table = c.step.ensures.table;
+      group = c.step.ensures.group;
+      collects = subst (λ (call : CollectiveText).
+          Collects (job_in meaning c.args.self.now.world) (kept c.args.self.now) (asks c.args.now node thread call)
+          (answers.Step c.step.result) (kept c.step.new.self)) (sym c.in-Step.is)
+          (step_collects meaning (kept c.args.self.now) (kept c.step.new.self) c.args.now node thread c.step.result
+          c.step.ensures.does);
+    }
+
+pub try_end-requires : goal.try_end-requires
+try_end-requires g c = record { group = c.requires.group; node = c.requires.node; thread = c.requires.thread }
+
+pub returns-in-Try : goal.returns-in-Try
+returns-in-Try g c =
+    let meaning : Meaning = g.H.Handlers.meaning c.args.handlers.now in
+    let node = c.args.asked.now.node in
+    let thread = c.args.asked.now.thread in
+    record {
+      settings = c.try_end.ensures.settings;
+      table = c.try_end.ensures.table;
+      group = c.try_end.ensures.group;
+      collects = subst (λ (call : CollectiveText).
+          Collects (job_in meaning c.args.self.now.world) (kept c.args.self.now) (asks c.args.now node thread call)
+          (answers.End c.try_end.result) (kept c.try_end.new.self)) (sym c.in-Try.is)
+          (end_collects meaning (kept c.args.self.now) (kept c.try_end.new.self) c.args.now node thread c.in-Try.dest c.try_end.result
+          c.try_end.ensures.does);
+    }

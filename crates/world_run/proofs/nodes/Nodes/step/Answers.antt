@@ -1,4 +1,4 @@
-use Rattle.std.proofs.Common.{◌<◌, length, refl, ap, arith}
+use Rattle.std.proofs.Common.{◌<◌, length, refl, ap, ◌∙◌, arith}
 use Rattle.handler_rules.specs.Runs.{Meaning}
 use Rattle.node_caller.specs.Sites.{Site}
 use Rattle.world_caller.specs.Wholes.{WorldWhole}
@@ -8,6 +8,21 @@ use Rattle.collective_group.proofs.Nodes.{at_place, group_set}
 use Rattle.collective_group.proofs.Starting.{site_in}
 use Rattle.collective_group.proofs.Stepping.{step_does, steps_came}
 use Rattle.world_run.proofs.nodes.Nodes.step.Goals as goal
+
+pub step-requires : goal.step-requires
+step-requires g c =
+    let low : c.from.result < length c.args.self.now.collectives.items =
+    omega (arith, c.requires.group.count, c.from.ensures, c.requires.node) in
+    let both = c.requires.group.at c.from.result c.index_mut.result.now
+    (at_place c.args.self.now.collectives.items c.from.result c.index_mut.result.now low
+    c.index_mut.ensures.value) in
+    record { settings = both.0; me = both.1 ∙ c.from.ensures; thread = c.requires.thread }
+
+pub returns-clause-settings : goal.returns-clause-settings
+returns-clause-settings g c = ap (λ (site : Site). site.settings) c.step.ensures.same_site
+
+pub returns-clause-table : goal.returns-clause-table
+returns-clause-table g c = ap (λ (site : Site). site.table) c.step.ensures.same_site
 
 pub returns-clause-group : goal.returns-clause-group
 returns-clause-group g c =

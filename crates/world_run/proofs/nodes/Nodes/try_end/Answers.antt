@@ -1,4 +1,4 @@
-use Rattle.std.proofs.Common.{◌≡◌, ◌<◌, List, [], ◌∷◌, length, refl, ap, arith}
+use Rattle.std.proofs.Common.{◌≡◌, ◌<◌, List, [], ◌∷◌, length, refl, ap, ◌∙◌, arith}
 use Rattle.handler_rules.specs.Runs.{Meaning}
 use Rattle.node_caller.specs.Making.{whole_after}
 use Rattle.node_caller.specs.Sites.{Site, ThreadCall}
@@ -10,6 +10,21 @@ use Rattle.collective_group.proofs.Ending.{after_calls, end_came, end_does, long
 use Rattle.collective_group.proofs.Nodes.{at_place, group_set}
 use Rattle.collective_group.proofs.Starting.{site_in}
 use Rattle.world_run.proofs.nodes.Nodes.try_end.Goals as goal
+
+pub try_end-requires : goal.try_end-requires
+try_end-requires g c =
+    let low : c.from.result < length c.args.self.now.collectives.items =
+    omega (arith, c.requires.group.count, c.from.ensures, c.requires.node) in
+    let both = c.requires.group.at c.from.result c.index_mut.result.now
+    (at_place c.args.self.now.collectives.items c.from.result c.index_mut.result.now low
+    c.index_mut.ensures.value) in
+    record { settings = both.0; me = both.1 ∙ c.from.ensures; thread = c.requires.thread }
+
+pub returns-clause-settings : goal.returns-clause-settings
+returns-clause-settings g c = ap (λ (site : Site). site.settings) c.try_end.ensures.same_site
+
+pub returns-clause-table : goal.returns-clause-table
+returns-clause-table g c = ap (λ (site : Site). site.table) c.try_end.ensures.same_site
 
 pub returns-clause-group : goal.returns-clause-group
 returns-clause-group g c =
