@@ -19,3 +19,9 @@ returns-in-None-clause-tries g c =
     none_told (g.H.Handlers.meaning c.args.handlers.now) c.args.endpoint.now c.args.collectives.now c.args.trial.now
     (whole_form c.args.text.start.shape c.args.text.start.from c.args.text.dest) c.nothing_there.result c.in-None.is
     c.nothing_there.ensures (λ node. refl)
+
+pub returns-in-Some-clause-there : goal.returns-in-Some-clause-there
+returns-in-Some-clause-there g c = c.whole_part.ensures.there
+
+pub returns-in-None-clause-there : goal.returns-in-None-clause-there
+returns-in-None-clause-there g c = c.requires.there
