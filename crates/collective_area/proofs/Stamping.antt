@@ -41,6 +41,12 @@ pub header_is : (segment : ℕ) (args : List ℤ) (offset : ℕ) → length args
 header_is segment args offset four room aligned inside =
     rw (eq-eqb _ _ four) (rw (le-leb 16 offset room) (rw (eq-eqb _ _ aligned) (rw (le-leb offset segment inside) refl)))
 
+-- the message has the header that its parts say
+pub header_told : (segment : ℕ) (args : List ℤ) (place : Option (ℕ × ℕ)) (offset len : ℕ) → place ≡ Some (offset, len)
+    → ((length args == 4) && (nat_le 16 offset && ((offset % 8 == 0) && nat_le offset segment))) ≡ true
+    → header_for segment args place ≡ header_at offset (number_at args 0) (number_at args 2)
+header_told segment args place offset len is good = rw is (rw good refl)
+
 -- ---- lawful
 
 header_fits : (segment : ℕ) (args : List ℤ) (place : Option (ℕ × ℕ)) → AllFit segment (header_for segment args place)

@@ -1,6 +1,6 @@
 //! The handler of collectives.
 
-ghost use Rattle.std.specs.Prelude.{◌≡◌, ◌+◌, ◌≤◌, ℤ, List, ◌%◌, length};
+ghost use Rattle.std.specs.Prelude.{◌≡◌, ◌+◌, ◌≤◌, ◌==◌, ◌&&◌, nat_le, ℤ, List, ◌%◌, length};
 ghost use Rattle.std.specs.Int.{w64, to_le_bytes};
 ghost use Rattle.raw_segment.specs.Bytes.{with_part};
 ghost use Rattle.raw_segment.specs.Image.{written_by};
@@ -56,6 +56,15 @@ fn write_header(segment: &mut Segment, offset: u64, stamp: u64, shape: u64)
     write_word(segment, offset - 8, shape);
 }
 
+/// Whether a message with so many arguments, whose data begins at this offset, brings a header, in a segment of so many
+/// bytes.
+fn has_header(args: usize, offset: u64, segment: u64) -> bool
+    ensures { result ≡ ((args == 4)
+        && (nat_le 16 offset && ((offset % 8 == 0) && nat_le offset segment))) }
+{
+    args == 4 && offset >= 16 && offset % 8 == 0 && offset <= segment
+}
+
 /// Runs the handler of collectives at a desk: writes what its message says, a stamp and a shape, in the 16 bytes before
 /// the message's place. It takes no memory, and replies nothing.
 ///
@@ -69,7 +78,7 @@ pub fn serve(segment: &mut Segment, desk: &mut Desk<'_>)
     let Some((offset, _)) = desk.place() else {
         return;
     };
-    if desk.args().len() != 4 || offset < 16 || offset % 8 != 0 || offset > segment.len() {
+    if !has_header(desk.args().len(), offset, segment.len()) {
         return;
     }
     let stamp = number_at(desk.args(), 0);
