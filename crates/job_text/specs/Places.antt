@@ -17,6 +17,11 @@ use Rattle.step_text.specs.Scripts.{step_at, step_form, step_text, IsStep}
 use Rattle.line_forms.specs.Versions.{is_second}
 use Rattle.line_forms.specs.declared.scope.Scope.{Scope}
 use Rattle.step_text.specs.declared.steps.Action.{Action}
+pub use Rattle.job_text.specs.declared.forms.Setting.{Setting}
+pub use Rattle.job_text.specs.declared.forms.Setting.TheVariants.{Version, Job, Nodes, Credits, Threads, Segment}
+pub use Rattle.job_text.specs.declared.forms.Setting.TheVariants.{Last, Resend, Patience}
+use Rattle.job_text.specs.declared.forms.JobForm.{JobForm}
+use Rattle.job_text.specs.declared.forms.JobForm.TheVariants as forms
 use Rattle.job_text.specs.declared.job.CollectArea.{CollectArea}
 use Rattle.job_text.specs.declared.job.HandlerText.{HandlerText}
 use Rattle.job_text.specs.declared.job.NodeScript.{NodeScript}
@@ -30,18 +35,6 @@ use Rattle.job_text.specs.declared.head.TheConstants.{MAX_SEGMENT}
 use Rattle.datagram_grammar.specs.declared.limits.TheConstants.{MAX_CREDITS}
 
 -- ---- places
-
--- the lines of a name and a number, in their order
-pub data Setting : Type 0 where
-  Version : Setting
-  Job : Setting
-  Nodes : Setting
-  Credits : Setting
-  Threads : Setting
-  Segment : Setting
-  Last : Setting
-  Resend : Setting
-  Patience : Setting
 
 -- what line comes next
 pub data Place : Type 0 where
@@ -266,6 +259,29 @@ section_at nodes threads bytes = table_at none_at sections (section_fits nodes t
 
 unfoldable pub section_form : List ℕ → Bool
 section_form bytes = table_form (λ b. false) sections bytes
+
+-- ---- the forms in code
+
+-- the name of a form
+abbrev pub form_name : JobForm → Word
+form_name forms.Sieve = sieve_row.name
+form_name forms.Pair = pair_row.name
+form_name forms.Atomics = atomics_row.name
+form_name forms.Collect = collect_row.name
+form_name forms.Handler = header_row.name
+form_name forms.Script = script_row.name
+form_name forms.Schedule = schedule_row.name
+form_name forms.End = codes "end"
+form_name forms.Done = done_row.name
+
+-- whether so many words may follow it
+abbrev pub form_fits : JobForm → (words : ℕ) → Bool
+form_fits forms.Sieve words = words == 3
+form_fits forms.Pair words = words == 3
+form_fits forms.Collect words = words == 2
+form_fits forms.Handler words = nat_le 2 words
+form_fits forms.Script words = words == 2
+form_fits other words = words == 0
 
 -- ---- lines of two kinds, told apart by their first word
 

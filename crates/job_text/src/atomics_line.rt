@@ -10,10 +10,11 @@ ghost use Rattle.text_lines.specs.Found.{Finds};
 ghost use Rattle.text_lines.specs.Reasons.{reason};
 
 use crate::fault::JobFault;
+use crate::forms::JobForm;
 use crate::head_scope::scope_of;
 use crate::job::Head;
 use line_forms::{Scope, is_second};
-use text_lines::{LineWhy, Other, begins, ended, is_name, name_of, reason_of, words_left};
+use text_lines::{LineWhy, Other, ended, name_of, reason_of, words_left};
 
 /// The bytes after the words of the line of atomics.
 #[tactic(auto, unfolding(crate::specs::Places::atomics_at))]
@@ -21,7 +22,7 @@ fn atomics_at<'a>(scope: &Scope, bytes: &'a [u8]) -> Result<&'a [u8], Other>
     ensures { Finds (λ rest. (tt, rest.now)) result (atomics_at scope.now bytes.now) }
 {
     let (name, rest) = name_of(bytes);
-    if !is_name(name, b"atomics") {
+    if !JobForm::Atomics.has_name(name) {
         return Err(Other);
     }
     if !is_second(scope) {
@@ -44,7 +45,8 @@ fn atomics_why(scope: &Scope, bytes: &[u8]) -> LineWhy
     ensures { result ≡ reason (atomics_or_later_form scope.now) bytes.now }
 {
     let (_, rest) = name_of(bytes);
-    reason_of(is_second(scope) && words_left(rest) == 0, bytes)
+    let form = is_second(scope) && JobForm::Atomics.fits(words_left(rest));
+    reason_of(form, bytes)
 }
 
 /// The head with the line of atomics, if it comes next, with the next line's number and the bytes from it on.
@@ -55,7 +57,7 @@ pub fn atomics_from(head: Head, line: u32, bytes: &[u8]) -> Result<(Head, u32, &
         result (read (record { place = AtAtomics; job = job_of_head head }) line bytes.now) }
     ensures later { IfOk result (λ x. x.1 ≤ 76) }
 {
-    if !begins(b"atomics", bytes) {
+    if !JobForm::Atomics.begins(bytes) {
         return Ok((head, line, bytes));
     }
     let scope = scope_of(&head);

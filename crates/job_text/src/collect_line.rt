@@ -12,11 +12,12 @@ ghost use Rattle.text_lines.specs.Reasons.{reason};
 
 use crate::atomics_line::atomics_from;
 use crate::fault::JobFault;
+use crate::forms::JobForm;
 use crate::head_scope::scope_of;
 use crate::job::{CollectArea, Head};
 use datagram_grammar::MAX_PAYLOAD;
 use line_forms::{Scope, is_second, number_at};
-use text_lines::{LineWhy, Other, begins, ended, is_name, name_of, reason_of, words_left};
+use text_lines::{LineWhy, Other, ended, name_of, reason_of, words_left};
 
 /// The most bytes of a part: those of a payload.
 const MAX_ROOM: u64 = MAX_PAYLOAD as u64;
@@ -69,7 +70,7 @@ fn collect_at<'a>(scope: &Scope, bytes: &'a [u8]) -> Result<(CollectArea, &'a [u
     ensures { Finds (λ x. (x.0, x.1.now)) result (collect_at scope.now bytes.now) }
 {
     let (name, rest) = name_of(bytes);
-    if !is_name(name, b"collect") {
+    if !JobForm::Collect.has_name(name) {
         return Err(Other);
     }
     let (base, rest) = number_at(rest, 0, u64::MAX)?;
@@ -96,7 +97,8 @@ fn collect_why(scope: &Scope, bytes: &[u8]) -> LineWhy
     ensures { result ≡ reason (collect_or_later_form scope.now) bytes.now }
 {
     let (_, rest) = name_of(bytes);
-    reason_of(is_second(scope) && words_left(rest) == 2, bytes)
+    let form = is_second(scope) && JobForm::Collect.fits(words_left(rest));
+    reason_of(form, bytes)
 }
 
 /// The head with the line of collectives, if it comes next, with the next line's number and the bytes from it on.
@@ -107,7 +109,7 @@ fn collect_from(head: Head, line: u32, bytes: &[u8]) -> Result<(Head, u32, &[u8]
         result (read (record { place = AtCollect; job = job_of_head head }) line bytes.now) }
     ensures later { IfOk result (λ x. x.1 ≤ 77) }
 {
-    if !begins(b"collect", bytes) {
+    if !JobForm::Collect.begins(bytes) {
         return Ok((head, line, bytes));
     }
     let scope = scope_of(&head);

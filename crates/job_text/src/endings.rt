@@ -9,11 +9,12 @@ ghost use Rattle.job_text.specs.Reading.{GivesAt, Continues};
 ghost use Rattle.job_text.specs.declared.job.Job.{Job as JobState};
 
 use crate::fault::JobFault;
+use crate::forms::JobForm;
 use crate::job::{HandlerTexts, Head, Job, NodeScripts};
 use crate::schedules::schedule_at;
 use line_forms::Scope;
 use std::alloc::Global;
-use text_lines::{Other, ended, is_name, name_of, reason_of};
+use text_lines::{Other, ended, name_of, reason_of};
 
 /// The job of a head and these handlers and scripts, without a schedule.
 pub fn job_with(head: Head, handlers: HandlerTexts, scripts: NodeScripts) -> Job
@@ -36,7 +37,7 @@ fn done_at(bytes: &[u8]) -> Result<&[u8], Other>
     ensures { Finds (λ rest. (tt, rest.now)) result (lined done_at bytes.now) }
 {
     let (word, rest) = name_of(bytes);
-    if !is_name(word, b"done") {
+    if !JobForm::Done.has_name(word) {
         return Err(Other);
     }
     ended(rest)

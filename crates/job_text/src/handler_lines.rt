@@ -20,13 +20,14 @@ ghost use Rattle.std.specs.Str.{bytes_eq};
 ghost use Rattle.std.specs.Prelude.{codes};
 
 use crate::fault::JobFault;
+use crate::forms::JobForm;
 use crate::job::{Body, HandlerText, HandlerTexts};
 use crate::sections::{HandlerHeader, header_line, header_why};
 use gas_atomic::{BATCH_HANDLER, BLOCK_HANDLER};
 use line_forms::Scope;
 use std::alloc::Global;
 use step_text::{Action, action_at, action_form};
-use text_lines::{LineWhy, Miss, Other, begins, ended, is_name, name_of, reason_of, starts};
+use text_lines::{LineWhy, Miss, Other, ended, name_of, reason_of};
 
 /// The handler of collectives.
 const COLLECTIVE_HANDLER: u8 = 254;
@@ -34,23 +35,11 @@ const COLLECTIVE_HANDLER: u8 = 254;
 /// The most actions of a handler.
 const ACTIONS: usize = 64;
 
-/// Whether bytes begin with the word `end`. A line that begins with another byte is told by it.
-#[tactic(auto, using(crate::proofs::PlaceLaws::no_end))]
-pub fn is_end(bytes: &[u8]) -> bool
-    ensures { result ≡ bytes_eq (front bytes.now) (codes "end") }
-{
-    if !starts(bytes, b'e') {
-        return false;
-    }
-    let (word, _) = name_of(bytes);
-    is_name(word, b"end")
-}
-
 /// An action, or none at the line `end`, and the bytes after the line.
 fn action_or_end(alloc: Global, bytes: &[u8]) -> Result<(Option<Action>, &[u8]), Miss>
     ensures { Reads (λ x. (x.0, x.1.now)) result (lined (end_or action_at) bytes.now) }
 {
-    if is_end(bytes) {
+    if JobForm::End.begins(bytes) {
         let (_, rest) = name_of(bytes);
         let rest = ended(rest)?;
         return Ok((None, rest));
@@ -227,7 +216,7 @@ pub fn handlers_at<'a>(
     let mut texts = Vec::new(alloc);
     let mut rest = bytes;
     let mut line = first;
-    while begins(b"handler", rest) {
+    while JobForm::Handler.begins(rest) {
         let (header, after) = match next_header(alloc, scope, &texts, line, rest) {
             Ok(read) => read,
             Err(fault) => return Err(fault),

@@ -6,15 +6,17 @@ ghost use Rattle.job_text.specs.HeadReading.{nodes_form, number_from};
 ghost use Rattle.job_text.specs.HeadReading.{number_line, number_why, segment_form, sieve_line};
 ghost use Rattle.job_text.specs.HeadReading.{sieve_why, told};
 ghost use Rattle.job_text.specs.JobReading.{job_of_head};
+ghost use Rattle.job_text.specs.Places.{setting_name};
 ghost use Rattle.line_forms.specs.Forms.{Number, part_at};
 ghost use Rattle.text_lines.specs.Found.{Finds};
 ghost use Rattle.job_text.specs.Reading.{GivesAt};
 
 use crate::fault::JobFault;
+use crate::forms::{JobForm, Setting};
 use crate::job::{Head, SieveRule};
 use datagram_grammar::{MAX_CREDITS, Settings};
 use line_forms::number_at;
-use text_lines::{LineWhy, Other, ended, is_name, name_of, reason_of, words_left};
+use text_lines::{LineWhy, Other, ended, name_of, reason_of, words_left};
 
 /// The most bytes of a node's segment.
 pub const MAX_SEGMENT: u64 = 67_108_864;
@@ -22,19 +24,20 @@ pub const MAX_SEGMENT: u64 = 67_108_864;
 /// The most bytes of the segments of all nodes together.
 const MAX_SEGMENTS: u64 = 268_435_456;
 
-/// The number of a line of this name, in its range, and the bytes after the line.
+/// The number of a setting, in its range, and the bytes after the line.
 #[tactic(auto, unfolding(crate::specs::HeadReading::number_line))]
 fn number_line<'a>(
-    name: &[u8],
+    setting: Setting,
     low: u64,
     high: u64,
     bytes: &'a [u8],
 ) -> Result<(u64, &'a [u8]), Other>
-    ensures value { Finds (λ x. (x.0, x.1.now)) result (number_line name.now low high bytes.now) }
+    ensures value { Finds (λ x. (x.0, x.1.now)) result
+        (number_line (setting_name setting) low high bytes.now) }
     ensures range { IfOk result (λ x. (low ≤ x.0) × (x.0 ≤ high)) }
 {
     let (word, rest) = name_of(bytes);
-    if !is_name(word, name) {
+    if !setting.has_name(word) {
         return Err(Other);
     }
     let (number, rest) = number_at(rest, low, high)?;
@@ -42,13 +45,13 @@ fn number_line<'a>(
     Ok((number, rest))
 }
 
-/// Why a line isn't one of this name and a number.
+/// Why a line isn't that of a setting.
 #[tactic(auto, unfolding(crate::specs::HeadReading::number_why))]
-fn number_why(name: &[u8], bytes: &[u8]) -> LineWhy
-    ensures { result ≡ number_why name.now bytes.now }
+fn number_why(setting: Setting, bytes: &[u8]) -> LineWhy
+    ensures { result ≡ number_why (setting_name setting) bytes.now }
 {
     let (word, rest) = name_of(bytes);
-    let form = is_name(word, name) && words_left(rest) == 1;
+    let form = setting.has_name(word) && setting.fits(words_left(rest));
     reason_of(form, bytes)
 }
 
@@ -67,7 +70,7 @@ fn nodes_line(version: u64, bytes: &[u8]) -> Result<(u64, &[u8]), Other>
     ensures range { IfOk result (λ x. (1 ≤ x.0) × (x.0 ≤ 256)) }
     ensures few { IfOk result (λ x. (nat_le x.0 64 || (version == 2)) ≡ true) }
 {
-    let (nodes, rest) = number_line(b"nodes", 1, 256, bytes)?;
+    let (nodes, rest) = number_line(Setting::Nodes, 1, 256, bytes)?;
     if !are_nodes(version, nodes) {
         return Err(Other);
     }
@@ -92,7 +95,7 @@ fn credits_line(nodes: u64, bytes: &[u8]) -> Result<(u64, &[u8]), Other>
     ensures range { IfOk result (λ x. (1 ≤ x.0) × (x.0 ≤ 32)) }
     ensures few { IfOk result (λ x. nat_le (nodes * (nodes - 1) * x.0) MAX_CREDITS ≡ true) }
 {
-    let (credits, rest) = number_line(b"credits", 1, 32, bytes)?;
+    let (credits, rest) = number_line(Setting::Credits, 1, 32, bytes)?;
     if !are_credits(nodes, credits) {
         return Err(Other);
     }
@@ -117,7 +120,7 @@ fn segment_line(nodes: u64, bytes: &[u8]) -> Result<(u64, &[u8]), Other>
     ensures range { IfOk result (λ x. (4096 ≤ x.0) × (x.0 ≤ MAX_SEGMENT)) }
     ensures few { IfOk result (λ x. ((x.0 % 4096 == 0) && nat_le (nodes * x.0) MAX_SEGMENTS) ≡ true) }
 {
-    let (segment, rest) = number_line(b"segment", 4096, MAX_SEGMENT, bytes)?;
+    let (segment, rest) = number_line(Setting::Segment, 4096, MAX_SEGMENT, bytes)?;
     if !are_segments(nodes, segment) {
         return Err(Other);
     }
@@ -138,7 +141,7 @@ fn sieve_line(bytes: &[u8]) -> Result<(SieveRule, &[u8]), Other>
     ensures { Finds (λ x. (x.0, x.1.now)) result (sieve_line bytes.now) }
 {
     let (word, rest) = name_of(bytes);
-    if !is_name(word, b"sieve") {
+    if !JobForm::Sieve.has_name(word) {
         return Err(Other);
     }
     let (lose, rest) = sieve_number(rest)?;
@@ -154,27 +157,27 @@ fn sieve_why(bytes: &[u8]) -> LineWhy
     ensures { result ≡ sieve_why bytes.now }
 {
     let (word, rest) = name_of(bytes);
-    let form = is_name(word, b"sieve") && words_left(rest) == 3;
+    let form = JobForm::Sieve.has_name(word) && JobForm::Sieve.fits(words_left(rest));
     reason_of(form, bytes)
 }
 
-/// The number of a line of this name, in its range, and the bytes after the line.
+/// The number of a setting, in its range, and the bytes after the line.
 #[tactic(auto, unfolding(crate::specs::HeadReading::number_from, crate::specs::HeadReading::fitting_line))]
 fn number_from<'a>(
     line: u32,
-    name: &[u8],
+    setting: Setting,
     low: u64,
     high: u64,
     bytes: &'a [u8],
 ) -> Result<(u64, &'a [u8]), JobFault>
     ensures value { GivesAt (λ x. (x.0, x.1.now)) result
-        (number_from (in_range name.now low high) line bytes.now) }
+        (number_from (in_range (setting_name setting) low high) line bytes.now) }
     ensures range { IfOk result (λ x. (low ≤ x.0) × (x.0 ≤ high)) }
 {
-    match number_line(name, low, high, bytes) {
+    match number_line(setting, low, high, bytes) {
         Ok(read) => Ok(read),
         Err(Other) => {
-            let why = number_why(name, bytes);
+            let why = number_why(setting, bytes);
             Err(JobFault::Bad { line, why })
         }
     }
@@ -191,7 +194,7 @@ fn nodes_from(line: u32, version: u64, bytes: &[u8]) -> Result<(u64, &[u8]), Job
     match nodes_line(version, bytes) {
         Ok(read) => Ok(read),
         Err(Other) => {
-            let why = number_why(b"nodes", bytes);
+            let why = number_why(Setting::Nodes, bytes);
             Err(JobFault::Bad { line, why })
         }
     }
@@ -209,7 +212,7 @@ fn credits_from(line: u32, nodes: u64, bytes: &[u8]) -> Result<(u64, &[u8]), Job
     match credits_line(nodes, bytes) {
         Ok(read) => Ok(read),
         Err(Other) => {
-            let why = number_why(b"credits", bytes);
+            let why = number_why(Setting::Credits, bytes);
             Err(JobFault::Bad { line, why })
         }
     }
@@ -227,7 +230,7 @@ fn segment_from(line: u32, nodes: u64, bytes: &[u8]) -> Result<(u64, &[u8]), Job
     match segment_line(nodes, bytes) {
         Ok(read) => Ok(read),
         Err(Other) => {
-            let why = number_why(b"segment", bytes);
+            let why = number_why(Setting::Segment, bytes);
             Err(JobFault::Bad { line, why })
         }
     }
@@ -253,15 +256,15 @@ pub fn head_at(bytes: &[u8]) -> Result<(Head, &[u8]), JobFault>
     ensures value { GivesAt (λ x. (job_of_head x.0, x.1.now)) result (head_at bytes.now) }
     ensures none { IfOk result (λ x. x.0.settings.pairs ≡ []) }
 {
-    let (version, rest) = number_from(1, b"gasnet", 1, 2, bytes)?;
-    let (job, rest) = number_from(2, b"job", 0, u64::MAX, rest)?;
+    let (version, rest) = number_from(1, Setting::Version, 1, 2, bytes)?;
+    let (job, rest) = number_from(2, Setting::Job, 0, u64::MAX, rest)?;
     let (nodes, rest) = nodes_from(3, version, rest)?;
     let (credits, rest) = credits_from(4, nodes, rest)?;
-    let (threads, rest) = number_from(5, b"threads", 1, 16, rest)?;
+    let (threads, rest) = number_from(5, Setting::Threads, 1, 16, rest)?;
     let (segment, rest) = segment_from(6, nodes, rest)?;
-    let (last, rest) = number_from(7, b"last", 1, u64::MAX, rest)?;
-    let (resend, rest) = number_from(8, b"resend", 1, 1_000_000, rest)?;
-    let (patience, rest) = number_from(9, b"patience", 1, 1_000_000, rest)?;
+    let (last, rest) = number_from(7, Setting::Last, 1, u64::MAX, rest)?;
+    let (resend, rest) = number_from(8, Setting::Resend, 1, 1_000_000, rest)?;
+    let (patience, rest) = number_from(9, Setting::Patience, 1, 1_000_000, rest)?;
     let (sieve, rest) = sieve_from(10, rest)?;
     let (version, nodes, credits, threads) = (
         version as u8,

@@ -24,6 +24,7 @@ mod atomics_line;
 mod collect_line;
 mod endings;
 mod fault;
+mod forms;
 mod handler_lines;
 mod head;
 mod head_scope;
@@ -37,6 +38,7 @@ mod script_lines;
 mod sections;
 
 pub use fault::JobFault;
+pub use forms::{JobForm, Setting};
 pub use job::{
     Body, CollectArea, HandlerText, HandlerTexts, Job, ListedLocks, NodeScript, NodeScripts,
     Schedule, ScriptSteps, SieveRule,

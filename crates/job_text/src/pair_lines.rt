@@ -13,10 +13,11 @@ ghost use Rattle.text_lines.specs.Reasons.{reason};
 ghost use Rattle.line_forms.specs.declared.scope.Scope.{Scope as AnyScope};
 
 use crate::fault::JobFault;
+use crate::forms::JobForm;
 use crate::job::Head;
 use datagram_grammar::{MAX_CREDITS, PairCredits, Settings};
 use line_forms::{number_at, short_at};
-use text_lines::{LineWhy, Other, begins, ended, is_name, name_of, reason_of, words_left};
+use text_lines::{LineWhy, Other, ended, name_of, reason_of, words_left};
 
 /// The most pairs with credits of their own.
 const PAIRS: usize = 64;
@@ -63,7 +64,7 @@ fn pair_at<'a>(
     ensures fits { IfOk result (λ x. pair_fits settings.now x.0 ≡ true) }
 {
     let (name, rest) = name_of(bytes);
-    if !is_name(name, b"pair") {
+    if !JobForm::Pair.has_name(name) {
         return Err(Other);
     }
     let (from, rest) = short_at(rest, 255)?;
@@ -98,7 +99,7 @@ fn pair_why(bytes: &[u8]) -> LineWhy
     ensures { (scope : AnyScope) → result ≡ reason (pairs_form scope) bytes.now }
 {
     let (_, rest) = name_of(bytes);
-    reason_of(words_left(rest) == 3, bytes)
+    reason_of(JobForm::Pair.fits(words_left(rest)), bytes)
 }
 
 /// Whether a pair is among these.
@@ -163,7 +164,7 @@ pub fn pairs_at(first: Head, bytes: &[u8]) -> Result<(Head, u32, &[u8]), JobFaul
     let mut sum = even_sum(&head.settings);
     let mut line = 11;
     let mut rest = bytes;
-    while begins(b"pair", rest) {
+    while JobForm::Pair.begins(rest) {
         let (pair, after) = match pair_line(&head.settings, sum, rest) {
             Ok(read) => read,
             Err(Other) => {

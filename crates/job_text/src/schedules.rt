@@ -15,7 +15,7 @@ ghost use Rattle.job_text.specs.Scopes.{scope_of};
 ghost use Rattle.job_text.specs.declared.job.Job.{Job as JobState};
 
 use crate::fault::JobFault;
-use crate::handler_lines::is_end;
+use crate::forms::JobForm;
 use crate::job::Schedule;
 use crate::plan_pieces::{are_too_many_pieces, event_pieces};
 use line_forms::Scope;
@@ -43,7 +43,7 @@ fn timed_or_end<'a>(
     ensures { Reads (λ x. (x.0, x.1.now)) result
         (lined (end_or (timed_at scope.now)) bytes.now) }
 {
-    if is_end(bytes) {
+    if JobForm::End.begins(bytes) {
         let (_, rest) = name_of(bytes);
         let rest = ended(rest)?;
         return Ok((None, rest));

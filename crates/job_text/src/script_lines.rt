@@ -19,7 +19,7 @@ ghost use Rattle.job_text.specs.declared.job.NodeScript.{NodeScript as ScriptVal
 ghost use Rattle.job_text.specs.declared.plan_pieces.TheConstants.{PIECES};
 
 use crate::fault::JobFault;
-use crate::handler_lines::is_end;
+use crate::forms::JobForm;
 use crate::job::{NodeScript, NodeScripts, ScriptSteps};
 use crate::plan_pieces::{are_too_many_pieces, step_pieces};
 use crate::sections::{Section, section_form, section_line};
@@ -40,7 +40,7 @@ fn step_or_end<'a>(
 ) -> Result<(Option<ScriptStep>, &'a [u8]), Miss>
     ensures { Reads (λ x. (x.0, x.1.now)) result (lined (end_or (step_at scope.now)) bytes.now) }
 {
-    if is_end(bytes) {
+    if JobForm::End.begins(bytes) {
         let (_, rest) = name_of(bytes);
         let rest = ended(rest)?;
         return Ok((None, rest));

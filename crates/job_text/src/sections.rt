@@ -9,12 +9,13 @@ ghost use Rattle.job_text.specs.JobReading.{lined};
 ghost use Rattle.text_lines.specs.Found.{Finds, Reads};
 ghost use Rattle.text_lines.specs.Reasons.{reason};
 
+use crate::forms::JobForm;
 use crate::job::ListedLocks;
 use crate::locks::{are_listed, locks_at};
 use handler_rules::Role;
 use line_forms::{byte_at, role_at, short_at};
 use std::alloc::Global;
-use text_lines::{LineWhy, Miss, Other, ended, is_name, name_of, reason_of, words_left};
+use text_lines::{LineWhy, Miss, Other, ended, name_of, reason_of, words_left};
 
 /// The first line of a handler.
 #[derive(Drop)]
@@ -51,7 +52,7 @@ fn header_at(alloc: Global, bytes: &[u8]) -> Result<(HandlerHeader, &[u8]), Miss
     ensures { Reads (λ x. (x.0, x.1.now)) result (header_at bytes.now) }
 {
     let (name, rest) = name_of(bytes);
-    if !is_name(name, b"handler") {
+    if !JobForm::Handler.has_name(name) {
         return Err(Miss::Unlike);
     }
     let (index, rest) = byte_at(rest, 255)?;
@@ -82,7 +83,7 @@ pub fn header_why(bytes: &[u8]) -> LineWhy
     ensures { result ≡ reason header_or_section_form bytes.now }
 {
     let (_, rest) = name_of(bytes);
-    reason_of(2 <= words_left(rest), bytes)
+    reason_of(JobForm::Handler.fits(words_left(rest)), bytes)
 }
 
 /// Whether a node and a thread are there.
@@ -98,7 +99,7 @@ fn section_at(nodes: u16, threads: u16, bytes: &[u8]) -> Result<(Section, &[u8])
     ensures { Finds (λ x. (x.0, x.1.now)) result (section_at nodes threads bytes.now) }
 {
     let (name, rest) = name_of(bytes);
-    if is_name(name, b"script") {
+    if JobForm::Script.has_name(name) {
         let (node, rest) = short_at(rest, 65_535)?;
         let (thread, rest) = short_at(rest, 65_535)?;
         if !is_there(nodes, threads, node, thread) {
@@ -106,10 +107,10 @@ fn section_at(nodes: u16, threads: u16, bytes: &[u8]) -> Result<(Section, &[u8])
         }
         return Ok((Section::Script { node, thread }, rest));
     }
-    if is_name(name, b"schedule") {
+    if JobForm::Schedule.has_name(name) {
         return Ok((Section::Schedule, rest));
     }
-    if is_name(name, b"done") {
+    if JobForm::Done.has_name(name) {
         return Ok((Section::Done, rest));
     }
     Err(Other)
@@ -131,14 +132,14 @@ pub fn section_form(bytes: &[u8]) -> bool
 {
     let (name, rest) = name_of(bytes);
     let count = words_left(rest);
-    if is_name(name, b"script") {
-        return count == 2;
+    if JobForm::Script.has_name(name) {
+        return JobForm::Script.fits(count);
     }
-    if is_name(name, b"schedule") {
-        return count == 0;
+    if JobForm::Schedule.has_name(name) {
+        return JobForm::Schedule.fits(count);
     }
-    if is_name(name, b"done") {
-        return count == 0;
+    if JobForm::Done.has_name(name) {
+        return JobForm::Done.fits(count);
     }
     false
 }
