@@ -9,6 +9,7 @@ use Rattle.line_forms.specs.Kinds.{role_word}
 use Rattle.gas_strided.specs.declared.shapes.Way.{Way}
 use Rattle.gas_strided.specs.declared.shapes.Way.TheVariants.{Put, Get}
 use Rattle.line_forms.specs.Forms.{Operations, Spans, Strides, bundle_text}
+use Rattle.job_text.specs.Places.{setting_name}
 use Rattle.job_print.specs.declared.head.NumberLine.{NumberLine}
 use Rattle.job_print.specs.declared.words.Word.{Word}
 use Rattle.job_print.specs.declared.words.Word.TheVariants as word
@@ -51,9 +52,9 @@ abbrev pub words_then : List Word → List ℕ → List ℕ
 words_then [] bytes = bytes
 words_then (word ∷ words) bytes = 32 ∷ (word_bytes word ++ words_then words bytes)
 
--- a line of a name and a number
+-- the line of a setting
 abbrev pub number_line : NumberLine → List ℕ
-number_line line = line.0.now ++ words_then (line.1 ∷ []) []
+number_line line = setting_name line.0 ++ words_then (line.1 ∷ []) []
 
 -- the names of strided and of indexed transfers
 abbrev pub strided_name : Way → List ℕ

@@ -191,18 +191,6 @@ pub(crate) fn write_named_form<K: Sink>(
     write_last(last, sink)
 }
 
-/// Writes a name, and a space and a word for each of the words.
-pub(crate) fn write_named<K: Sink>(
-    name: &[u8],
-    words: &[Word<'_>],
-    sink: &mut BufferedSink<K>,
-) -> Wrote
-    ensures { GathersAll (outbox K.taken K.faults sink.old) (outbox K.taken K.faults sink.new)
-        (name.now ++ words_then words.now []) result }
-{
-    write_named_form(name, words, Last::Nothing, sink)
-}
-
 /// Writes the name of a form, a space and a word for each of the words, and a list.
 pub(crate) fn write_form<K: Sink, F: LineForm>(
     form: F,
@@ -238,4 +226,15 @@ pub(crate) fn write_list<K: Sink, F: LineForm>(
         (F.name_of form ++ flat_map (λ register. 32 ∷ decimal register) registers.now) result }
 {
     write_named_form(form.name(), &[], Last::Registers(registers), sink)
+}
+
+/// Writes the line of a form that has no words.
+pub(crate) fn write_bare<K: Sink, F: LineForm>(form: F, sink: &mut BufferedSink<K>) -> Wrote
+    ensures { GathersAll (outbox K.taken K.faults sink.old) (outbox K.taken K.faults sink.new)
+        (F.name_of form ++ 10 ∷ []) result }
+{
+    if let Wrote::Fault = sink.write_all(form.name()) {
+        return Wrote::Fault;
+    }
+    sink.write_all(b"\n")
 }

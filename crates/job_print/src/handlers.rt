@@ -7,10 +7,10 @@ ghost use Rattle.step_text.specs.Bodies.{action_text};
 ghost use Rattle.job_text.specs.JobText.{handler_lines, header_line, spell};
 
 use crate::actions::write_action;
-use crate::forms::{Last, write_named_form};
+use crate::forms::{Last, write_bare, write_form};
 use crate::words::Word;
 use gas_outside::{BufferedSink, Sink, Wrote};
-use job_text::HandlerText;
+use job_text::{HandlerText, JobForm};
 use step_text::Action;
 
 /// Writes the first line of a handler.
@@ -19,7 +19,7 @@ fn write_header<K: Sink>(handler: &HandlerText, sink: &mut BufferedSink<K>) -> W
         (header_line handler.now ++ 10 ∷ []) result }
 {
     let words = [Word::U8(handler.index), Word::Role(handler.role)];
-    if let Wrote::Fault = write_named_form(b"handler", &words, Last::Locks(&handler.locks), sink) {
+    if let Wrote::Fault = write_form(JobForm::Handler, &words, Last::Locks(&handler.locks), sink) {
         return Wrote::Fault;
     }
     sink.write_all(b"\n")
@@ -52,7 +52,7 @@ fn write_handler<K: Sink>(handler: &HandlerText, sink: &mut BufferedSink<K>) -> 
     if let Wrote::Fault = write_actions(handler.body.actions(), sink) {
         return Wrote::Fault;
     }
-    sink.write_all(b"end\n")
+    write_bare(JobForm::End, sink)
 }
 
 /// Writes the lines of handlers, in their order.

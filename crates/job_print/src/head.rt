@@ -8,23 +8,23 @@ ghost use Rattle.job_text.specs.JobText.{all_settings, head_lines, pair_line, se
 ghost use Rattle.job_text.specs.JobText.{sieve_line, spell};
 ghost use Rattle.job_print.specs.Writing.{number_line};
 
-use crate::forms::write_named;
+use crate::forms::{write, write_bare};
 use crate::words::Word;
 use datagram_grammar::PairCredits;
 use gas_outside::{BufferedSink, Sink, Wrote};
-use job_text::{CollectArea, Job, SieveRule};
+use job_text::{CollectArea, Job, JobForm, Setting, SieveRule};
 
-/// A line of a name and a number.
+/// A setting and its number.
 #[derive(Clone, Copy)]
-pub(crate) struct NumberLine<'a>(&'a [u8], Word<'a>);
+pub(crate) struct NumberLine<'a>(Setting, Word<'a>);
 
-/// Writes lines of a name and a number.
+/// Writes the lines of settings.
 fn write_number_lines<K: Sink>(lines: &[NumberLine<'_>], sink: &mut BufferedSink<K>) -> Wrote
     ensures { GathersAll (outbox K.taken K.faults sink.old) (outbox K.taken K.faults sink.new)
         (spell (map number_line lines.now)) result }
 {
     for line in lines {
-        if let Wrote::Fault = write_named(line.0, &[line.1], sink) {
+        if let Wrote::Fault = write(line.0, &[line.1], sink) {
             return Wrote::Fault;
         }
         if let Wrote::Fault = sink.write_all(b"\n") {
@@ -41,15 +41,15 @@ fn write_settings<K: Sink>(job: &Job, sink: &mut BufferedSink<K>) -> Wrote
 {
     let settings = &job.settings;
     let lines = [
-        NumberLine(b"gasnet", Word::U8(settings.version())),
-        NumberLine(b"job", Word::U64(settings.job())),
-        NumberLine(b"nodes", Word::U16(settings.nodes())),
-        NumberLine(b"credits", Word::U16(settings.base_credits())),
-        NumberLine(b"threads", Word::U16(settings.threads())),
-        NumberLine(b"segment", Word::U64(settings.segment())),
-        NumberLine(b"last", Word::U64(settings.last())),
-        NumberLine(b"resend", Word::U64(settings.resend())),
-        NumberLine(b"patience", Word::U32(job.patience)),
+        NumberLine(Setting::Version, Word::U8(settings.version())),
+        NumberLine(Setting::Job, Word::U64(settings.job())),
+        NumberLine(Setting::Nodes, Word::U16(settings.nodes())),
+        NumberLine(Setting::Credits, Word::U16(settings.base_credits())),
+        NumberLine(Setting::Threads, Word::U16(settings.threads())),
+        NumberLine(Setting::Segment, Word::U64(settings.segment())),
+        NumberLine(Setting::Last, Word::U64(settings.last())),
+        NumberLine(Setting::Resend, Word::U64(settings.resend())),
+        NumberLine(Setting::Patience, Word::U32(job.patience)),
     ];
     write_number_lines(&lines, sink)
 }
@@ -64,7 +64,7 @@ fn write_sieve<K: Sink>(sieve: SieveRule, sink: &mut BufferedSink<K>) -> Wrote
         Word::U32(sieve.repeat),
         Word::U32(sieve.swap),
     ];
-    if let Wrote::Fault = write_named(b"sieve", &words, sink) {
+    if let Wrote::Fault = write(JobForm::Sieve, &words, sink) {
         return Wrote::Fault;
     }
     sink.write_all(b"\n")
@@ -92,7 +92,7 @@ pub(crate) fn write_pairs<K: Sink>(pairs: &[PairCredits], sink: &mut BufferedSin
             Word::U16(pair.to),
             Word::U16(pair.credits),
         ];
-        if let Wrote::Fault = write_named(b"pair", &words, sink) {
+        if let Wrote::Fault = write(JobForm::Pair, &words, sink) {
             return Wrote::Fault;
         }
         if let Wrote::Fault = sink.write_all(b"\n") {
@@ -110,7 +110,7 @@ pub(crate) fn write_atomics<K: Sink>(atomics: bool, sink: &mut BufferedSink<K>) 
     if !atomics {
         return Wrote::Done;
     }
-    sink.write_all(b"atomics\n")
+    write_bare(JobForm::Atomics, sink)
 }
 
 /// Writes the line of collectives, where nodes run them.
@@ -122,7 +122,7 @@ pub(crate) fn write_collect<K: Sink>(area: Option<CollectArea>, sink: &mut Buffe
         return Wrote::Done;
     };
     let words = [Word::U64(area.base), Word::U64(area.room)];
-    if let Wrote::Fault = write_named(b"collect", &words, sink) {
+    if let Wrote::Fault = write(JobForm::Collect, &words, sink) {
         return Wrote::Fault;
     }
     sink.write_all(b"\n")

@@ -3,12 +3,13 @@
 ghost use Rattle.gas_outside.specs.Buffered.{GathersAll, outbox};
 ghost use Rattle.job_text.specs.JobText.{job_text};
 
+use crate::forms::write_bare;
 use crate::handlers::write_handlers;
 use crate::head::{write_atomics, write_collect, write_head, write_pairs};
 use crate::schedules::write_schedule;
 use crate::scripts::write_scripts;
 use gas_outside::{BufferedSink, Sink, Wrote};
-use job_text::Job;
+use job_text::{Job, JobForm};
 
 /// Writes the text of a job: the one text that is read as it, where its words are in range. Pairs, handlers and scripts
 /// come in the order in which they stood in the text that was read, and a schedule's section exactly where one was.
@@ -39,5 +40,5 @@ pub fn print_job<K: Sink>(job: &Job, sink: &mut BufferedSink<K>) -> Wrote
     if let Wrote::Fault = write_schedule(&job.schedule, sink) {
         return Wrote::Fault;
     }
-    sink.write_all(b"done\n")
+    write_bare(JobForm::Done, sink)
 }

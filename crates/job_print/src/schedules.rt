@@ -5,8 +5,9 @@ ghost use Rattle.datagram_grammar.specs.Parameters.{Parameters};
 ghost use Rattle.job_text.specs.JobText.{schedule_lines, spell, timed_lines};
 
 use crate::events::write_timed;
+use crate::forms::write_bare;
 use gas_outside::{BufferedSink, Sink, Wrote};
-use job_text::Schedule;
+use job_text::{JobForm, Schedule};
 use step_text::TimedEvent;
 
 /// Writes the lines of events.
@@ -36,11 +37,11 @@ pub(crate) fn write_schedule<K: Sink>(
     let Some(schedule) = schedule else {
         return Wrote::Done;
     };
-    if let Wrote::Fault = sink.write_all(b"schedule\n") {
+    if let Wrote::Fault = write_bare(JobForm::Schedule, sink) {
         return Wrote::Fault;
     }
     if let Wrote::Fault = write_events(schedule.lines(), sink) {
         return Wrote::Fault;
     }
-    sink.write_all(b"end\n")
+    write_bare(JobForm::End, sink)
 }

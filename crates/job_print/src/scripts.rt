@@ -6,11 +6,11 @@ ghost use Rattle.gas_outside.specs.Buffered.{GathersAll, outbox};
 ghost use Rattle.step_text.specs.Scripts.{step_text};
 ghost use Rattle.job_text.specs.JobText.{script_line, script_lines, spell};
 
-use crate::forms::write_named;
+use crate::forms::{write, write_bare};
 use crate::steps::write_step;
 use crate::words::Word;
 use gas_outside::{BufferedSink, Sink, Wrote};
-use job_text::NodeScript;
+use job_text::{JobForm, NodeScript};
 use step_text::ScriptStep;
 
 /// Writes the first line of a script.
@@ -19,7 +19,7 @@ fn write_begin<K: Sink>(script: &NodeScript, sink: &mut BufferedSink<K>) -> Wrot
         (script_line script.now ++ 10 ∷ []) result }
 {
     let words = [Word::U16(script.node), Word::U16(script.thread)];
-    if let Wrote::Fault = write_named(b"script", &words, sink) {
+    if let Wrote::Fault = write(JobForm::Script, &words, sink) {
         return Wrote::Fault;
     }
     sink.write_all(b"\n")
@@ -52,7 +52,7 @@ fn write_script<K: Sink>(script: &NodeScript, sink: &mut BufferedSink<K>) -> Wro
     if let Wrote::Fault = write_steps(script.steps.steps(), sink) {
         return Wrote::Fault;
     }
-    sink.write_all(b"end\n")
+    write_bare(JobForm::End, sink)
 }
 
 /// Writes the lines of scripts, in their order.

@@ -23,4 +23,4 @@ returns g c =
     (past_done _ _ _ _ _ _ _ refl (past_done _ _ _ _ _ _ _ (section_parts (header_line c.args.handler.now) (map
     action_text (c.args.handler.now).body)) (nothing_yet _ _) c.in_default.ensures) (rw c.actions.ensures at
     c.in_default-write_actions.ensures))
-    c.write_all.ensures
+    c.write_bare.ensures

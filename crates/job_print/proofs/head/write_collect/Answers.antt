@@ -11,4 +11,4 @@ pub returns : goal.returns
 returns g c =
     past_last _ _ _ _ _ _
     (past_done _ _ _ _ _ _ _ (collect_parts c.args.area c.in-Some.area c.in-Some.is) (nothing_yet _ _)
-    c.in_default-write_named.ensures) c.write_all.ensures
+    c.in_default-write.ensures) c.write_all.ensures

@@ -105,4 +105,4 @@ returns g c =
     (rw c.texts.ensures at c.in_default-write_handlers.ensures))
     (rw c.scripts.ensures at c.in_default-write_scripts.ensures))
     (c.in_default-write_schedule.ensures (c.args.job.now).settings))
-    c.write_all.ensures
+    c.write_bare.ensures

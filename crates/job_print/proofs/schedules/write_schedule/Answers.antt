@@ -15,7 +15,7 @@ returns-in-Fault-write_events g c =
     λ settings.
     rw c.in-Some.is (past_fault _ _ _ _ _ _ _ refl
     (past_done _ _ _ _ _ _ _ (section_parts (codes "schedule") (timed_lines settings c.in-Some.schedule))
-    (nothing_yet _ _) c.in_default-write_all.ensures)
+    (nothing_yet _ _) c.in_default-write_bare.ensures)
     (rw c.lines.ensures at (c.in-Fault-write_events.ensures settings)))
 
 pub returns : goal.returns
@@ -23,6 +23,6 @@ returns g c =
     λ settings.
     rw c.in-Some.is (past_last _ _ _ _ _ _
     (past_done _ _ _ _ _ _ _ refl (past_done _ _ _ _ _ _ _ (section_parts (codes "schedule") (timed_lines settings
-    c.in-Some.schedule)) (nothing_yet _ _) c.in_default-write_all.ensures) (rw c.lines.ensures at
+    c.in-Some.schedule)) (nothing_yet _ _) c.in_default-write_bare.ensures) (rw c.lines.ensures at
     (c.in_default-write_events.ensures settings)))
-    c.write_all-2.ensures)
+    c.write_bare-2.ensures)

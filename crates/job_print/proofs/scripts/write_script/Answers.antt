@@ -23,4 +23,4 @@ returns g c =
     (past_done _ _ _ _ _ _ _ refl (past_done _ _ _ _ _ _ _ (section_parts (script_line c.args.script.now) (map
     step_text (c.args.script.now).steps)) (nothing_yet _ _) c.in_default.ensures) (rw c.steps.ensures at
     c.in_default-write_steps.ensures))
-    c.write_all.ensures
+    c.write_bare.ensures
