@@ -21,7 +21,7 @@ use Rattle.gas_world.proofs.Lodgings.{event_held}
 use Rattle.plain_world.specs.MostHeld.{most_then}
 use Rattle.gas_world.specs.Aims.{FallsAt, FallsNowhere, MayFall}
 use Rattle.node_record.specs.Transition.{Transition}
-use Rattle.gas_world.specs.declared.world.Aim.{Aim}
+use Rattle.gas_world.specs.Aims.{Aim}
 use Rattle.endpoint_rules.specs.declared.call.Event.TheVariants as event
 use Rattle.gas_world.specs.declared.event.WorldEvent.{WorldEvent}
 use Rattle.gas_world.specs.declared.event.WorldEvent.TheVariants as world_event
@@ -126,11 +126,12 @@ callable v (world_event.Tick i) whole may = tt
 
 -- a tick sends what was planned
 pub planned : (v : WorldState) (now : ℕ) (e : WorldEvent) (aim : Aim) → FallsAt v now e aim
-    → IsPlanned v.endpoints (transition now e aim.target)
+    → IsPlanned v.endpoints (transition now e (is_some aim.target))
 planned v now (world_event.Call node thread k) aim at = tt
 planned v now (world_event.Request i j k) aim at = tt
 planned v now (world_event.Reply i j k) aim at = tt
-planned v now (world_event.Tick i) aim at = at.sends
+planned v now (world_event.Tick i) aim at = λ endpoint lent.
+    record { target = aim.target; target_is = at.sends endpoint lent; sends_is = refl }
 
 -- what a world stands for after a step
 pub founded_after : (meaning : Meaning) (old new : WorldState) (now : ℕ) (e : WorldEvent) (a : WorldAnswer)

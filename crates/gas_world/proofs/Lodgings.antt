@@ -16,7 +16,7 @@ use Rattle.gas_world.specs.Stands.{WorldStands, StandsForPair}
 use Rattle.gas_world.specs.declared.exchanges.Exchange.{Exchange}
 use Rattle.gas_world.specs.Aims.{FallsAt}
 use Rattle.gas_world.specs.Events.{event_of}
-use Rattle.gas_world.specs.declared.world.Aim.{Aim}
+use Rattle.gas_world.specs.Aims.{Aim}
 use Rattle.gas_world.specs.declared.event.WorldEvent.{WorldEvent}
 use Rattle.gas_world.specs.declared.event.WorldEvent.TheVariants as world_event
 use Rattle.plain_world.specs.World.{IsAmong}

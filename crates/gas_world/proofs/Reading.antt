@@ -1,7 +1,7 @@
 -- What is read of a world is what its records give.
 use Rattle.std.proofs.Common.{◌≡◌, ℕ, ◌+◌, ◌*◌, ◌<◌, List, length, get_or, Option, None, Some, refl, sym, ap, ◌∙◌}
-use Rattle.std.proofs.Common.{subst, subst₂, arith}
-use Rattle.std.specs.Prelude.{false, ◌≢◌, IfSome, unwrap_or}
+use Rattle.std.proofs.Common.{subst, subst₂, arith, eq-eqb, ne_eqb}
+use Rattle.std.specs.Prelude.{true, false, not, ◌≢◌, ◌==◌, Bool, IfSome, is_some, unwrap_or, if◌then◌else◌}
 use Rattle.std.specs.List.{slice_get}
 use Rattle.std.proofs.lemmas.Option.{slice_get_read, same_Some}
 use Rattle.datagram_grammar.specs.Parameters.{Parameters}
@@ -13,9 +13,10 @@ use Rattle.gas_endpoint.specs.EndpointState.{EndpointState, EndpointStands, IsTi
 use Rattle.gas_world.specs.Sizes.{IsWorldSized}
 use Rattle.gas_world.specs.WorldState.{WorldState}
 use Rattle.gas_world.specs.Stands.{StandsForPair, WorldStands, IsWholeWorld}
-use Rattle.gas_world.specs.Aims.{IsAimOfTick}
+use Rattle.gas_world.specs.Aims.{IsAimOfTick, aim_of, other_of}
 use Rattle.plain_world.specs.Plain.{is_back}
 use Rattle.gas_world.specs.declared.exchanges.Exchange.{Exchange}
+use Rattle.gas_world.specs.declared.event.WorldEvent.TheVariants as world_event
 use Rattle.gas_world.proofs.EventScopes.{pair_place}
 use Rattle.gas_world.proofs.PairStands.{sent_is, none_sent}
 
@@ -72,12 +73,27 @@ most_read s table v es xs most node m view sized low read w greatest S =
     let at = slice_get_read most (length most) node m refl within read in
     same_Some _ _ (sym (ap (λ (t : WorldState). slice_get t.most node) (sym view) ∙ at) ∙ S.most_is node low)
 
+-- the other node of a tick's pair is the one to which it sends, if it does
+other_is : (node to : ℕ) (target : Option ℕ) → to ≡ unwrap_or target node
+    → ((t : ℕ) → target ≡ Some t → t ≢ node) → other_of node to ≡ target
+other_is node to None is apart = ap (λ (b : Bool). if b then None else Some to) (eq-eqb node to (sym is))
+other_is node to (Some t) is apart =
+    ap (λ (b : Bool). if b then None else Some to) (ne_eqb node to (λ e. apart t refl (sym (e ∙ is)))) ∙ ap Some is
+
+-- there is one where the two differ
+pub other_there : (from to : ℕ) → is_some (other_of from to) ≡ not (from == to)
+other_there from to = by_test (from == to)
+  where
+    by_test : (same : Bool) → is_some (if same then None else Some to) ≡ not same
+    by_test true = refl
+    by_test false = refl
+
 -- where a tick falls, by the node to which its endpoint says that it sends
 pub tick_aim : (inside v : WorldState) (now node : ℕ) (e : EndpointState) (target : Option ℕ) (to : ℕ)
     → inside ≡ v → IsWholeWorld inside → node < v.settings.nodes → e ≡ get_or inside.endpoints node e
     → IsTickTarget e now target → IfSome target (λ t. t < e.core.settings.nodes) → IfSome target (λ t. t ≢ e.core.me)
     → to ≡ unwrap_or target node
-    → IsAimOfTick v now node (record { node = node; from = node; to = to; target = target })
+    → IsAimOfTick v now node (aim_of (world_event.Tick node) node to)
 tick_aim inside v now node e target to view whole low read sends there other is =
     let within : node < length inside.endpoints = omega
     (arith, low, whole.sized.endpoints_are, ap (λ (t : WorldState). t.settings.nodes) view) in
@@ -85,7 +101,10 @@ tick_aim inside v now node e target to view whole low read sends there other is 
     let here : slice_get v.endpoints node ≡ Some e = ap (λ (t : WorldState). slice_get t.endpoints node) (sym view) ∙ at
     in
     let home = whole.sized.nodes node e at in
-    record {
+    let apart : (t : ℕ) → target ≡ Some t → t ≢ node = λ t t_is. subst (λ m. t ≢ m) home.me_is
+    (some_holds target t (λ n. n ≢ e.core.me) t_is other) in
+    subst (λ (o : Option ℕ). IsAimOfTick v now node (record { node = node; from = node; to = to; target = o }))
+    (sym (other_is node to target is apart)) (record {
       node_is = refl;
       from_is = refl;
       to_is = is;
@@ -96,11 +115,11 @@ tick_aim inside v now node e target to view whole low read sends there other is 
           ap (λ (s : Parameters). s.nodes) home.settings_are,
           ap (λ (w : WorldState). w.settings.nodes) view,
         ),
-        subst (λ m. t ≢ m) home.me_is (some_holds target t (λ n. n ≢ e.core.me) t_is other),
+        apart t t_is,
       );
       sends = λ d d_at. subst (λ (y : EndpointState). IsTickTarget y now target)
           (same_Some _ _ (sym here ∙ d_at)) sends;
-    }
+    })
   where
     some_holds : (o : Option ℕ) (t : ℕ) (P : ℕ → Type 0) → o ≡ Some t → IfSome o P → P t
     some_holds (Some x) t P e h = subst P (same_Some _ _ e) h

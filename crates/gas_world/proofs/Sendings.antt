@@ -1,7 +1,7 @@
 -- Each tick, by what it did to its scope.
 use Rattle.std.proofs.Common.{◌≡◌, ◌≢◌, inl, inr, ℕ, ◌+◌, ◌*◌, ◌<◌, true, false, true≢false, List, []}
 use Rattle.std.proofs.Common.{◌∷◌, ◌++◌, refl, sym, ap, ◌∙◌, subst, subst₂}
-use Rattle.std.specs.Prelude.{Option, Some, None, is_some, unwrap_or, slice_get, slice_set, ◌==◌}
+use Rattle.std.specs.Prelude.{Bool, Option, Some, None, is_some, unwrap_or, slice_get, slice_set, ◌==◌}
 use Rattle.std.proofs.lemmas.Bool.{cases_Bool}
 use Rattle.std.proofs.lemmas.Option.{same_Some}
 use Rattle.datagram_grammar.specs.Parameters.{Parameters}
@@ -97,28 +97,33 @@ accepts_at meaning v i now r to e =
     (sent_accepts it.sending.content (request_slot it.sending.to (next_claim (r.asked it.sending.to)).slot))
 
 -- what a tick does to the scope of its node, it does to the stage
-pub tick_happens : (meaning : Meaning) (old : ScopeStage) (now node : ℕ) (planned : WorldEvent) (target : Option ℕ)
+pub tick_happens : (meaning : Meaning) (old : ScopeStage) (now node : ℕ) (planned : WorldEvent) (sends : Bool)
     (answer : WorldAnswer) (was : EndpointState) (new : EventScope)
     → planned ≡ world_event.Tick node → slice_get old.endpoints node ≡ Some was
-    → IsSameNode was.core new.endpoint.core → IsPlanned old.endpoints (transition now planned target)
-    → CallFalls meaning (scope_with old was) (is_some target) (transition now event.Tick answer) new
+    → IsSameNode was.core new.endpoint.core → IsPlanned old.endpoints (transition now planned sends)
+    → CallFalls meaning (scope_with old was) sends (transition now event.Tick answer) new
     → Happens meaning old (transition now planned answer) (record {
       endpoints = slice_set old.endpoints node new.endpoint;
       exchanges = new.exchanges;
       most = new.most;
     })
-tick_happens meaning old now node planned target answer was new e there same sends falls =
-    subst (λ (p : WorldEvent). IsPlanned old.endpoints (transition now p target)
+tick_happens meaning old now node planned sends answer was new e there same plan falls =
+    subst (λ (p : WorldEvent). IsPlanned old.endpoints (transition now p sends)
     → Happens meaning old (transition now p answer) (record {
       endpoints = slice_set old.endpoints node new.endpoint;
       exchanges = new.exchanges;
       most = new.most;
-    })) (sym e) (λ plan. record {
+    })) (sym e) (λ plan. let it = plan was there in record {
       was = was;
       is = new.endpoint;
       changes = record { there = there; changed = refl; same = same };
-      steps = record { target = target; sends = plan was there; falls = falls };
-    }) sends
+      steps = record {
+        target = it.target;
+        sends = it.target_is;
+        falls = subst (λ (b : Bool). CallFalls meaning (scope_with old was) b (transition now event.Tick answer) new)
+            it.sends_is falls;
+      };
+    }) plan
 
 -- ---- a tick that sends
 

@@ -1,5 +1,5 @@
 -- Where an event of a world falls.
-use Rattle.std.specs.Prelude.{ℕ, ◌≡◌, ◌≢◌, ◌<◌, Option, None, Some, unwrap_or, slice_get}
+use Rattle.std.specs.Prelude.{ℕ, ◌≡◌, ◌≢◌, ◌<◌, ◌==◌, Option, None, Some, unwrap_or, slice_get, if◌then◌else◌}
 use Rattle.datagram_grammar.specs.Parameters.{Parameters}
 use Rattle.endpoint_rules.specs.Called.{HasTarget}
 use Rattle.endpoint_rules.specs.declared.call.Call.{Call}
@@ -8,7 +8,23 @@ use Rattle.gas_world.specs.declared.event.WorldEvent.TheVariants as event
 use Rattle.node_record.specs.Transition.{Transition}
 use Rattle.gas_endpoint.specs.EndpointState.{EndpointState, IsTickTarget, MayBeCalled}
 use Rattle.gas_world.specs.WorldState.{WorldState}
-use Rattle.gas_world.specs.declared.world.Aim.{Aim}
+use Rattle.gas_world.specs.EventScopes.{event_node}
+
+-- where an event falls: on the node, with the pair of these two, and where it is a tick, with the node to which it
+-- sends a request of its node's own accord
+pub record Aim : Type 0 where
+  pub node : ℕ
+  pub from : ℕ
+  pub to : ℕ
+  pub target : Option ℕ
+
+-- the second node of a pair, where it is another one
+abbrev pub other_of : (from to : ℕ) → Option ℕ
+other_of from to = if from == to then None else Some to
+
+-- that of an event with this pair
+abbrev pub aim_of : WorldEvent → (from to : ℕ) → Aim
+aim_of event from to = record { node = event_node event; from = from; to = to; target = other_of from to }
 
 -- at the node, with the pair of these two
 pub record IsAim (node from to : ℕ) (aim : Aim) : Type 0 where
@@ -51,10 +67,10 @@ FallsNowhere (event.Request from to number) = from ≡ to
 FallsNowhere (event.Reply from to number) = from ≡ to
 FallsNowhere (event.Tick node) = ⊥
 
--- where it falls, if it does
-abbrev pub AimsAt : WorldState → Transition WorldEvent (Option Aim) → Type 0
+-- it falls with this pair, if it does
+abbrev pub AimsAt : WorldState → Transition WorldEvent (Option (ℕ × ℕ)) → Type 0
 AimsAt world step = elim step.answer [
-  | Some aim ↦ FallsAt world step.now step.event aim
+  | Some pair ↦ FallsAt world step.now step.event (aim_of step.event pair.0 pair.1)
   | None ↦ FallsNowhere step.event
 ]
 

@@ -320,15 +320,21 @@ IsBetween count (world_event.Request from to number) = (from < count) × (to < c
 IsBetween count (world_event.Reply from to number) = (from < count) × (to < count) × (from ≢ to)
 IsBetween count (world_event.Tick node) = node < count
 
--- where the event is a tick, this is the node to which it sends a request of its node's own accord
-abbrev pub IsPlanned : List EndpointState → Transition WorldEvent (Option ℕ) → Type 0
+-- whether a tick sends a request of its node's own accord
+pub record TickSends (endpoint : EndpointState) (now : ℕ) (sends : Bool) : Type 0 where
+  pub target : Option ℕ
+  pub target_is : IsTickTarget endpoint now target
+  pub sends_is : sends ≡ is_some target
+
+-- where the event is a tick, this is whether it sends one
+abbrev pub IsPlanned : List EndpointState → Transition WorldEvent Bool → Type 0
 IsPlanned endpoints step = elim step.event [
   | world_event.Call node thread call ↦ Unit {0}
   | world_event.Request from to number ↦ Unit {0}
   | world_event.Reply from to number ↦ Unit {0}
   | world_event.Tick node ↦
       (endpoint : EndpointState) → slice_get endpoints node ≡ Some endpoint
-      → IsTickTarget endpoint step.now step.answer
+      → TickSends endpoint step.now step.answer
 ]
 
 -- a call may be made at its node's endpoint

@@ -11,6 +11,7 @@ ghost use Rattle.node_record.specs.Credits.{greatest_holding};
 ghost use Rattle.gas_endpoint.specs.EndpointState.{EndpointStands};
 ghost use Rattle.gas_world.specs.Stands.{WorldStands};
 ghost use Rattle.gas_world.specs.Aims.{AimsAt, MayFall, IsTargetOf};
+ghost use Rattle.gas_world.specs.EventScopes.{event_node};
 ghost use Rattle.gas_world.specs.Events.{event_of, ForItsRecords, job_in, RunsHaveTheHeadline};
 ghost use Rattle.gas_world.specs.Events.{RunsHaveTheLaws};
 ghost use Rattle.transfer_laws.specs.TransferLaws.{TransfersHold};
@@ -223,19 +224,6 @@ fn no_exchanges(alloc: Global, pairs: usize) -> Result<Vec<Exchanges>, AllocErro
     Ok(exchanges)
 }
 
-/// Where an event falls.
-#[derive(Clone, Copy)]
-struct Aim {
-    /// The node.
-    node: u16,
-    /// The ordered pair of nodes whose message the event sends or delivers begins with this one.
-    from: u16,
-    /// And it ends with this one. Where there is no other node, it is the same.
-    to: u16,
-    /// The node to which a tick sends a request of its node's own accord, if it does.
-    target: Option<u16>,
-}
-
 /// The node of which a call is asked, where that is a request and the node is there; else the own
 /// node.
 #[inline(always)]
@@ -259,32 +247,39 @@ fn place_of(settings: &Settings, from: u16, to: u16) -> usize
     usize::from(from) * usize::from(settings.nodes()) + usize::from(to)
 }
 
+/// The node on which an event falls.
+#[inline(always)]
+fn node_of(event: &WorldEvent<'_>) -> u16
+    ensures { result ≡ event_node event.now }
+{
+    match event {
+        WorldEvent::Call { node, .. } | WorldEvent::Tick { node } => *node,
+        WorldEvent::Request { to, .. } => *to,
+        WorldEvent::Reply { from, .. } => *from,
+    }
+}
+
 impl World {
-    /// Where an event at the time `now` falls; None where a node is to deliver a message to itself,
-    /// since it sends itself none.
+    /// The ordered pair of nodes whose message an event at the time `now` sends or delivers. A
+    /// call or a tick that sends nothing to another node has its own node twice. None where a node
+    /// is to deliver a message to itself, since it sends itself none.
     #[inline(always)]
-    fn aim(&self, now: u64, event: &WorldEvent<'_>) -> Option<Aim>
+    fn pair(&self, now: u64, event: &WorldEvent<'_>) -> Option<(u16, u16)>
         requires { IsAmong self.now.settings (event_of event.now) }
         ensures { AimsAt self.now (transition now event.now result) }
     {
-        let (node, from, to, target) = match event {
+        match event {
             WorldEvent::Call { node, call, .. } => {
-                (*node, *node, target_of(&self.settings, *node, call), None)
+                Some((*node, target_of(&self.settings, *node, call)))
             }
             WorldEvent::Tick { node } => {
                 let target = self.endpoints[usize::from(*node)].next_target(now);
-                (*node, *node, target.unwrap_or(*node), target)
+                Some((*node, target.unwrap_or(*node)))
             }
-            WorldEvent::Request { from, to, .. } if *from != *to => (*to, *from, *to, None),
-            WorldEvent::Reply { from, to, .. } if *from != *to => (*from, *from, *to, None),
-            _ => return None,
-        };
-        Some(Aim {
-            node,
-            from,
-            to,
-            target,
-        })
+            WorldEvent::Request { from, to, .. } if *from != *to => Some((*from, *to)),
+            WorldEvent::Reply { from, to, .. } if *from != *to => Some((*from, *to)),
+            _ => None,
+        }
     }
 
     /// One event at the time `now`, as the records of the nodes say it.
@@ -302,16 +297,16 @@ impl World {
         ensures steps { StepsInWorld (H.meaning handlers.now) self.old
             (transition now (event_of event.now) result) self.new }
     {
-        let Some(aim) = self.aim(now, event) else {
+        let Some((from, to)) = self.pair(now, event) else {
             return WorldAnswer::Unsent;
         };
-        let place = place_of(&self.settings, aim.from, aim.to);
-        let node = usize::from(aim.node);
+        let place = place_of(&self.settings, from, to);
+        let node = usize::from(node_of(event));
         let context = EventContext {
             handlers,
             now,
             event,
-            target: aim.target,
+            sends: from != to,
         };
         happen(
             context,

@@ -1,5 +1,4 @@
 use Rattle.std.proofs.Common.{rules, ◌≡◌, ◌<◌, get_or, length, sym, subst}
-use Rattle.std.specs.Prelude.{Bool}
 use Rattle.std.proofs.lemmas.Option.{slice_get-get_or}
 use Rattle.gas_endpoint.specs.EndpointState.{EndpointState}
 use Rattle.gas_world.specs.EventScopes.{IsBetween}
@@ -15,8 +14,8 @@ returns-in-Tick g c =
     subst (λ (e : WorldEvent). IsBetween (length c.args.endpoints.now) e) c.in-Tick.is c.requires.between in
     tick_happens (g.H.Handlers.meaning c.args.context.handlers.now)
     (record { endpoints = c.args.endpoints.now; exchanges = c.args.exchanges.now; most = c.args.most.now })
-    c.args.context.now node c.args.context.event.now c.args.context.target c.fall-in-Tick.result was
+    c.args.context.now node c.args.context.event.now c.args.context.sends c.fall-in-Tick.result was
     (record { endpoint = c.fall-in-Tick.new.self.endpoint.now; exchanges = _; most = _ })
     c.in-Tick.is (slice_get-get_or c.args.endpoints.now node c.index-endpoints-node-in-Tick.result low)
-    c.fall-in-Tick.ensures.same c.requires.target
-    (search (rules, c.fall-in-Tick.ensures.steps, c.is_some-is_ask.ensures))
+    c.fall-in-Tick.ensures.same c.requires.sends
+    (search (rules, c.fall-in-Tick.ensures.steps))

@@ -1,22 +1,19 @@
 use Rattle.std.proofs.Common.{◌≡◌, ◌<◌, sym, subst}
 use Rattle.std.specs.Prelude.{get_or}
 use Rattle.plain_world.specs.World.{IsAmong}
-use Rattle.gas_world.specs.Aims.{FallsAt}
+use Rattle.gas_world.specs.Aims.{FallsAt, aim_of}
 use Rattle.gas_world.specs.Events.{event_of}
 use Rattle.gas_world.specs.declared.event.WorldEvent.{WorldEvent}
-use Rattle.gas_world.specs.declared.world.Aim.{Aim}
 use Rattle.gas_world.proofs.Reading.{world_of, tick_aim}
-use Rattle.gas_world.proofs.world.World.aim.Goals as goal
+use Rattle.gas_world.proofs.world.World.pair.Goals as goal
 
 pub returns-in-Tick : goal.returns-in-Tick
 returns-in-Tick c =
     let v = c.args.self.now in
     let node = c.in-Tick.node in
-    let aim : Aim =
-    record { node = node; from = node; to = c.unwrap_or.result; target = c.next_target-target.result } in
     let there : node < v.settings.nodes =
     subst (λ (e : WorldEvent). IsAmong v.settings (event_of e)) c.in-Tick.is c.requires in
-    subst (λ (e : WorldEvent). FallsAt v c.args.now e aim) (sym c.in-Tick.is)
+    subst (λ (e : WorldEvent). FallsAt v c.args.now e (aim_of e node c.unwrap_or.result)) (sym c.in-Tick.is)
     (tick_aim (world_of c.self.inside.settings c.self.inside.table c.self.inside.endpoints.items
     c.self.inside.exchanges.items c.self.inside.most.items) v c.args.now node c.index.result.now
     c.next_target-target.result c.unwrap_or.result c.self.view_is c.self.invariant there
