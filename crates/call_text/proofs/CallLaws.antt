@@ -10,7 +10,7 @@ use Rattle.line_forms.specs.FormTests.{named_form}
 use Rattle.call_text.specs.Calls.{calls, later_calls, own_calls, segment_calls, transfer_calls}
 use Rattle.call_text.specs.Calls.{implicit_calls}
 use Rattle.call_text.specs.Calls.{sync_calls, barrier_calls, call_entry, call_at, call_fits}
-use Rattle.call_text.specs.Calls.{call_forms, call_named, form_at, form_row, own_forms, sync_forms}
+use Rattle.call_text.specs.Calls.{call_form_row, call_forms, call_named, form_at, own_forms, sync_forms}
 use Rattle.call_text.specs.Calls.{transfer_forms}
 use Rattle.call_text.specs.Calls.{call_text}
 use Rattle.call_text.specs.Calls.{IsCall}
@@ -81,7 +81,7 @@ calls_exact scope =
 -- ---- the table in code
 
 -- the forms have the rows of the table
-rows_are : calls ≡ map form_row call_forms
+rows_are : calls ≡ map call_form_row call_forms
 unfolding calls later_calls own_calls segment_calls transfer_calls implicit_calls sync_calls barrier_calls
     call_forms own_forms transfer_forms sync_forms
 rows_are = refl
@@ -92,12 +92,12 @@ pub read_calls : (scope : Scope) (bytes : List ℕ)
 unfolding call_at form_at call_named
 read_calls scope bytes =
     ap (λ (rows : List (Row ⊥ ScheduledCall)). table_at none_at rows (call_fits scope) bytes) rows_are
-    ∙ read_table none_at form_row call_forms (call_fits scope) bytes
+    ∙ read_table none_at call_form_row call_forms (call_fits scope) bytes
 
 -- and a line has the form of a call by the words of that form
 pub test_calls : (name bytes : List ℕ) → named_form (λ bytes. false) calls name bytes
-    ≡ found_form (λ bytes. false) form_row (call_named name) bytes
+    ≡ found_form (λ bytes. false) call_form_row (call_named name) bytes
 unfolding call_named
 test_calls name bytes =
     ap (λ (rows : List (Row ⊥ ScheduledCall)). named_form (λ bytes. false) rows name bytes) rows_are
-    ∙ test_named (λ bytes. false) form_row call_forms name bytes
+    ∙ test_named (λ bytes. false) call_form_row call_forms name bytes

@@ -198,42 +198,42 @@ calls = short_row ∷ atomic_row ∷ later_calls
 -- ---- the table in code
 
 -- the row of a form
-abbrev pub form_row : CallForm → Row ⊥ ScheduledCall
-form_row forms.Short = short_row
-form_row forms.Atomic = atomic_row
-form_row forms.Medium = medium_row
-form_row forms.Long = long_row
-form_row forms.Async = async_row
-form_row forms.Lock = lock_row
-form_row forms.Unlock = unlock_row
-form_row forms.Poll = poll_row
-form_row forms.Attempt = attempt_row
-form_row forms.Cell = cell_row
-form_row forms.SetCell = set_cell_row
-form_row forms.Show = show_row
-form_row forms.Set = set_row
-form_row forms.Fill = fill_row
-form_row forms.Word = word_row
-form_row forms.SetWord = set_word_row
-form_row forms.Put = put_row
-form_row forms.Get = get_row
-form_row forms.Memset = memset_row
-form_row forms.ImplicitPut = implicit_put_row
-form_row forms.ImplicitGet = implicit_get_row
-form_row forms.ImplicitMemset = implicit_memset_row
-form_row forms.Issued = issued_row
-form_row forms.Try = try_row
-form_row forms.TryAll = try_all_row
-form_row forms.TrySome = try_some_row
-form_row forms.TryImplicit = try_implicit_row
-form_row forms.RegionBegin = region_begin_row
-form_row forms.RegionEnd = region_end_row
-form_row forms.Notify = notify_row
-form_row forms.TryBarrier = try_barrier_row
+abbrev pub call_form_row : CallForm → Row ⊥ ScheduledCall
+call_form_row forms.Short = short_row
+call_form_row forms.Atomic = atomic_row
+call_form_row forms.Medium = medium_row
+call_form_row forms.Long = long_row
+call_form_row forms.Async = async_row
+call_form_row forms.Lock = lock_row
+call_form_row forms.Unlock = unlock_row
+call_form_row forms.Poll = poll_row
+call_form_row forms.Attempt = attempt_row
+call_form_row forms.Cell = cell_row
+call_form_row forms.SetCell = set_cell_row
+call_form_row forms.Show = show_row
+call_form_row forms.Set = set_row
+call_form_row forms.Fill = fill_row
+call_form_row forms.Word = word_row
+call_form_row forms.SetWord = set_word_row
+call_form_row forms.Put = put_row
+call_form_row forms.Get = get_row
+call_form_row forms.Memset = memset_row
+call_form_row forms.ImplicitPut = implicit_put_row
+call_form_row forms.ImplicitGet = implicit_get_row
+call_form_row forms.ImplicitMemset = implicit_memset_row
+call_form_row forms.Issued = issued_row
+call_form_row forms.Try = try_row
+call_form_row forms.TryAll = try_all_row
+call_form_row forms.TrySome = try_some_row
+call_form_row forms.TryImplicit = try_implicit_row
+call_form_row forms.RegionBegin = region_begin_row
+call_form_row forms.RegionEnd = region_end_row
+call_form_row forms.Notify = notify_row
+call_form_row forms.TryBarrier = try_barrier_row
 
 -- its name
 abbrev pub form_name : CallForm → Word
-form_name form = (form_row form).name
+form_name form = (call_form_row form).name
 
 -- the forms in the order of the rows: from `issued` on
 unfoldable pub sync_forms : List CallForm
@@ -333,7 +333,7 @@ fitting scope found = found >>= passed (call_fits scope)
 
 -- what reads the words of a form behind its name, where the call may stand in the job
 unfoldable pub form_at : Scope → CallForm → List ℕ → Option (ScheduledCall × List ℕ)
-form_at scope form bytes = fitting scope (row_at none_at (form_row form) bytes)
+form_at scope form bytes = fitting scope (row_at none_at (call_form_row form) bytes)
 
 -- what reads a call
 unfoldable pub call_at : Scope → List ℕ → Option (ScheduledCall × List ℕ)

@@ -4,7 +4,7 @@
 //! there: a loop over a list of them takes some six times as long.
 
 ghost use Rattle.std.specs.Prelude.{◌≡◌, false};
-ghost use Rattle.call_text.specs.Calls.{call_named, form_name, form_row, own_forms, sync_forms};
+ghost use Rattle.call_text.specs.Calls.{call_form_row, call_named, form_name, own_forms, sync_forms};
 ghost use Rattle.call_text.specs.Calls.{transfer_forms};
 ghost use Rattle.line_forms.specs.FormTests.{shape_form};
 ghost use Rattle.line_forms.specs.Tables.{IsRow, first_named};
@@ -84,7 +84,7 @@ impl CallForm {
     /// Its name, and how many words may follow it.
     #[inline(always)]
     fn row(self) -> (&'static [u8], WordCount)
-        ensures { IsRow (form_row self) result.0.now result.1 }
+        ensures { IsRow (call_form_row self) result.0.now result.1 }
     {
         match self {
             CallForm::Short => (b"short", Between(2, 19)),
@@ -248,7 +248,7 @@ impl CallForm {
 
     /// Whether the bytes after the name have as many words as the form.
     pub fn fits(self, rest: &[u8]) -> bool
-        ensures { result ≡ shape_form (λ bytes. false) 0 (form_row self).shape rest.now }
+        ensures { result ≡ shape_form (λ bytes. false) 0 (call_form_row self).shape rest.now }
     {
         self.row().1.fits(words_left(rest))
     }

@@ -26,8 +26,8 @@
 //! - `Held::turn` is the station's turn [`turn`], and raises the share that it is handed by one exactly where an entry
 //!   was recorded [`booked`]; `Held::close` gives a station of which the facts hold [`facts`], for a journal that is as
 //!   long as all shares together say [`booked`].
-//! - `run_threads` [`Leaves`]: there is a journal, and the machine is its replay; the datagrams; the bytes; the times;
-//!   for each end its causes. `Over` and `Stuck` come only where the quiet entries at the journal's end, and the times
+//! - `run_threads` [`StationLeaves`]: there is a journal, and the machine is its replay; the datagrams; the bytes; the
+//!   times; for each end its causes. `Over` and `Stuck` come only where the quiet entries at the journal's end, and the times
 //!   that the clock was asked without an entry, are at least `patience` together, or the clock's counter stands at its
 //!   last value (`PatienceIsSpent`); the last entry is quiet, or a turn would be empty now; and where every thread
 //!   polls and the link tells what waits, nothing does. That the turns were quiet in a row is said turn by turn, by

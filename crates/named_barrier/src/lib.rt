@@ -5,8 +5,8 @@
 //! note may be lost and sent again, come late, come again and overtake others.
 //!
 //! What is proved: each call answers what the definitions say of the node's record, which has all that was ever
-//! notified, heard and sent, and then it stands for the record's next one (`Stands`). Over the records of n nodes, a
-//! try ends a phase only where all have notified it, and tells a mismatch exactly where the combination of the n
+//! notified, heard and sent, and then it stands for the record's next one (`BarrierStands`). Over the records of n nodes,
+//! a try ends a phase only where all have notified it, and tells a mismatch exactly where the combination of the n
 //! notifies is one, or where the try differs from the node's own notify (`every_run`).
 //!
 //! GASNet 1.8.1, extended API, barriers; the numbers of the flags, the notes, their route and the nodes that a

@@ -20,7 +20,7 @@
 //!   request's credit, unless a lock defers it (`ReplyFindsItsRequest`);
 //! - a request that ran was accepted and ran with its label and content, none ran twice (`RunsOnce`), and one that is
 //!   back ran (`BackRan`);
-//! - requests are those of two different nodes that are there, with labels below the pair's credits (`IsWithin`).
+//! - requests are those of two different nodes that are there, with labels below the pair's credits (`IsWithinCredits`).
 //!
 //! Of a whole run (`Headline`, `specs/Headline.antt`): it is a run of the plain world, step by step, and no delivery is
 //! answered Refused; the laws hold in each state; requests and runs only become more; no request runs twice and no

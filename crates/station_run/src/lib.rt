@@ -6,7 +6,7 @@
 //!
 //! What is proved, by the names of clauses (in `src/`) and definitions (in `specs/`):
 //!
-//! - What is left (`RunsOver`): the link was bound to the node's address, and the threads left what `Leaves` of
+//! - What is left (`RunsOver`): the link was bound to the node's address, and the threads left what `StationLeaves` of
 //!   `endpoint_lock` says: there is a journal, machine and journal are the replay of the machine handed in, no datagram
 //!   went before the lines of its turn and of those before it had, and each end has its cause. Or the link failed as it
 //!   was to be bound; then nothing was done, and the end is `LinkFault`.

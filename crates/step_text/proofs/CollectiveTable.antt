@@ -4,26 +4,26 @@ use Rattle.text_lines.specs.Lines.{◌>>=◌}
 use Rattle.line_forms.specs.Forms.{none_at, Row, named_at, row_at}
 use Rattle.line_forms.specs.FormTests.{named_form}
 use Rattle.line_forms.proofs.TableLaws.{found_form, read_named, test_named}
-use Rattle.step_text.specs.CollectiveLines.{collective_forms, collective_named, collective_rows, form_row}
+use Rattle.step_text.specs.CollectiveLines.{collective_form_row, collective_forms, collective_named, collective_rows}
 use Rattle.step_text.specs.declared.steps.CollectiveText.{CollectiveText}
 
 -- the forms have the rows of the table
-rows_are : collective_rows ≡ map form_row collective_forms
+rows_are : collective_rows ≡ map collective_form_row collective_forms
 unfolding collective_rows collective_forms
 rows_are = refl
 
 -- reading a call is reading the words of the form of its name
 pub read_collectives : (name bytes : List ℕ) → named_at none_at collective_rows name bytes
-    ≡ (collective_named name >>= λ form. row_at none_at (form_row form) bytes)
+    ≡ (collective_named name >>= λ form. row_at none_at (collective_form_row form) bytes)
 unfolding collective_named
 read_collectives name bytes =
     ap (λ (rows : List (Row ⊥ CollectiveText)). named_at none_at rows name bytes) rows_are
-    ∙ read_named none_at form_row collective_forms name bytes
+    ∙ read_named none_at collective_form_row collective_forms name bytes
 
 -- and a line has the form of one by the words of that form
 pub test_collectives : (name bytes : List ℕ) → named_form (λ bytes. false) collective_rows name bytes
-    ≡ found_form (λ bytes. false) form_row (collective_named name) bytes
+    ≡ found_form (λ bytes. false) collective_form_row (collective_named name) bytes
 unfolding collective_named
 test_collectives name bytes =
     ap (λ (rows : List (Row ⊥ CollectiveText)). named_form (λ bytes. false) rows name bytes) rows_are
-    ∙ test_named (λ bytes. false) form_row collective_forms name bytes
+    ∙ test_named (λ bytes. false) collective_form_row collective_forms name bytes

@@ -37,10 +37,10 @@ unfoldable pub collective_rows : List (Row ⊥ CollectiveText)
 collective_rows = start_row ∷ step_row ∷ try_row ∷ []
 
 -- the row of a form of the code's table
-abbrev pub form_row : CollectiveForm → Row ⊥ CollectiveText
-form_row forms.Start = start_row
-form_row forms.Step = step_row
-form_row forms.Try = try_row
+abbrev pub collective_form_row : CollectiveForm → Row ⊥ CollectiveText
+collective_form_row forms.Start = start_row
+collective_form_row forms.Step = step_row
+collective_form_row forms.Try = try_row
 
 -- the forms, in the order of the rows
 unfoldable pub collective_forms : List CollectiveForm
@@ -48,7 +48,7 @@ collective_forms = forms.Start ∷ forms.Step ∷ forms.Try ∷ []
 
 -- the form of this name
 unfoldable pub collective_named : Word → Option CollectiveForm
-collective_named name = first_named (λ form. (form_row form).name) collective_forms name
+collective_named name = first_named (λ form. (collective_form_row form).name) collective_forms name
 
 -- the words of such a line
 abbrev pub words : (row : Row ⊥ CollectiveText) → Values ⊥ row.shape → Entry ⊥ CollectiveText

@@ -3,7 +3,7 @@
 ghost use Rattle.std.specs.Prelude.{◌≡◌, false};
 ghost use Rattle.line_forms.specs.FormTests.{shape_form};
 ghost use Rattle.line_forms.specs.Tables.{IsRow};
-ghost use Rattle.step_text.specs.CollectiveLines.{form_row, collective_named};
+ghost use Rattle.step_text.specs.CollectiveLines.{collective_form_row, collective_named};
 
 use line_forms::WordCount::Exactly;
 use line_forms::{LineForm, WordCount, first_named};
@@ -30,7 +30,7 @@ const COLLECTIVE_FORMS: [CollectiveForm; 3] = [
 impl CollectiveForm {
     /// Its name, and how many words may follow it.
     fn row(self) -> (&'static [u8], WordCount)
-        ensures { IsRow (form_row self) result.0.now result.1 }
+        ensures { IsRow (collective_form_row self) result.0.now result.1 }
     {
         match self {
             CollectiveForm::Start => (b"coll-start", Exactly(4)),
@@ -49,16 +49,16 @@ impl CollectiveForm {
 
     /// Whether the bytes after the name have as many words as the form.
     pub fn fits(self, rest: &[u8]) -> bool
-        ensures { result ≡ shape_form (λ bytes. false) 0 (form_row self).shape rest.now }
+        ensures { result ≡ shape_form (λ bytes. false) 0 (collective_form_row self).shape rest.now }
     {
         self.row().1.fits(words_left(rest))
     }
 }
 
 impl LineForm for CollectiveForm {
-    ghost use Rattle.step_text.specs.CollectiveLines.{form_row};
+    ghost use Rattle.step_text.specs.CollectiveLines.{collective_form_row};
 
-    ghost name_of = { λ form. (form_row form).name };
+    ghost name_of = { λ form. (collective_form_row form).name };
 
     fn name(self) -> &'static [u8] {
         self.row().0

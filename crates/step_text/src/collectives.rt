@@ -2,7 +2,7 @@
 
 ghost use Rattle.std.specs.Prelude.{◌≡◌, false};
 ghost use Rattle.step_text.specs.CollectiveLines.{collective_at, collective_form, collective_rows};
-ghost use Rattle.step_text.specs.CollectiveLines.{form_row, start_row, try_row};
+ghost use Rattle.step_text.specs.CollectiveLines.{collective_form_row, start_row, try_row};
 ghost use Rattle.line_forms.specs.Forms.{named_at, none_at, row_at};
 ghost use Rattle.text_lines.specs.Found.{Finds};
 ghost use Rattle.line_forms.specs.FormTests.{named_form};
@@ -49,7 +49,7 @@ fn try_at(bytes: &[u8]) -> Result<(CollectiveText, &[u8]), Other>
 
 /// The call that the words behind the name of a form say, and the bytes after them.
 fn words_at(form: CollectiveForm, rest: &[u8]) -> Result<(CollectiveText, &[u8]), Other>
-    ensures { Finds (λ x. (x.0, x.1.now)) result (row_at none_at (form_row form) rest.now) }
+    ensures { Finds (λ x. (x.0, x.1.now)) result (row_at none_at (collective_form_row form) rest.now) }
 {
     match form {
         CollectiveForm::Start => start_at(rest),

@@ -69,11 +69,11 @@ unfoldable pub vis_rows : List (Row ⊥ VisWords)
 vis_rows = put_strided_row ∷ get_strided_row ∷ put_indexed_row ∷ get_indexed_row ∷ []
 
 -- the row of a form of the code's table
-abbrev pub form_row : VisForm → Row ⊥ VisWords
-form_row forms.PutStrided = put_strided_row
-form_row forms.GetStrided = get_strided_row
-form_row forms.PutIndexed = put_indexed_row
-form_row forms.GetIndexed = get_indexed_row
+abbrev pub vis_form_row : VisForm → Row ⊥ VisWords
+vis_form_row forms.PutStrided = put_strided_row
+vis_form_row forms.GetStrided = get_strided_row
+vis_form_row forms.PutIndexed = put_indexed_row
+vis_form_row forms.GetIndexed = get_indexed_row
 
 -- the forms, in the order of the rows
 unfoldable pub vis_forms : List VisForm
@@ -81,7 +81,7 @@ vis_forms = forms.PutStrided ∷ forms.GetStrided ∷ forms.PutIndexed ∷ forms
 
 -- the form of this name
 unfoldable pub vis_named : Word → Option VisForm
-vis_named name = first_named (λ form. (form_row form).name) vis_forms name
+vis_named name = first_named (λ form. (vis_form_row form).name) vis_forms name
 
 -- the words of such a line
 abbrev pub entry : (row : Row ⊥ VisWords) → Values ⊥ row.shape → Entry ⊥ VisWords

@@ -3,7 +3,7 @@
 ghost use Rattle.std.specs.Prelude.{◌≡◌, false};
 ghost use Rattle.line_forms.specs.Forms.{Number, part_at};
 ghost use Rattle.line_forms.specs.FormTests.{are_split, shape_form};
-ghost use Rattle.vis_text.specs.VisLines.{form_row, vis_named};
+ghost use Rattle.vis_text.specs.VisLines.{vis_form_row, vis_named};
 
 use crate::vis_lines::count_at;
 use line_forms::{LineForm, are_bundles, first_named};
@@ -51,7 +51,7 @@ impl VisForm {
 
     /// Whether the bytes after the name have as many words as the form.
     pub fn fits(self, rest: &[u8]) -> bool
-        ensures { result ≡ shape_form (λ bytes. false) 0 (form_row self).shape rest.now }
+        ensures { result ≡ shape_form (λ bytes. false) 0 (vis_form_row self).shape rest.now }
     {
         let count = words_left(rest);
         match self {
@@ -64,9 +64,9 @@ impl VisForm {
 }
 
 impl LineForm for VisForm {
-    ghost use Rattle.vis_text.specs.VisLines.{form_row};
+    ghost use Rattle.vis_text.specs.VisLines.{vis_form_row};
 
-    ghost name_of = { λ form. (form_row form).name };
+    ghost name_of = { λ form. (vis_form_row form).name };
 
     fn name(self) -> &'static [u8] {
         match self {

@@ -7,7 +7,7 @@ ghost use Rattle.line_forms.specs.Forms.{none_at};
 ghost use Rattle.line_forms.specs.Forms.{part_at, row_at, split_at};
 ghost use Rattle.text_lines.specs.Found.{Finds, Reads};
 ghost use Rattle.line_forms.specs.FormTests.{named_form};
-ghost use Rattle.vis_text.specs.VisLines.{form_row, indexed_row, plan_in, shape_fault, strided_row};
+ghost use Rattle.vis_text.specs.VisLines.{indexed_row, plan_in, shape_fault, strided_row, vis_form_row};
 ghost use Rattle.vis_text.specs.VisLines.{vis_at, vis_form, vis_plan, vis_rows};
 
 use crate::vis::{BoxedVis, Levels, SegmentRanges, VisShape, VisText, VisWords};
@@ -151,7 +151,7 @@ fn indexed_at(alloc: Global, way: Way, bytes: &[u8]) -> Result<(VisWords, &[u8])
 
 /// What the words behind the name of a form say, and the bytes after them.
 fn words_at(alloc: Global, form: VisForm, rest: &[u8]) -> Result<(VisWords, &[u8]), Miss>
-    ensures { Reads (λ x. (x.0, x.1.now)) result (row_at none_at (form_row form) rest.now) }
+    ensures { Reads (λ x. (x.0, x.1.now)) result (row_at none_at (vis_form_row form) rest.now) }
 {
     match form {
         VisForm::PutStrided => strided_at(alloc, Way::Put, rest),
