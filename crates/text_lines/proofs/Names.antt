@@ -1,11 +1,13 @@
 -- The first word, compared with a name byte by byte.
 use Rattle.std.proofs.Common.{◌≡◌, ℕ, zero, suc, ◌+◌, ◌<◌, ◌≤◌, List, [], ◌∷◌, ◌++◌, length, take, drop, get_or, Bool}
-use Rattle.std.proofs.Common.{not, true, false, cond, refl, sym, ap, ◌∙◌, arith, length-append}
+use Rattle.std.proofs.Common.{nat_eq, ◌≢◌, ◌⊎◌, inl, inr, not, true, false, cond, refl, sym, ap, ◌∙◌, arith}
+use Rattle.std.proofs.Common.{length-append}
+use Rattle.std.proofs.lemmas.Bool.Decides.{eqb_tells}
 use Rattle.std.specs.Str.{bytes_eq}
 use Rattle.std.proofs.lemmas.Slice.Eq.{bytes_eq-Decides}
 use Rattle.std.proofs.Math.Seq.{drop-append_seam}
 use Rattle.text_lines.specs.Lines.{is_stop, front, back}
-use Rattle.text_lines.specs.Words.{GoesWith}
+use Rattle.text_lines.specs.Words.{GoesWith, IsSame}
 use Rattle.text_lines.proofs.Fronts.{Runs, StopsAt, parted, front_len}
 use Rattle.text_lines.proofs.Decimals.{upto}
 use Rattle.text_lines.proofs.Seams.{whole}
@@ -16,6 +18,12 @@ pub record AreAlike (bytes name : List ℕ) (count : ℕ) : Type 0 where
   pub few : count ≤ length name
   pub same : take count bytes ≡ take count name
   pub runs : Runs bytes count
+
+-- two words have the same bytes up to a place
+pub record AreSame (word name : List ℕ) (count : ℕ) : Type 0 where
+  pub within : count ≤ length word
+  pub few : count ≤ length name
+  pub same : take count word ≡ take count name
 
 -- a place of the front is one of the bytes, where no word ends
 front_by : (stop : Bool) (byte : ℕ) (bytes : List ℕ) (place : ℕ) → is_stop byte ≡ stop
@@ -50,6 +58,39 @@ take_all [] zero long = refl
 take_all [] (suc count) long = refl
 take_all (byte ∷ bytes) zero long = absurd (omega arith)
 take_all (byte ∷ bytes) (suc count) long = ap (λ (more : List ℕ). byte ∷ more) (take_all bytes count (omega arith))
+
+-- two words of one length that are the same to their end, or not
+pub same_to_end : (word name : List ℕ) (count : ℕ) → AreSame word name count → length word ≡ length name
+    → length name ≤ count → bytes_eq word name ≡ true
+same_to_end word name count alike equal long = (bytes_eq-Decides word name).1
+    (sym (take_all word count (omega (arith, equal, long))) ∙ alike.same ∙ take_all name count long)
+
+pub other_before : (word name : List ℕ) (count : ℕ) → length word ≡ length name → count < length name
+    → (IsSame word name count → ⊥) → bytes_eq word name ≡ false
+other_before word name count equal few other = unequal word name (λ same. other (record {
+  within = omega (arith, equal, few);
+  more = few;
+  same = ap (λ (bytes : List ℕ). get_or bytes count 0) same;
+}))
+
+pub other_length : (word name : List ℕ) → (length word ≡ length name → ⊥) → bytes_eq word name ≡ false
+other_length word name other = unequal word name (λ same. other (ap length same))
+
+-- whether it is the word, by the place to which it is the same
+same_by : (word name : List ℕ) (count : ℕ) → AreSame word name count → length word ≡ length name
+    → (IsSame word name count → ⊥)
+    → ((nat_eq count (length name) ≡ true) × (count ≡ length name))
+    ⊎ ((nat_eq count (length name) ≡ false) × (count ≢ length name))
+    → nat_eq count (length name) ≡ bytes_eq word name
+same_by word name count alike equal other (inl tells) =
+    tells.0 ∙ sym (same_to_end word name count alike equal (omega (arith, tells.1)))
+same_by word name count alike equal other (inr tells) =
+    tells.0 ∙ sym (other_before word name count equal (omega (arith, alike.few, tells.1)) other)
+
+pub is_same_name : (word name : List ℕ) (count : ℕ) → AreSame word name count → length word ≡ length name
+    → (IsSame word name count → ⊥) → nat_eq count (length name) ≡ bytes_eq word name
+is_same_name word name count alike equal other =
+    same_by word name count alike equal other (eqb_tells count (length name))
 
 -- the whole name, and the word ends
 pub name_found : (bytes name : List ℕ) (count : ℕ) → AreAlike bytes name count → length name ≤ count

@@ -48,6 +48,12 @@ IsPadded bytes end = (slice_index bytes 0 ≡ 48) × (1 < end)
 abbrev pub GoesOn : List ℕ → ℕ → Type 0
 GoesOn bytes i = (i < length bytes) × (is_stop (slice_index bytes i) ≡ false)
 
+-- two words have the same byte at a place
+pub record IsSame (word name : List ℕ) (place : ℕ) : Type 0 where
+  pub within : place < length word
+  pub more : place < length name
+  pub same : slice_index word place ≡ slice_index name place
+
 -- the word goes on at a place with the byte that a name has there
 pub record GoesWith (bytes name : List ℕ) (place : ℕ) : Type 0 where
   pub within : place < length bytes

@@ -4,16 +4,32 @@ ghost use Rattle.std.specs.Prelude.{◌≡◌, IsTrue, ◌↔◌, is_some, IfSom
 ghost use Rattle.std.specs.Str.{bytes_eq};
 ghost use Rattle.text_lines.specs.Lines.{is_stop, front, back, spaced, ended};
 ghost use Rattle.text_lines.specs.Lines.{has_space, has_more};
-ghost use Rattle.text_lines.specs.Words.{GoesOn, GoesWith};
+ghost use Rattle.text_lines.specs.Words.{GoesOn, GoesWith, IsSame};
 ghost use Rattle.text_lines.specs.Found.{Finds};
 
 use crate::miss::Other;
 
-/// Whether a word is this one.
+/// Whether two words have the same byte at a place.
+#[inline(always)]
+fn is_same(word: &[u8], name: &[u8], i: usize) -> bool
+    ensures { IsTrue result ↔ IsSame word.now name.now i }
+{
+    i < word.len() && i < name.len() && word[i] == name[i]
+}
+
+/// Whether a word is this one. Most words that are asked for differ in their length or in their first byte.
+#[inline(always)]
 pub fn is_name(word: &[u8], name: &[u8]) -> bool
     ensures { result ≡ bytes_eq word.now name.now }
 {
-    word == name
+    if word.len() != name.len() {
+        return false;
+    }
+    let mut end = 0;
+    while is_same(word, name, end) {
+        end += 1;
+    }
+    end == name.len()
 }
 
 /// Whether a word ends at the byte.
