@@ -5,12 +5,12 @@ use Rattle.std.specs.List.{AllByRecursion, flat_map}
 use Rattle.std.proofs.lemmas.Bool.{and_parts, and_from, leb-true, le-leb, lt-leb, lt-ltb, le-ltb, ltb-true, ltb-false}
 use Rattle.std.proofs.lemmas.Bool.{eqb-true}
 use Rattle.text_lines.specs.Lines.{Word, is_stop}
-use Rattle.text_lines.specs.HexBytes.{digit_value, hex_digit, hex_byte, byte_of, pairs_of, most_bytes}
-use Rattle.text_lines.specs.HexBytes.{bytes_word}
+use Rattle.text_lines.specs.HexBytes.{digit_value, hex_digit, hex_byte, byte_of, pairs_of, bytes_word}
 use Rattle.text_lines.specs.HexBytes.{bytes_of, AreBytes}
 use Rattle.text_lines.proofs.Fronts.{cond_yes, cond_no}
 use Rattle.text_lines.proofs.Takes.{Takes, takes_some, takes_none, takes_then, takes_if}
 use Rattle.text_lines.proofs.WordRuns.{IsRun, high_run}
+use Rattle.text_lines.specs.declared.byte_words.TheConstants.{MAX_WORD_BYTES}
 
 -- ---- digits
 
@@ -108,10 +108,10 @@ bytes_take [] = takes_none
 bytes_take (character ∷ digits) =
     takes_if {b = eqb character 120}
     (λ begins. takes_then (ArePairsOf digits) (pairs_take digits) (λ bytes pairs.
-    takes_if {b = leb (length bytes) most_bytes} {r = Some bytes} {s = None}
+    takes_if {b = leb (length bytes) MAX_WORD_BYTES} {r = Some bytes} {s = None}
     (λ few. takes_some (
       ap (λ (first : ℕ). first ∷ digits) (eqb-true character 120 begins) ∙ ap (λ (word : Word). 120 ∷ word) pairs.0,
-      (leb-true (length bytes) most_bytes few, pairs.1),
+      (leb-true (length bytes) MAX_WORD_BYTES few, pairs.1),
     ))
     (λ few. takes_none)))
     (λ begins. takes_none)
@@ -119,7 +119,7 @@ bytes_take (character ∷ digits) =
 -- bytes are read again
 pub bytes_again : (bytes : List ℕ) → AreBytes bytes → bytes_of (bytes_word bytes) ≡ Some bytes
 unfolding bytes_of
-bytes_again bytes are = rw (pairs_again bytes are.1) (cond_yes _ _ _ (le-leb (length bytes) most_bytes are.0))
+bytes_again bytes are = rw (pairs_again bytes are.1) (cond_yes _ _ _ (le-leb (length bytes) MAX_WORD_BYTES are.0))
 
 -- a digit ends no word
 digit_run : (small : Bool) (value : ℕ) → is_stop (cond small (48 + value) (87 + value)) ≡ false

@@ -3,6 +3,7 @@ use Rattle.std.specs.Prelude.{◌<◌, ◌≤◌, ◌+◌, ◌*◌, ◌-◌, ◌
 use Rattle.std.specs.Prelude.{◌&&◌, nat_lt, nat_le, ◌==◌, if◌then◌else◌}
 use Rattle.std.specs.List.{AllByRecursion, flat_map}
 use Rattle.text_lines.specs.Lines.{Word, ◌>>=◌}
+use Rattle.text_lines.specs.declared.byte_words.TheConstants.{MAX_WORD_BYTES}
 
 -- the value of a hexadecimal digit, `0` to `9` and `a` to `f`
 abbrev pub digit_value : (character : ℕ) → Option ℕ
@@ -29,17 +30,13 @@ pairs_of (high ∷ []) = None
 pairs_of (high ∷ low ∷ digits) =
     byte_of high low >>= λ byte. pairs_of digits >>= λ bytes. Some (byte ∷ bytes)
 
--- the most bytes of a word
-abbrev pub most_bytes : ℕ
-most_bytes = 8193
-
 -- the word of bytes: `x`, and two digits for each
 abbrev pub bytes_word : (bytes : List ℕ) → Word
 bytes_word bytes = 120 ∷ flat_map hex_byte bytes
 
 -- the bytes, where they aren't too many
 abbrev pub few_bytes : (bytes : List ℕ) → Option (List ℕ)
-few_bytes bytes = if nat_le (length bytes) most_bytes then Some bytes else None
+few_bytes bytes = if nat_le (length bytes) MAX_WORD_BYTES then Some bytes else None
 
 -- the bytes that a word is
 unfoldable pub bytes_of : Word → Option (List ℕ)
@@ -48,4 +45,4 @@ bytes_of (character ∷ digits) = if character == 120 then (pairs_of digits >>= 
 
 -- bytes that a word can be
 abbrev pub AreBytes : (bytes : List ℕ) → Type 0
-AreBytes bytes = (length bytes ≤ most_bytes) × AllByRecursion (λ byte. byte < 256) bytes
+AreBytes bytes = (length bytes ≤ MAX_WORD_BYTES) × AllByRecursion (λ byte. byte < 256) bytes

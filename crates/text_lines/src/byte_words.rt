@@ -4,7 +4,10 @@ ghost use Rattle.std.specs.Prelude.{◌≡◌};
 
 use std::marker::Model;
 
-/// Bytes of a line, at most 8,193, in an allocation of their own.
+/// The most bytes of a word: one more than a payload has, so that a job can have a payload that is too long.
+pub const MAX_WORD_BYTES: usize = 8_193;
+
+/// Bytes of a line, at most `MAX_WORD_BYTES`, in an allocation of their own.
 #[derive(Drop)]
 pub struct Bytes {
     pub(crate) inside: Box<Vec<u8>>,
@@ -20,7 +23,7 @@ impl Model for Bytes {
 }
 
 impl Bytes {
-    /// The bytes, at most 8,193 where the job was read.
+    /// The bytes, at most `MAX_WORD_BYTES` where the job was read.
     pub fn items(&self) -> &[u8]
         ensures { result.now ≡ self.now }
     {

@@ -4,12 +4,9 @@ ghost use Rattle.std.specs.Prelude.{◌≡◌};
 ghost use Rattle.text_lines.specs.HexBytes.{digit_value, byte_of, pairs_of, bytes_of};
 ghost use Rattle.text_lines.specs.Found.{Reads};
 
-use crate::byte_words::Bytes;
+use crate::byte_words::{Bytes, MAX_WORD_BYTES};
 use crate::miss::Miss;
 use std::alloc::Global;
-
-/// The most bytes of a word.
-const MOST: usize = 8_193;
 
 /// The value of a hexadecimal digit.
 fn digit_value(digit: u8) -> Option<u8>
@@ -67,7 +64,7 @@ pub fn bytes_of(alloc: Global, word: &[u8]) -> Result<Bytes, Miss>
     }
     let (_, digits) = word.split_at(1);
     let items = pairs_of(alloc, digits)?;
-    if items.len() > MOST {
+    if items.len() > MAX_WORD_BYTES {
         return Err(Miss::Unlike);
     }
     let inside = Box::new(alloc, items)?;
