@@ -3,6 +3,7 @@ use Rattle.std.proofs.Common.{◌≡◌, ℕ, zero, suc, Bool, true, false, true
 use Rattle.std.proofs.Common.{Option, None, Some, refl, sym, ap, ◌∙◌, subst}
 use Rattle.std.specs.Prelude.{◌==◌, is_none, is_some, Result, Ok, Err}
 use Rattle.std.specs.Option.{option_map}
+use Rattle.std.proofs.lemmas.Option.{none-some}
 use Rattle.am_core.specs.Kept.{Local}
 use Rattle.collective_area.specs.declared.shape.Shape.{Shape}
 use Rattle.handler_rules.specs.declared.rules.CallKind.TheVariants as kinds
@@ -223,7 +224,7 @@ poll_leaves at node it e =
         → try_ends (end_told it (segment_in (site_of at) node) (outcome says).0) ≡ None
         → with_local node (with_core node.local (outcome says).1) ≡ node
     by_judged (Ok allowed) h = refl
-    by_judged (Err why) h = absurd (cc)
+    by_judged (Err why) h = absurd (none-some (ends.Forbidden why) (sym h))
 
 end_calm : (at : TryContext) (node : Node EndpointLocal) (it : CollectivesState) (dest : ℕ)
     → let try = end_outcome (site_of at) node it (end_asked at dest) in
@@ -235,14 +236,14 @@ end_calm at node it dest = by_refusal (end_refusal it.area it.settings.segment i
 
     unready : (answer : EndAnswer) → try_ends answer ≡ None
         → calls_behind it segment (end_asked at dest) answer ≡ []
-    unready ends.Ended e = absurd (cc)
-    unready (ends.Mismatch other) e = absurd (cc)
+    unready ends.Ended e = absurd (none-some ends.Ended (sym e))
+    unready (ends.Mismatch other) e = absurd (none-some (ends.Mismatch other) (sym e))
     unready ends.NotReady e = refl
-    unready ends.NotStarted e = absurd (cc)
-    unready (ends.BadArg argument) e = absurd (cc)
-    unready (ends.Exhausted other) e = absurd (cc)
-    unready (ends.Forbidden why) e = absurd (cc)
-    unready ends.NoMemory e = absurd (cc)
+    unready ends.NotStarted e = absurd (none-some ends.NotStarted (sym e))
+    unready (ends.BadArg argument) e = absurd (none-some (ends.BadArg argument) (sym e))
+    unready (ends.Exhausted other) e = absurd (none-some (ends.Exhausted other) (sym e))
+    unready (ends.Forbidden why) e = absurd (none-some (ends.Forbidden why) (sym e))
+    unready ends.NoMemory e = absurd (none-some ends.NoMemory (sym e))
 
     by_refusal : (refusal : Option EndAnswer)
         → let try = end_by (site_of at) node it (end_asked at dest) refusal in
@@ -279,7 +280,7 @@ first_calm at shape from node it =
         → asked_then at node ask.to ask.what a ≡ node
     by_answer (asked.Accepted peer slot number) e still = absurd (true≢false still)
     by_answer asked.Ran e still = absurd (true≢false still)
-    by_answer (asked.Forbidden why) e still = absurd (cc)
+    by_answer (asked.Forbidden why) e still = absurd (none-some _ (sym e))
     by_answer (asked.BadArg fault) e still = absurd (true≢false still)
     by_answer (asked.LockBusy lock) e still = refl
     by_answer asked.Exhausted e still = absurd (true≢false still)
@@ -303,7 +304,7 @@ run_both at node (call ∷ first) second =
 
 none_mapped : (end : Option EndAnswer) → option_map (λ one. said.End one) end ≡ None → end ≡ None
 none_mapped None e = refl
-none_mapped (Some end) e = absurd (cc)
+none_mapped (Some end) e = absurd (none-some (said.End end) (sym e))
 
 quiet_is : (unready quiet : Bool) (next : CollectivesState)
     → is_some (cond {A = Option CollectivesState} (unready && quiet) None (Some next)) ≡ false → quiet ≡ true
@@ -324,7 +325,7 @@ later_calm at dest node it here = by_end (step_ends step.answer)
     step = step_outcome (site_of at) at.thread node it
 
     by_end : (end : Option StepAnswer) → IsCalm at node (later_by at dest node it step end)
-    by_end (Some end) e still = absurd (cc)
+    by_end (Some end) e still = absurd (none-some (said.Step end) (sym e))
     by_end None e still =
         let try = end_behind at dest node step in
         let behind = node_in_the_end (site_of at) node step.calls in

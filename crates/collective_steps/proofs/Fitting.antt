@@ -1,9 +1,10 @@
 -- What the calls of steps that run collectives say and write fits its places, and so does how far the node is then.
 use Rattle.std.proofs.Common.{◌≡◌, ℕ, zero, suc, ◌+◌, ◌*◌, ◌-◌, ◌%◌, ◌<◌, ◌≤◌, ◌^◌, Bool, true, false}
-use Rattle.std.proofs.Common.{List, [], ◌∷◌, map, length, Option, None, Some, refl, arith, cond}
+use Rattle.std.proofs.Common.{List, [], ◌∷◌, map, length, Option, None, Some, refl, sym, arith, cond}
 use Rattle.std.specs.Prelude.{◌==◌, ◌/◌, max, min, nat_le, nat_lt}
 use Rattle.std.specs.List.{AllByRecursion}
 use Rattle.std.proofs.lemmas.Bool.{leb-false, ltb-false, ltb-true, or_parts}
+use Rattle.std.proofs.lemmas.Option.{none-some}
 use Rattle.std.specs.Int.{w64, to_le_bytes}
 use Rattle.collective_area.specs.Area.{Area, data_place}
 use Rattle.collective_area.specs.Results.{at_root, contribution_of, pieces_by, sum_of, together_at, together_from}
@@ -223,11 +224,11 @@ unrefused : (busy root length_ source exhausted : Bool)
     (cond length_ (Some (starts.BadArg arguments.Length))
     (cond source (Some (starts.BadArg arguments.Source)) (cond exhausted (Some starts.Exhausted) None)))) ≡ None
     → (root ≡ false) × (length_ ≡ false) × (exhausted ≡ false)
-unrefused true root length_ source exhausted same = absurd (cc)
-unrefused false true length_ source exhausted same = absurd (cc)
-unrefused false false true source exhausted same = absurd (cc)
-unrefused false false false true exhausted same = absurd (cc)
-unrefused false false false false true same = absurd (cc)
+unrefused true root length_ source exhausted same = absurd (none-some _ (sym same))
+unrefused false true length_ source exhausted same = absurd (none-some _ (sym same))
+unrefused false false true source exhausted same = absurd (none-some _ (sym same))
+unrefused false false false true exhausted same = absurd (none-some _ (sym same))
+unrefused false false false false true same = absurd (none-some _ (sym same))
 unrefused false false false false false same = (refl, refl, refl)
 
 passes : (it : CollectivesState) (shape : Shape) (from : ℕ)

@@ -2,7 +2,7 @@
 use Rattle.std.proofs.Common.{◌≡◌, ℕ, ◌+◌, ◌<◌, Bool, true, false, true≢false, ◌&&◌, not, List, [], ◌∷◌, ◌++◌, map, Option, None}
 use Rattle.std.proofs.Common.{Some, refl, sym, ap, ap₂, ◌∙◌, subst, arith, append_assoc, cond}
 use Rattle.std.specs.Prelude.{is_none, is_some, slice_get}
-use Rattle.std.proofs.lemmas.Option.{same_Some}
+use Rattle.std.proofs.lemmas.Option.{none-some, same_Some}
 use Rattle.std.specs.Option.{option_map, option_or, option_to_list}
 use Rattle.std.proofs.lemmas.List.{append-nil, map-append}
 use Rattle.collective_area.specs.Area.{Area}
@@ -315,15 +315,15 @@ unready_says exhausted = elim exhausted [ Some node ↦ ends.Exhausted node | No
 
 told_unready : (it : CollectivesState) (segment : List ℕ) (poll : Answer)
     → try_ends (end_told it segment poll) ≡ None → exhausted_node it.area it.me (progress_of it) ≡ None
-told_unready it segment (answers.Forbidden why) e = absurd (cc)
+told_unready it segment (answers.Forbidden why) e = absurd (none-some (ends.Forbidden why) (sym e))
 told_unready it segment _ e = by_ready (is_ready it.area it.me (progress_of it) segment) e
   where
     by_other : (other : Option ℕ) → try_ends (ready_says other) ≡ None → ⊥
-    by_other (Some node) h = cc
-    by_other None h = cc
+    by_other (Some node) h = none-some (ends.Mismatch node) (sym h)
+    by_other None h = none-some ends.Ended (sym h)
 
     by_exhausted : (exhausted : Option ℕ) → try_ends (unready_says exhausted) ≡ None → exhausted ≡ None
-    by_exhausted (Some node) h = absurd (cc)
+    by_exhausted (Some node) h = absurd (none-some (ends.Exhausted node) (sym h))
     by_exhausted None h = refl
 
     by_ready : (ready : Bool)
@@ -335,13 +335,13 @@ told_unready it segment _ e = by_ready (is_ready it.area it.me (progress_of it) 
 
 kept_unready : (it : CollectivesState) (answer : EndAnswer) → try_ends answer ≡ None → ended_then answer it ≡ it
 kept_unready it ends.NotReady e = refl
-kept_unready it ends.Ended e = absurd (cc)
-kept_unready it (ends.Mismatch other) e = absurd (cc)
-kept_unready it ends.NotStarted e = absurd (cc)
-kept_unready it (ends.BadArg argument) e = absurd (cc)
-kept_unready it (ends.Exhausted other) e = absurd (cc)
-kept_unready it (ends.Forbidden why) e = absurd (cc)
-kept_unready it ends.NoMemory e = absurd (cc)
+kept_unready it ends.Ended e = absurd (none-some ends.Ended (sym e))
+kept_unready it (ends.Mismatch other) e = absurd (none-some (ends.Mismatch other) (sym e))
+kept_unready it ends.NotStarted e = absurd (none-some ends.NotStarted (sym e))
+kept_unready it (ends.BadArg argument) e = absurd (none-some (ends.BadArg argument) (sym e))
+kept_unready it (ends.Exhausted other) e = absurd (none-some (ends.Exhausted other) (sym e))
+kept_unready it (ends.Forbidden why) e = absurd (none-some (ends.Forbidden why) (sym e))
+kept_unready it ends.NoMemory e = absurd (none-some ends.NoMemory (sym e))
 
 refused_ends : (it : CollectivesState) (dest : ℕ) (refusal : EndAnswer)
     → end_refusal it.area it.settings.segment it.me (progress_of it) dest ≡ Some refusal
@@ -349,15 +349,16 @@ refused_ends : (it : CollectivesState) (dest : ℕ) (refusal : EndAnswer)
 refused_ends it dest refusal is e =
     by_open (is_open (progress_of it)) (is_bad_dest it.area it.settings.segment it.me it.shape dest) is
   where
+    says : (first : EndAnswer) → Some first ≡ Some refusal → (None ≡ try_ends first → ⊥) → ⊥
+    says first same never = never (sym (ap try_ends (same_Some first refusal same) ∙ e))
+
     by_open : (open_ bad : Bool)
         → cond {A = Option EndAnswer} (not open_) (Some ends.NotStarted)
         (cond bad (Some (ends.BadArg arguments.Destination)) None) ≡ Some refusal → ⊥
-    by_open false bad h = ended_by_it ends.NotStarted h
-      where
-        ended_by_it : (first : EndAnswer) → Some first ≡ Some refusal → ⊥
-        ended_by_it first g = cc
-    by_open true true h = cc
-    by_open true false h = cc
+    by_open false bad h = says ends.NotStarted h (none-some ends.NotStarted)
+    by_open true true h =
+        says (ends.BadArg arguments.Destination) h (none-some (ends.BadArg arguments.Destination))
+    by_open true false h = none-some refusal h
 
 end_unready : (site : Site) (node : Node EndpointLocal) (it : CollectivesState) (asked : EndAsked)
     → let outcome = end_outcome site node it asked in
@@ -486,7 +487,7 @@ refusal_starts false true length_ source exhausted first same = same_first (star
 refusal_starts false false true source exhausted first same = same_first (starts.BadArg arguments.Length) first same refl
 refusal_starts false false false true exhausted first same = same_first (starts.BadArg arguments.Source) first same refl
 refusal_starts false false false false true first same = same_first starts.Exhausted first same refl
-refusal_starts false false false false false first same = absurd (cc)
+refusal_starts false false false false false first same = absurd (none-some first same)
 
 pub first_there : (at : TryContext) (node : Node EndpointLocal) (it : CollectivesState) (shape : Shape) (from : ℕ)
     → let part = first_part at shape from node it in

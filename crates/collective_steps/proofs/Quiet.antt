@@ -4,6 +4,7 @@ use Rattle.std.proofs.Common.{Option, None, Some, refl, sym, ap, ap₂, ◌∙�
 use Rattle.std.proofs.Common.{get_or-set_other}
 use Rattle.std.specs.Prelude.{◌==◌, if◌then◌else◌, slice_set}
 use Rattle.std.proofs.lemmas.Bool.{cases_eq}
+use Rattle.std.proofs.lemmas.Option.{none-some}
 use Rattle.node_record.specs.Record.{Node}
 use Rattle.node_record.specs.declared.answer.Asked.{Asked}
 use Rattle.node_record.specs.declared.answer.Asked.TheVariants as asked
@@ -118,7 +119,7 @@ none_by : (test : ℕ → Bool) (node many other : ℕ)
     → (first_node test (suc node) many ≡ None → suc node ≤ other → other < suc node + many → test other ≡ false)
     → (found : Bool) → test node ≡ found → first_by test node many found ≡ None → node ≤ other
     → other < node + suc many → test other ≡ false
-none_by test node many other deeper true is none low high = absurd (cc)
+none_by test node many other deeper true is none low high = absurd (none-some node (sym none))
 none_by test node many other deeper false is none low high = elim (cases_eq other node) [
   | inl same ↦ ap test same ∙ is
   | inr apart ↦

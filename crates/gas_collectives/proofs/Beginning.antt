@@ -1,8 +1,8 @@
 -- A start: its call, and how it is answered.
 use Rattle.std.proofs.Common.{◌≡◌, ℤ, ℕ, ◌+◌, ◌-◌, ◌%◌, ◌^◌, ◌<◌, Bool, true, false, true≢false, cond, List}
 use Rattle.std.proofs.Common.{Option, Some, None, refl, sym, subst, arith}
-use Rattle.std.specs.Prelude.{◌==◌, ◌&&◌, nat_le, nat_lt, not}
-use Rattle.std.proofs.lemmas.Bool.{eqb-true, leb-false, ltb-false, or_parts}
+use Rattle.std.specs.Prelude.{◌==◌, ◌&&◌, ◌||◌, nat_le, nat_lt, not}
+use Rattle.std.proofs.lemmas.Bool.{eqb-true, le-leb, leb-false, lt-leb, ltb-false, or_parts}
 use Rattle.node_record.specs.Behaviour.{Own}
 use Rattle.am_core.specs.ClientRules.{long_asking}
 use Rattle.endpoint_rules.specs.Called.{Requests}
@@ -10,7 +10,7 @@ use Rattle.node_caller.specs.declared.caller.Caller.{Ghosts}
 use Rattle.node_caller.specs.Sites.{ThreadCall}
 use Rattle.collective_area.specs.Area.{data_place}
 use Rattle.collective_area.specs.Served.{collective_handler, header_arguments}
-use Rattle.collective_area.specs.Shapes.{is_reduction, shape_word}
+use Rattle.collective_area.specs.Shapes.{has_root, is_reduction, shape_word}
 use Rattle.collective_area.specs.declared.shape.Shape.{Shape}
 use Rattle.gas_collectives.specs.declared.answers.Argument.TheVariants as arguments
 use Rattle.gas_collectives.specs.declared.answers.StartAnswer.{StartAnswer}
@@ -29,14 +29,42 @@ pub start_call_is : (it : CollectivesState) (asked : StartAsked) (to offset : �
     }) (start_call it asked)
 start_call_is it asked to offset args to_is args_are offset_is = cc
 
--- ---- a start that isn't refused
+-- ---- the first refusal of a start
 
-unrefused : (busy root length_ source exhausted : Bool)
-    → cond {A = Option StartAnswer} busy (Some start_answers.Busy)
+-- by its tests
+abbrev refusal_by : (busy root length_ source exhausted : Bool) → Option StartAnswer
+refusal_by busy root length_ source exhausted =
+    cond busy (Some start_answers.Busy)
     (cond root (Some (start_answers.BadArg arguments.Root))
     (cond length_ (Some (start_answers.BadArg arguments.Length))
     (cond source (Some (start_answers.BadArg arguments.Source))
-    (cond exhausted (Some start_answers.Exhausted) None)))) ≡ None
+    (cond exhausted (Some start_answers.Exhausted) None))))
+
+-- the tests of the root and of the length
+abbrev pub bad_root : Shape → (nodes : ℕ) → Bool
+bad_root shape nodes = nat_le nodes shape.root || (not (has_root shape.kind) && not (shape.root == 0))
+
+abbrev pub bad_len : Shape → (room : ℕ) → Bool
+bad_len shape room = nat_lt room shape.len || (is_reduction shape.kind && not (shape.len % 8 == 0))
+
+pub refusal_is : (it : CollectivesState) (shape : Shape) (from : ℕ) (busy root length_ source exhausted : Bool)
+    → is_open (progress_of it) ≡ busy → bad_root shape it.area.nodes ≡ root → bad_len shape it.area.room ≡ length_
+    → nat_lt it.settings.segment (from + shape.len) ≡ source → nat_le (2 ^ 64 - 1) it.started ≡ exhausted
+    → refusal_by busy root length_ source exhausted
+    ≡ start_refusal it.area it.settings.segment (progress_of it) shape from
+refusal_is it shape from busy root length_ source exhausted busy_is root_is length_is source_is exhausted_is = cc
+
+pub all_started : (started : ℕ) → started ≡ 2 ^ 64 - 1 → nat_le (2 ^ 64 - 1) started ≡ true
+all_started started is = le-leb (2 ^ 64 - 1) started (omega (arith, is))
+
+pub not_all_started : (started : ℕ) → started < 2 ^ 64 → (started ≡ 2 ^ 64 - 1 → ⊥)
+    → nat_le (2 ^ 64 - 1) started ≡ false
+not_all_started started few isnt = lt-leb (2 ^ 64 - 1) started (omega (arith, few, isnt))
+
+-- ---- a start that isn't refused
+
+unrefused : (busy root length_ source exhausted : Bool)
+    → refusal_by busy root length_ source exhausted ≡ None
     → (busy ≡ false) × (root ≡ false) × (length_ ≡ false) × (source ≡ false) × (exhausted ≡ false)
 unrefused true root length_ source exhausted same = absurd (cc)
 unrefused false true length_ source exhausted same = absurd (cc)

@@ -1,6 +1,6 @@
 -- Nodes that are asked one after another.
 use Rattle.std.proofs.Common.{◌≡◌, ℤ, ℕ, suc, ◌+◌, ◌-◌, ◌%◌, ◌<◌, List, Bool, true, false, Option, Some, None, refl, sym, ap}
-use Rattle.std.proofs.Common.{◌∙◌, subst, arith}
+use Rattle.std.proofs.Common.{◌∙◌, length, subst, arith}
 use Rattle.std.proofs.lemmas.Bool.{lt-ltb}
 use Rattle.datagram_grammar.specs.Parameters.{Parameters}
 use Rattle.node_record.specs.Behaviour.{PayloadFrom}
@@ -193,3 +193,45 @@ going_same {K} caller thread first old to it now same_it same_now going it_is no
 pub none_then : (stop : Option StepAnswer) → ((end : StepAnswer) → stop ≡ Some end → ⊥) → stop ≡ None
 none_then None never = refl
 none_then (Some end) never = absurd (never end refl)
+
+-- ---- the marks of a node
+
+-- other marks of as many nodes
+pub stands_sent : (it : CollectivesState) (marks : List Bool) → length marks ≡ 256 → Stands it
+    → Stands (record it { sent = marks })
+stands_sent it marks long good = record {
+  there = good.there;
+  nodes = good.nodes;
+  few_nodes = good.few_nodes;
+  small = good.small;
+  area_good = good.area_good;
+  ended = good.ended;
+  started = good.started;
+  count = good.count;
+  shape_good = good.shape_good;
+  sent_long = long;
+  exhausted_long = good.exhausted_long;
+}
+
+pub stands_exhausted : (it : CollectivesState) (marks : List Bool) → length marks ≡ 256 → Stands it
+    → Stands (record it { exhausted = marks })
+stands_exhausted it marks long good = record {
+  there = good.there;
+  nodes = good.nodes;
+  few_nodes = good.few_nodes;
+  small = good.small;
+  area_good = good.area_good;
+  ended = good.ended;
+  started = good.started;
+  count = good.count;
+  shape_good = good.shape_good;
+  sent_long = good.sent_long;
+  exhausted_long = long;
+}
+
+-- a node has a mark
+pub mark_inside : (it : CollectivesState) (to place : ℕ) → Stands it → place ≡ to → to < it.area.nodes → place < 256
+mark_inside it to place good same low =
+    let nodes = good.nodes in
+    let few = good.few_nodes in
+    omega (arith, nodes, few, same, low)

@@ -5,6 +5,7 @@ ghost use Rattle.collective_area.specs.Area.{IsArea, part_place};
 ghost use Rattle.gas_collectives.specs.CollectivesState.{IsFresh, Stands, no_nodes, progress_of};
 ghost use Rattle.gas_collectives.specs.Progress.{is_open};
 
+use crate::starting::is_past;
 use collective_area::{CollectiveKind, Shape};
 use datagram_grammar::{MAX_PAYLOAD, Settings};
 use std::marker::Model;
@@ -87,7 +88,7 @@ impl Collectives {
             return None;
         }
         let size = 2 * u64::from(settings.nodes()) * (16 + room);
-        if size > settings.segment() || base > settings.segment() - size {
+        if is_past(base, size, settings.segment()) {
             return None;
         }
         Some(Collectives {

@@ -11,6 +11,7 @@ ghost use Rattle.gas_collectives.specs.Ends.{end_told, ended_then};
 use crate::answers::{Argument, EndAnswer};
 use crate::calling::call_one;
 use crate::collectives::Collectives;
+use crate::starting::is_past;
 use collective_area::CollectiveKind;
 use endpoint_rules::{Answer, Call};
 use node_caller::Caller;
@@ -104,7 +105,7 @@ impl Collectives {
             self.now.shape dest }
     {
         let len = self.result_len();
-        if len > self.settings.segment() || dest > self.settings.segment() - len {
+        if is_past(dest, len, self.settings.segment()) {
             return true;
         }
         let size = 2 * u64::from(self.settings.nodes()) * (16 + self.room);

@@ -6,7 +6,7 @@ ghost use Rattle.node_caller.specs.Sites.{IsThere};
 ghost use Rattle.gas_collectives.specs.Progress.{is_left};
 ghost use Rattle.gas_collectives.specs.CollectivesState.{IsSameNode, Stands, progress_of};
 ghost use Rattle.gas_collectives.specs.Starts.{CallsOne};
-ghost use Rattle.gas_collectives.specs.Steps.{Sends, Steps, noted, payload_for, step_call, step_told};
+ghost use Rattle.gas_collectives.specs.Steps.{Steps, noted, payload_for, step_call, step_told};
 
 use crate::answers::StepAnswer;
 use crate::calling::call_one;
@@ -40,7 +40,8 @@ impl Collectives {
         }
         for to in 0..self.nodes() {
             if self.is_left(to) {
-                if let Some(answer) = self.send(caller, thread, to) {
+                let told = self.ask(caller, thread, to);
+                if let Some(answer) = self.note(to, &told) {
                     return answer;
                 }
             }
@@ -54,18 +55,6 @@ impl Collectives {
         ensures { result ≡ is_left self.now.me to (progress_of self.now) }
     {
         to != self.me && !self.sent[usize::from(to)]
-    }
-
-    /// Asks a node, and notes what came of it. None where the step goes on to the next node.
-    fn send<K: Caller>(&mut self, caller: &mut K, thread: u16, to: u16) -> Option<StepAnswer>
-        requires there { IsThere (K.site caller.old) }
-        requires thread { thread < (K.site caller.old).settings.threads }
-        requires opened { self.old.ended < self.old.started }
-        requires to { to < self.old.area.nodes }
-        ensures { Sends K.Caller thread to self.old caller.old result self.new caller.new }
-    {
-        let answer = self.ask(caller, thread, to);
-        self.note(to, &answer)
     }
 
     /// Notes what came of asking a node. None where the step goes on to the next one.

@@ -1,7 +1,8 @@
 //! The start of a collective.
 
-ghost use Rattle.std.specs.Prelude.{◌≡◌, ◌<◌, ◌^◌, ◌-◌};
+ghost use Rattle.std.specs.Prelude.{◌≡◌, ◌<◌, ◌+◌, ◌%◌, ◌^◌, ◌-◌, ◌==◌, ◌&&◌, ◌||◌, nat_le, nat_lt, not};
 ghost use Rattle.collective_area.specs.Served.{header_arguments};
+ghost use Rattle.collective_area.specs.Shapes.{has_root, is_reduction};
 ghost use Rattle.node_caller.specs.Sites.{IsThere};
 ghost use Rattle.gas_collectives.specs.Progress.{start_refusal};
 ghost use Rattle.gas_collectives.specs.CollectivesState.{IsSameNode, IsWithin, Stands, progress_of};
@@ -41,6 +42,29 @@ fn start_told(answer: &Option<Answer>) -> StartAnswer
         Some(Answer::Asked(Asked::LockBusy(lock))) => StartAnswer::LockBusy(*lock),
         Some(_) => StartAnswer::Started,
     }
+}
+
+/// Whether the root isn't one of so many nodes, or isn't 0 for a kind without a root.
+fn is_bad_root(shape: Shape, nodes: u16) -> bool
+    ensures { result ≡ (nat_le nodes shape.root
+        || (not (has_root shape.kind) && not (shape.root == 0))) }
+{
+    shape.root >= nodes || (!shape.kind.has_root() && shape.root != 0)
+}
+
+/// Whether the length is above so much room, or isn't a multiple of 8 for a reduction.
+fn is_bad_len(shape: Shape, room: u64) -> bool
+    ensures { result ≡ (nat_lt room shape.len
+        || (is_reduction shape.kind && not (shape.len % 8 == 0))) }
+{
+    shape.len > room || (shape.kind.is_reduction() && shape.len % 8 != 0)
+}
+
+/// Whether so many bytes from an offset on pass the end of a segment of so many bytes.
+pub(crate) fn is_past(offset: u64, len: u64, segment: u64) -> bool
+    ensures { result ≡ nat_lt segment (offset + len) }
+{
+    len > segment || offset > segment - len
 }
 
 impl Collectives {
@@ -111,13 +135,13 @@ impl Collectives {
         if self.ended < self.started {
             return Some(StartAnswer::Busy);
         }
-        if shape.root >= self.settings.nodes() || (!shape.kind.has_root() && shape.root != 0) {
+        if is_bad_root(shape, self.settings.nodes()) {
             return Some(StartAnswer::BadArg(Argument::Root));
         }
-        if shape.len > self.room || (shape.kind.is_reduction() && shape.len % 8 != 0) {
+        if is_bad_len(shape, self.room) {
             return Some(StartAnswer::BadArg(Argument::Length));
         }
-        if shape.len > self.settings.segment() || from > self.settings.segment() - shape.len {
+        if is_past(from, shape.len, self.settings.segment()) {
             return Some(StartAnswer::BadArg(Argument::Source));
         }
         if self.started == u64::MAX {
