@@ -1,4 +1,5 @@
 pub mod Halves
+pub mod Ways
 pub mod Headline
 pub mod PairStands
 pub mod Standing

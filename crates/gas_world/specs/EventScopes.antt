@@ -1,6 +1,7 @@
 -- What an event does to the endpoint on which it falls, the exchanges of the pair, and the greatest number held.
 use Rattle.std.specs.Prelude.{ℕ, ◌≡◌, ◌≢◌, ◌<◌, ◌==◌, ◌++◌, ◌∷◌, [], List, max, set, None, Some, Bool}
 use Rattle.std.specs.Prelude.{true, false, not, slice_get, ◌⊎◌, Option, is_some}
+use Rattle.node_record.specs.declared.answer.Side.{Side}
 use Rattle.node_record.specs.declared.answer.Side.TheVariants as side
 use Rattle.node_record.specs.declared.answer.SlotRef.{SlotRef}
 use Rattle.node_record.specs.declared.answer.Asked.TheVariants as asked
@@ -27,7 +28,6 @@ use Rattle.endpoint_rules.specs.declared.call.Event.{Event}
 use Rattle.endpoint_rules.specs.declared.call.Event.TheVariants as event
 use Rattle.gas_world.specs.declared.event.WorldEvent.{WorldEvent}
 use Rattle.gas_world.specs.declared.event.WorldEvent.TheVariants as world_event
-use Rattle.gas_world.specs.declared.step.Envelope.{Envelope}
 use Rattle.gas_world.specs.declared.step.EventScope.{EventScope as Spot}
 use Rattle.endpoint_rules.specs.declared.answer.Answer.{Answer}
 use Rattle.endpoint_rules.specs.declared.answer.Answer.TheVariants as answers
@@ -114,6 +114,14 @@ AskFalls meaning old step new = elim step.answer [
 ]
 
 -- ---- a delivery
+
+-- a message that goes from one node to another: a request or the reply to one, the node that keeps it in a slot, the node
+-- to which it is delivered, and the number of the request
+pub record Envelope : Type 0 where
+  pub side : Side
+  pub sender : ℕ
+  pub receiver : ℕ
+  pub number : ℕ
 
 -- the message of a slot of the sender comes: it is lent out of the slot
 pub record Carries (meaning : Meaning) (sender old : EndpointState) (step : Transition SlotRef Answer)
@@ -294,6 +302,33 @@ request_envelope from to number = record { side = side.Request; sender = from; r
 abbrev pub reply_envelope : (from to number : ℕ) → Envelope
 reply_envelope from to number = record { side = side.Reply; sender = to; receiver = from; number = number }
 
+-- the node that keeps the message which an event delivers, and the one to which it comes; of another event its own node
+abbrev pub event_way : WorldEvent → ℕ × ℕ
+event_way (world_event.Call node thread call) = (node, node)
+event_way (world_event.Request from to number) = (from, to)
+event_way (world_event.Reply from to number) = (to, from)
+event_way (world_event.Tick node) = (node, node)
+
+-- what the sender holds of the message that an event delivers
+abbrev pub HoldsDelivered : List Exchange → EndpointState → WorldEvent → Type 0
+HoldsDelivered exchanges sender (world_event.Call node thread call) = ⊥
+HoldsDelivered exchanges sender (world_event.Request from to number) =
+    HoldsRequest exchanges sender (request_envelope from to number)
+HoldsDelivered exchanges sender (world_event.Reply from to number) =
+    HoldsReply exchanges sender (reply_envelope from to number)
+HoldsDelivered exchanges sender (world_event.Tick node) = ⊥
+
+-- the message that an event delivers comes from that sender
+abbrev pub DeliveredFalls : Meaning → EndpointState → EventScope → Transition WorldEvent WorldAnswer → EventScope → Type 0
+DeliveredFalls meaning sender old step new = elim step.event [
+  | world_event.Call node thread call ↦ ⊥
+  | world_event.Request from to number ↦
+      RequestFalls meaning sender old (transition step.now (request_envelope from to number) step.answer) new
+  | world_event.Reply from to number ↦
+      ReplyFalls meaning sender old (transition step.now (reply_envelope from to number) step.answer) new
+  | world_event.Tick node ↦ ⊥
+]
+
 -- an event does this to the scope on which it falls, among these endpoints
 abbrev pub EventScopeSteps : Meaning → List EndpointState → EventScope → Transition WorldEvent WorldAnswer → EventScope → Type 0
 EventScopeSteps meaning endpoints old step new = elim step.event [
@@ -346,6 +381,13 @@ IsCallable endpoints (world_event.Request from to number) = Unit {0}
 IsCallable endpoints (world_event.Reply from to number) = Unit {0}
 IsCallable endpoints (world_event.Tick node) = Unit {0}
 
+-- it delivers a message
+abbrev pub IsDelivery : WorldEvent → Type 0
+IsDelivery (world_event.Call node thread call) = ⊥
+IsDelivery (world_event.Request from to number) = Unit {0}
+IsDelivery (world_event.Reply from to number) = Unit {0}
+IsDelivery (world_event.Tick node) = ⊥
+
 -- the message that an event delivers is held
 abbrev pub IsHeld : List EndpointState → List Exchange → WorldEvent → Type 0
 IsHeld endpoints exchanges (world_event.Call node thread call) = Unit {0}
@@ -379,12 +421,3 @@ pub record Happens (meaning : Meaning) (old : ScopeStage) (step : Transition Wor
     pub is : EndpointState
     pub changes : ChangesOne old.endpoints new.endpoints (event_node step.event) was is
     pub steps : EventScopeSteps meaning old.endpoints (scope_with old was) step (scope_with new is)
-
--- a message comes to its receiver's endpoint
-pub record DeliversInScope (meaning : Meaning) (old : ScopeStage) (step : Transition Envelope WorldAnswer)
-    (new : ScopeStage) : Type 0
-  where
-    pub was : EndpointState
-    pub is : EndpointState
-    pub changes : ChangesOne old.endpoints new.endpoints step.event.receiver was is
-    pub meets : Meets meaning old.endpoints (scope_with old was) step (scope_with new is)
