@@ -50,22 +50,22 @@ pub record IsGapOf (rank place : ℕ) (item : Entry) (gap : Gap) : Type 0 where
 
 -- ---- at a place
 
-abbrev pub node_at : NodeReplays → (place : ℕ) → Option NodeReplay
-node_at replays place = slice_get replays.nodes.items place
+abbrev pub replay_at : NodeReplays → (place : ℕ) → Option NodeReplay
+replay_at replays place = slice_get replays.nodes.items place
 
 abbrev pub rank_of : Option NodeReplay → ℕ
 rank_of None = 0
 rank_of (Some node) = node.trace.rank
 
 abbrev pub rank_at : NodeReplays → (place : ℕ) → ℕ
-rank_at replays place = rank_of (node_at replays place)
+rank_at replays place = rank_of (replay_at replays place)
 
 abbrev pub lines_of : Option NodeReplay → List ℕ
 lines_of None = []
 lines_of (Some node) = node.steps.taken
 
 abbrev pub lines_at : NodeReplays → (place : ℕ) → List ℕ
-lines_at replays place = lines_of (node_at replays place)
+lines_at replays place = lines_of (replay_at replays place)
 
 abbrev pub turns_of : Option Replayed → ℕ
 turns_of None = 0
@@ -84,14 +84,14 @@ IsFindingBy None turns finding = finding ≡ None
 IsFindingBy (Some node) turns finding = MatchOption finding ⊥ (IsFindingOf node turns)
 
 abbrev pub IsFinding : NodeReplays → (place : ℕ) → Option NodeFinding → Type 0
-IsFinding replays place finding = IsFindingBy (node_at replays place) (turns_of (turned_at replays place)) finding
+IsFinding replays place finding = IsFindingBy (replay_at replays place) (turns_of (turned_at replays place)) finding
 
 abbrev pub IsSentBy : (rank : ℕ) → Option Sent → Option SentMessage → Type 0
 IsSentBy rank None told = told ≡ None
 IsSentBy rank (Some one) told = MatchOption told ⊥ (IsSentOf rank one)
 
-abbrev pub IsSent : NodeReplays → (place number : ℕ) → Option SentMessage → Type 0
-IsSent replays place number told =
+abbrev pub IsSentMessage : NodeReplays → (place number : ℕ) → Option SentMessage → Type 0
+IsSentMessage replays place number told =
     IsSentBy (rank_at replays place) (slice_get (sent_by (turned_at replays place)) number) told
 
 -- the first entry that got what no node sent to its node; none where there is no such entry
@@ -108,4 +108,4 @@ IsGapBy replays (Some node) gap =
     MatchOption gap (AreAllSent replays.sent.items node.trace.rank node.trace.entries) (IsFirstGap replays node)
 
 abbrev pub IsGap : NodeReplays → (place : ℕ) → Option Gap → Type 0
-IsGap replays place gap = IsGapBy replays (node_at replays place) gap
+IsGap replays place gap = IsGapBy replays (replay_at replays place) gap

@@ -1,7 +1,7 @@
 //! The replays of the outputs of nodes, for `run_report`.
 
 ghost use Rattle.std.specs.Prelude.{◌≡◌, length};
-ghost use Rattle.gasnet_cli.specs.Replays.{IsFinding, IsFindingOf, IsGap, IsGapOf, IsSent, IsSentOf, lines_at, rank_at, sends_at};
+ghost use Rattle.gasnet_cli.specs.Replays.{IsFinding, IsFindingOf, IsGap, IsGapOf, IsSentMessage, IsSentOf, lines_at, rank_at, sends_at};
 
 use check_run::{GivenOutput, NodeReplay, NodeReplays, replay_given, replay_input};
 use machine::Entry;
@@ -73,7 +73,7 @@ impl Replays for OutputReplays {
 
     ghost sends = { λ r place. sends_at r.replays place };
 
-    ghost sent = { λ r place number one. IsSent r.replays place number one };
+    ghost sent = { λ r place number one. IsSentMessage r.replays place number one };
 
     ghost gaps = { λ r place gap. IsGap r.replays place gap };
 
