@@ -1,6 +1,6 @@
 -- How far the nodes of a group are, after one more is there or one of them did something.
 use Rattle.std.proofs.Common.{◌≡◌, ℕ, ◌<◌, false, List, [], ◌∷◌, ◌++◌, length, get_or, Some, inl, inr, sym, ap, ◌∙◌}
-use Rattle.std.proofs.Common.{subst, arith, length-set}
+use Rattle.std.proofs.Common.{◌+◌, subst, arith, length-append, length-set}
 use Rattle.std.specs.Prelude.{◌≢◌, slice_get, slice_set}
 use Rattle.std.proofs.Math.Path.{fun_ext}
 use Rattle.std.proofs.lemmas.Bool.{cases_eq, cases_lt}
@@ -29,6 +29,11 @@ pub at_place : (nodes : List CollectivesState) (place : ℕ) (one : CollectivesS
 at_place nodes place one low is =
     let found = slice_get_there nodes place low in
     found.1 ∙ ap Some (sym (is ∙ get_or_from_slice_get nodes place found.0 one found.1))
+
+-- one more
+pub many_more : (nodes : List CollectivesState) (last : CollectivesState) (many : ℕ) → length nodes ≡ many
+    → length (nodes ++ last ∷ []) ≡ many + 1
+many_more nodes last many is = let whole = length-append nodes (last ∷ []) in omega (arith, whole, is)
 
 -- one more, at the next place
 pub at_more : (settings : Parameters) (nodes : List CollectivesState) (last : CollectivesState) → AreAt settings nodes

@@ -1,9 +1,9 @@
-use Rattle.std.proofs.Common.{List, rules, sym, subst, ◌∙◌}
+use Rattle.std.proofs.Common.{List, length, ap, sym, subst, ◌∙◌}
 use Rattle.collective_area.specs.Area.{Area}
 use Rattle.gas_collectives.specs.CollectivesState.{CollectivesState}
 use Rattle.collective_group.specs.GroupState.{AreAt}
 use Rattle.collective_group.specs.Opening.{AreIdle}
-use Rattle.collective_group.proofs.Nodes.{at_more, fresh_idle, idle_more}
+use Rattle.collective_group.proofs.Nodes.{at_more, fresh_idle, idle_more, many_more}
 use Rattle.collective_group.proofs.group.idle_nodes.Goals as goal
 
 pub loop-node-preserved : goal.loop-node-preserved
@@ -12,7 +12,8 @@ loop-node-preserved c =
     let settings = c.args.settings.now in
     let area : Area = record { nodes = settings.nodes; base = c.args.base; room = c.args.room } in
     record {
-      count = search rules;
+      count = ap (λ (nodes : List CollectivesState). length nodes) c.in_ok-push.ensures.items
+          ∙ many_more c.loop-node.nodes.items c.in-Some.one c.loop-node.node c.loop-node.invariant.count;
       at = subst (λ (nodes : List CollectivesState). AreAt settings nodes) (sym c.in_ok-push.ensures.items)
           (at_more settings c.loop-node.nodes.items c.in-Some.one c.loop-node.invariant.at fresh.settings_are
           (fresh.me_is ∙ sym c.loop-node.invariant.count));
