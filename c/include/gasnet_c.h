@@ -314,8 +314,8 @@ gasnet_c_told gasnet_c_coll_step(gasnet_c_node *node, gasnet_c_collectives *coll
 
 /* Tries to end it, with the result at `dest` in the local segment. OK; MISMATCH, and it is ended without a result, since
  * the node `to`, the first of these, started another one; NOT_READY; WORN_OUT, by the node `to`; BAD where none is
- * started, or the result passes the end of the segment, shares a byte with the area, or for a reduction isn't at a
- * multiple of 8. */
+ * started, or the result passes the end of the segment, shares a byte with the area, or is one of words that this node
+ * has and isn't at a multiple of 8. */
 gasnet_c_told gasnet_c_coll_end(gasnet_c_node *node, gasnet_c_collectives *collectives, uint64_t now, uint64_t dest);
 
 #ifdef __cplusplus

@@ -2,8 +2,9 @@
  * includes it.
  *
  * The names that begin with gex_ are GASNet-EX's. All nodes call the same collectives in the same order, each with one
- * kind, root, length and operation: where a node finds that another one called otherwise, it ends the job with a line.
- * (Nodes whose lengths differ may wait for one another instead, where the collective has more than 8,192 bytes a node.)
+ * kind, root, length, operation and type: where a node finds that another one called with another kind or root, it ends
+ * the job with a line. (Nodes whose lengths differ may wait for one another instead, or take pieces of one collective for
+ * another's, where it has more than 8,192 bytes a node. Another type isn't found.)
  * Where the threads of a node call collectives at once, the client gives them the order.
  *
  * Each call begins a collective, and answers an event. `src` is read, and `dst` written, until the event is synchronised,

@@ -137,7 +137,7 @@ pub extern "C" fn gasnet_c_coll_step(
 /// `dest`; `GASNET_C_MISMATCH` where it ends without one, as the node that is told, the first of these, started it with
 /// another kind, root or length; `GASNET_C_NOT_READY`; `GASNET_C_WORN_OUT` where it isn't ready, and no numbers are left
 /// for the node that is told; or `GASNET_C_BAD` where none is started, or the result's place passes the end of the
-/// segment, shares a byte with the area, or for a reduction isn't a multiple of 8.
+/// segment, shares a byte with the area, or is that of words that this node has and isn't a multiple of 8.
 ///
 /// Deliveries bring what the other nodes give: C makes them between two tries.
 #[unsafe(no_mangle)]
