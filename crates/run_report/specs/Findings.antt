@@ -3,22 +3,27 @@ use Rattle.std.specs.Prelude.{ℕ, ◌+◌, ◌-◌, ◌^◌, min, ◌==◌, ◌
 use Rattle.std.specs.Prelude.{if◌then◌else◌, Some, codes, decimal}
 use Rattle.run_report.specs.Ends.{ended_line, is_told}
 use Rattle.run_report.specs.declared.findings.NodeFinding.{NodeFinding}
+use Rattle.run_report.specs.declared.status.Ending.{Ending}
+use Rattle.run_report.specs.declared.status.Ending.TheVariants as endings
 
 -- some turns of a node got what it refused
 abbrev pub refused_line : (rank turns : ℕ) → List ℕ
 refused_line rank turns = codes "gasnet: node " ++ (decimal rank ++ (codes " refused what " ++ (decimal turns
     ++ codes " of its turns got\n")))
 
-unfoldable pub refused_told : (failed : Bool) → NodeFinding → List ℕ
-refused_told failed node = if failed && not (node.refused == 0) then refused_line node.rank node.refused else []
+-- so it is told of a run that failed
+unfoldable pub refused_told : Ending → NodeFinding → List ℕ
+refused_told endings.Run node = []
+refused_told endings.NoRun node = []
+refused_told endings.Failed node = if node.refused == 0 then [] else refused_line node.rank node.refused
 
 -- requests of a node aren't back
 unfoldable pub open_told : NodeFinding → List ℕ
 open_told node = if node.unreturned == 0 then []
     else codes "open " ++ (decimal node.rank ++ (codes " " ++ (decimal node.unreturned ++ codes "\n")))
 
-abbrev pub counts_told : (failed : Bool) → NodeFinding → List ℕ
-counts_told failed node = refused_told failed node ++ open_told node
+abbrev pub counts_told : Ending → NodeFinding → List ℕ
+counts_told ending node = refused_told ending node ++ open_told node
 
 -- what is wrong with the status that a node told; empty where nothing is
 unfoldable pub fault_of : NodeFinding → List ℕ

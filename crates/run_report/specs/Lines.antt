@@ -7,7 +7,7 @@ use Rattle.run_report.specs.declared.findings.NodeLine.TheVariants as line
 
 -- what is told of a node
 abbrev pub line_told : NodeLine → NodeFinding → List ℕ
-line_told (line.Counts failed) = counts_told failed
+line_told (line.Counts ending) = counts_told ending
 line_told line.Difference = difference_told
 line_told line.Blocked = blocked_told
 line_told (line.Status stuck) = status_told stuck

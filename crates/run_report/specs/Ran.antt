@@ -1,19 +1,21 @@
 -- What is told after the run of a command.
-use Rattle.std.specs.Prelude.{◌≡◌, ◌⊎◌, ℕ, ◌||◌, List, [], Bool, Option, Some, None, Result, Ok, Err, String, IfOk, codes, string_bytes}
+use Rattle.std.specs.Prelude.{◌≡◌, ◌⊎◌, ℕ, List, [], Bool, Option, Some, None, Result, Ok, Err, String, IfOk, string_bytes}
 use Rattle.std.specs.Global.{Global}
 use Rattle.std.specs.Bool.{MatchBool}
-use Rattle.std.specs.Str.{bytes_eq}
 use Rattle.std.specs.declared.alloc.AllocError.{AllocError}
-use Rattle.run_report.specs.Causes.{IsErrorOf, IsFaultText, IsStepsText}
-use Rattle.run_report.specs.Command.{name_of}
+use Rattle.run_report.specs.Causes.{IsFaultOf}
+use Rattle.run_report.specs.Command.{kind_of, name_of}
 use Rattle.run_report.specs.Facts.{IsDroppedText, IsEndsText, IsLinkText, IsStartText}
-use Rattle.run_report.specs.Report.{IsFindingsText}
-use Rattle.run_report.specs.Status.{IsLastLine, ending_of}
+use Rattle.run_report.specs.Gathering.{GivesOne, GivesTo}
+use Rattle.run_report.specs.Report.{IsToldBy}
+use Rattle.run_report.specs.Status.{IsLastLine, ending_of, status_of}
 use Rattle.run_report.specs.Telling.{TellsMade, after_text}
-use Rattle.run_report.specs.declared.causes.FaultParts.{FaultParts}
 use Rattle.run_report.specs.declared.command.Command.{Command}
+use Rattle.run_report.specs.declared.command.CommandKind.{CommandKind}
+use Rattle.run_report.specs.declared.command.CommandKind.TheVariants as kinds
 use Rattle.run_report.specs.declared.counted.KeptOutput.{KeptOutput}
 use Rattle.run_report.specs.declared.facts.ChildSeen.{ChildSeen}
+use Rattle.run_report.specs.declared.findings.NodeFinding.{NodeFinding}
 use Rattle.run_report.specs.declared.ran.Heard.{Heard}
 use Rattle.run_report.specs.declared.ran.Outcome.{Outcome}
 use Rattle.run_report.specs.declared.replays.Replays.{Ghosts as Replays}
@@ -21,70 +23,50 @@ use Rattle.run_report.specs.declared.report.Judged.{Judged}
 use Rattle.run_report.specs.declared.status.Ending.{Ending}
 use Rattle.run_report.specs.declared.texts.Texts.{Ghosts as Texts}
 
--- a command is told of by the outputs of its nodes
-abbrev pub is_told_of : List ℕ → Bool
-is_told_of name = bytes_eq name (codes "check") || bytes_eq name (codes "launch")
+-- how the run of a check or a launch ended, by its last line
+abbrev pub ending_by : CommandKind → (line : List ℕ) → Option Ending
+ending_by kinds.Check line = ending_of (status_of line)
+ending_by kinds.Launch line = ending_of (status_of line)
+ending_by kinds.World line = None
+ending_by kinds.Other line = None
 
--- how its run ended, by the last line that it wrote
-pub record IsToldEnding (name output : List ℕ) (ending : Option Ending) : Type 0 where
+pub record IsToldEnding (command : Command) (ending : Option Ending) : Type 0 where
   pub line : List ℕ
-  pub is_last : IsLastLine output line
-  pub is : MatchBool (is_told_of name) (ending ≡ ending_of line) (ending ≡ None)
+  pub is_last : IsLastLine command.output.bytes.items line
+  pub is : ending ≡ ending_by (kind_of (name_of command.words.items)) line
+
+-- the steps of the nodes of a check or a launch, the lines of a world's schedule, and of other commands nothing
+abbrev pub AreStepsBy : {T : Type 0} → Texts T → CommandKind → (input output text : List ℕ) → Type 0
+AreStepsBy texts kinds.Check input output text = texts.steps input output text
+AreStepsBy texts kinds.Launch input output text = texts.steps input output text
+AreStepsBy texts kinds.World input output text = texts.schedules input output text
+AreStepsBy texts kinds.Other input output text = text ≡ []
 
 -- the steps, where they are asked for
 abbrev pub IsStepsOf : {T : Type 0} → Texts T → Command → (text : List ℕ) → Type 0
 IsStepsOf texts command text =
     MatchBool command.steps
-    (IsStepsText texts (name_of command.words.items) command.input.bytes.items command.output.bytes.items text)
+    (AreStepsBy texts (kind_of (name_of command.words.items)) command.input.bytes.items command.output.bytes.items text)
     (text ≡ [])
 
--- what is known of a run that went wrong, by the last line that it wrote, and by these errors
-pub record AreParts (command : Command) (output_error input_error link start : List ℕ) (parts : FaultParts) : Type 0 where
-  pub is_last : IsLastLine command.output.bytes.items parts.line.now
-  pub failed : parts.output_failed ≡ command.output.failed
-  pub words : parts.words.now ≡ command.words.items
-  pub input : parts.input.now ≡ command.input.bytes.items
-  pub output_is : parts.output_error.now ≡ output_error
-  pub input_is : parts.input_error.now ≡ input_error
-  pub link_is : parts.link.now ≡ link
-  pub start_is : parts.start.now ≡ start
-
--- why it did
-pub record IsFaultBy {T : Type 0} (texts : Texts T) (command : Command)
-    (output_error input_error link start text : List ℕ) : Type 0 where
-  pub parts : FaultParts
-  pub are : AreParts command output_error input_error link start parts
-  pub is : IsFaultText texts parts text
-
--- and by the system's errors of its streams
-pub record IsFaultOf {T : Type 0} (texts : Texts T) (command : Command) (link start text : List ℕ) : Type 0 where
-  pub output_error : List ℕ
-  pub input_error : List ℕ
-  pub is_output_error : IsErrorOf command.output.fault output_error
-  pub is_input_error : IsErrorOf command.input.fault input_error
-  pub is : IsFaultBy texts command output_error input_error link start text
-
 -- the replays of what was given: of a check what it read, else the outputs
-abbrev pub AreReplays : {R : Type 0} → Replays R → Command → List KeptOutput → R → Type 0
-AreReplays given command outputs replays =
-    MatchBool (bytes_eq (name_of command.words.items) (codes "check"))
-    (given.of_check command.input.bytes.items replays)
-    (given.of_launch command.input.bytes.items outputs replays)
+abbrev pub AreReplays : {R : Type 0} → Replays R → CommandKind → (input : List ℕ) → List KeptOutput → R → Type 0
+AreReplays given kinds.Check input outputs replays = given.of_check input replays
+AreReplays given kinds.Launch input outputs replays = given.of_launch input outputs replays
+AreReplays given kinds.World input outputs replays = given.of_launch input outputs replays
+AreReplays given kinds.Other input outputs replays = given.of_launch input outputs replays
 
--- a run of a command that ended so
-pub record IsJudged (command : Command) (ending : Ending) (judged : Judged) : Type 0 where
-  pub ending_is : judged.ending ≡ ending
-  pub is_check_is : judged.is_check ≡ bytes_eq (name_of command.words.items) (codes "check")
-  pub job_is : judged.job.now ≡ command.input.bytes.items
-
--- what the replays tell of it
+-- what the replays tell of a run that ended so, node by node
 pub record IsFindingsBy {T R : Type 0} (texts : Texts T) (given : Replays R) (command : Command) (ending : Ending)
     (outputs : List KeptOutput) (text : List ℕ) : Type 0 where
   pub replays : R
   pub judged : Judged
-  pub are : AreReplays given command outputs replays
-  pub is_judged : IsJudged command ending judged
-  pub is : IsFindingsText texts given judged replays text
+  pub nodes : List NodeFinding
+  pub ending_is : judged.ending ≡ ending
+  pub kind_is : judged.kind ≡ kind_of (name_of command.words.items)
+  pub are_replays : AreReplays given (kind_of (name_of command.words.items)) command.input.bytes.items outputs replays
+  pub are : GivesTo (GivesOne (given.finds replays)) (given.places replays) nodes
+  pub is : IsToldBy texts given judged command.input.bytes.items nodes replays text
 
 abbrev pub IsFindingsAt : {T R : Type 0} → Texts T → Replays R → Command → Option Ending → List KeptOutput → List ℕ
     → Type 0
@@ -95,7 +77,7 @@ IsFindingsAt texts given command (Some ending) outputs text = IsFindingsBy texts
 pub record IsFindings {T R : Type 0} (texts : Texts T) (given : Replays R) (command : Command)
     (outputs : List KeptOutput) (text : List ℕ) : Type 0 where
   pub ending : Option Ending
-  pub is_ending : IsToldEnding (name_of command.words.items) command.output.bytes.items ending
+  pub is_ending : IsToldEnding command ending
   pub is : IsFindingsAt texts given command ending outputs text
 
 -- a text that was made, or none

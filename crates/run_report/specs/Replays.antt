@@ -1,7 +1,9 @@
 -- What is told of the replays of what the nodes of a run gave.
-use Rattle.std.specs.Prelude.{◌≡◌, ℕ, List, ◌++◌}
+use Rattle.std.specs.Prelude.{◌≡◌, ℕ, List, [], ◌++◌}
 use Rattle.run_report.specs.Gathering.{GivesOne, GivesTo}
 use Rattle.run_report.specs.declared.replays.Replays.{Ghosts as Replays}
+use Rattle.run_report.specs.declared.status.Ending.{Ending}
+use Rattle.run_report.specs.declared.status.Ending.TheVariants as endings
 use Rattle.run_report.specs.declared.texts.Texts.{Ghosts as Texts}
 use Rattle.run_report.specs.declared.unsent.SentMessage.{SentMessage}
 
@@ -25,10 +27,16 @@ AreWaits texts given job replays place text =
     texts.waits job (given.ranks replays place) (given.lines replays place) text
 
 -- all steps that ended, and then all that are waited for
-pub record IsFrontText {T R : Type 0} (texts : Texts T) (given : Replays R) (job : List ℕ) (replays : R)
+pub record AreStepsAndWaits {T R : Type 0} (texts : Texts T) (given : Replays R) (job : List ℕ) (replays : R)
     (text : List ℕ) : Type 0 where
   pub steps : List ℕ
   pub waits : List ℕ
   pub are_steps : GivesTo (AreSteps texts given job replays) (given.places replays) steps
   pub are_waits : GivesTo (AreWaits texts given job replays) (given.places replays) waits
   pub is : text ≡ steps ++ waits
+
+-- so it is where there is no run
+abbrev pub IsFrontText : {T R : Type 0} → Texts T → Replays R → Ending → (job : List ℕ) → R → (text : List ℕ) → Type 0
+IsFrontText texts given endings.Run job replays text = text ≡ []
+IsFrontText texts given endings.NoRun job replays text = AreStepsAndWaits texts given job replays text
+IsFrontText texts given endings.Failed job replays text = AreStepsAndWaits texts given job replays text

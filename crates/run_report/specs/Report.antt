@@ -1,11 +1,13 @@
 -- What is told of the outputs of the nodes of a run, one part after the other.
-use Rattle.std.specs.Prelude.{◌≡◌, ℕ, List, [], ◌++◌, Bool, true, false, if◌then◌else◌}
+use Rattle.std.specs.Prelude.{◌≡◌, ℕ, List, [], ◌++◌, true, false}
 use Rattle.std.specs.Bool.{MatchBool}
 use Rattle.std.specs.List.{flat_map, list_any}
 use Rattle.run_report.specs.Findings.{blocked_told, counts_told, difference_told, is_blocked, is_stuck, status_told}
-use Rattle.run_report.specs.Gathering.{GivesOne, GivesTo}
+use Rattle.run_report.specs.Gathering.{AddsBy, GivesOne, GivesTo}
 use Rattle.run_report.specs.Replays.{AreSent, IsFrontText}
 use Rattle.run_report.specs.Unsent.{gaps_text, is_searched}
+use Rattle.run_report.specs.declared.command.CommandKind.{CommandKind}
+use Rattle.run_report.specs.declared.command.CommandKind.TheVariants as kinds
 use Rattle.run_report.specs.declared.findings.NodeFinding.{NodeFinding}
 use Rattle.run_report.specs.declared.replays.Replays.{Ghosts as Replays}
 use Rattle.run_report.specs.declared.report.Judged.{Judged}
@@ -15,26 +17,6 @@ use Rattle.run_report.specs.declared.texts.Texts.{Ghosts as Texts}
 use Rattle.run_report.specs.declared.unsent.Gap.{Gap}
 use Rattle.run_report.specs.declared.unsent.SentMessage.{SentMessage}
 
-abbrev pub is_failed : Ending → Bool
-is_failed endings.Run = false
-is_failed endings.NoRun = false
-is_failed endings.Failed = true
-
-abbrev pub is_no_run : Ending → Bool
-is_no_run endings.Run = false
-is_no_run endings.NoRun = true
-is_no_run endings.Failed = false
-
-abbrev pub is_run : Ending → Bool
-is_run endings.Run = true
-is_run endings.NoRun = false
-is_run endings.Failed = false
-
--- where there is no run, the steps that ended, and those that are waited for
-abbrev pub IsFrontPart : {T R : Type 0} → Texts T → Replays R → Judged → R → List ℕ → Type 0
-IsFrontPart texts given judged replays text =
-    MatchBool (is_run judged.ending) (text ≡ []) (IsFrontText texts given judged.job.now replays text)
-
 -- what no node sent was added, by all that was sent
 pub record AddsUnsent {R : Type 0} (given : Replays R) (nodes : List NodeFinding) (replays : R)
     (sent : List SentMessage) (old new : List ℕ) : Type 0 where
@@ -42,41 +24,42 @@ pub record AddsUnsent {R : Type 0} (given : Replays R) (nodes : List NodeFinding
   pub are : GivesTo (GivesOne (given.gaps replays)) (given.places replays) gaps
   pub is : new ≡ old ++ gaps_text gaps sent (list_any is_blocked nodes)
 
--- of traces that are no run: where their replays stop, and what no node sent, where that is looked for
-pub record IsNoRunText {R : Type 0} (given : Replays R) (nodes : List NodeFinding) (replays : R)
-    (text : List ℕ) : Type 0 where
+-- where the replays stop was added, and what no node sent, where that is looked for
+pub record AddsGaps {R : Type 0} (given : Replays R) (nodes : List NodeFinding) (replays : R)
+    (old new : List ℕ) : Type 0 where
   pub sent : List SentMessage
   pub are : GivesTo (AreSent given replays) (given.places replays) sent
-  pub is : MatchBool (is_searched nodes sent) (AddsUnsent given nodes replays sent (flat_map blocked_told nodes) text)
-      (text ≡ flat_map blocked_told nodes)
+  pub is : MatchBool (is_searched nodes sent)
+      (AddsUnsent given nodes replays sent (old ++ flat_map blocked_told nodes) new)
+      (new ≡ old ++ flat_map blocked_told nodes)
 
-abbrev pub IsNoRunPart : {R : Type 0} → Replays R → Ending → List NodeFinding → R → List ℕ → Type 0
-IsNoRunPart given ending nodes replays text =
-    MatchBool (is_no_run ending) (IsNoRunText given nodes replays text) (text ≡ [])
+-- so it was of traces that are no run
+abbrev pub AddsNoRun : {R : Type 0} → Replays R → Ending → List NodeFinding → R → (old new : List ℕ) → Type 0
+AddsNoRun given endings.Run nodes replays old new = new ≡ old
+AddsNoRun given endings.NoRun nodes replays old new = AddsGaps given nodes replays old new
+AddsNoRun given endings.Failed nodes replays old new = new ≡ old
 
--- where a node got stuck, what is told of the patience
-abbrev pub IsPatienceText : {T : Type 0} → Texts T → List NodeFinding → (job text : List ℕ) → Type 0
-IsPatienceText texts nodes job text = MatchBool (list_any is_stuck nodes) (texts.warns job text) (text ≡ [])
+-- where a node got stuck, what is told of the patience was added
+abbrev pub AddsPatience : {T : Type 0} → Texts T → List NodeFinding → (job old new : List ℕ) → Type 0
+AddsPatience texts nodes job old new =
+    MatchBool (list_any is_stuck nodes) (AddsBy (texts.warns job) old new) (new ≡ old)
 
 -- of a check, how the nodes ended: of their own, and then stuck
-unfoldable pub statuses_text : (is_check : Bool) → List NodeFinding → List ℕ
-statuses_text is_check nodes =
-    if is_check then flat_map (status_told false) nodes ++ flat_map (status_told true) nodes else []
+unfoldable pub statuses_text : CommandKind → List NodeFinding → List ℕ
+statuses_text kinds.Check nodes = flat_map (status_told false) nodes ++ flat_map (status_told true) nodes
+statuses_text kinds.Launch nodes = []
+statuses_text kinds.World nodes = []
+statuses_text kinds.Other nodes = []
 
--- all of it, in this order, by what the output of each node tells
-pub record IsToldBy {T R : Type 0} (texts : Texts T) (given : Replays R) (judged : Judged) (nodes : List NodeFinding)
-    (replays : R) (text : List ℕ) : Type 0 where
+-- all of it, in this order, by what the output of each node tells: the front, the counts and the differences, with what
+-- is told of no run behind them, and of the patience, and then how the nodes ended
+pub record IsToldBy {T R : Type 0} (texts : Texts T) (given : Replays R) (judged : Judged) (job : List ℕ)
+    (nodes : List NodeFinding) (replays : R) (text : List ℕ) : Type 0 where
   pub front : List ℕ
-  pub no_run : List ℕ
-  pub patience : List ℕ
-  pub is_front : IsFrontPart texts given judged replays front
-  pub is_no_run_part : IsNoRunPart given judged.ending nodes replays no_run
-  pub is_patience : IsPatienceText texts nodes judged.job.now patience
-  pub is : text ≡ front ++ (flat_map (counts_told (is_failed judged.ending)) nodes
-      ++ (flat_map difference_told nodes ++ (no_run ++ (patience ++ statuses_text judged.is_check nodes))))
-
-pub record IsFindingsText {T R : Type 0} (texts : Texts T) (given : Replays R) (judged : Judged) (replays : R)
-    (text : List ℕ) : Type 0 where
-  pub nodes : List NodeFinding
-  pub are : GivesTo (GivesOne (given.finds replays)) (given.places replays) nodes
-  pub is : IsToldBy texts given judged nodes replays text
+  pub judged_text : List ℕ
+  pub patient_text : List ℕ
+  pub is_front : IsFrontText texts given judged.ending job replays front
+  pub no_run : AddsNoRun given judged.ending nodes replays
+      ((front ++ flat_map (counts_told judged.ending) nodes) ++ flat_map difference_told nodes) judged_text
+  pub patience : AddsPatience texts nodes job judged_text patient_text
+  pub is : text ≡ patient_text ++ statuses_text judged.kind nodes

@@ -1,8 +1,7 @@
 -- The last line of what a command wrote, and what it says.
-use Rattle.std.specs.Prelude.{◌≡◌, ◌≢◌, ℕ, ◌-◌, ◌<◌, ◌≤◌, ◌==◌, ◌||◌, List, length, take, drop, slice_index, Bool}
+use Rattle.std.specs.Prelude.{◌≡◌, ◌≢◌, ℕ, ◌+◌, ◌-◌, ◌<◌, ◌≤◌, ◌==◌, ◌||◌, nat_lt, List, [], ◌∷◌, length, take, drop, slice_index, Bool, false}
 use Rattle.std.specs.Prelude.{if◌then◌else◌, Option, Some, None, codes, nat_eq}
-use Rattle.std.specs.List.{position, starts_with}
-use Rattle.std.specs.Str.{bytes_eq}
+use Rattle.std.specs.List.{starts_with}
 use Rattle.run_report.specs.declared.status.Ending.{Ending}
 use Rattle.run_report.specs.declared.status.Ending.TheVariants as endings
 
@@ -26,30 +25,31 @@ pub record IsLastLine (bytes line : List ℕ) : Type 0 where
   pub starts : IsStart (take end bytes) start
   pub is : line ≡ drop start (take end bytes)
 
--- the place of the first space
-abbrev pub space_at : List ℕ → Option ℕ
-space_at text = position (λ b. b == 32) text
+-- the number that a digit makes behind so many tens
+abbrev pub digit : (tens byte : ℕ) → Option ℕ
+digit tens byte = if nat_lt byte 48 || nat_lt 57 byte then None else Some (tens + (byte - 48))
 
--- the bytes before the first space, or all of them
-abbrev pub before_space : Option ℕ → List ℕ → List ℕ
-before_space (Some place) text = take place text
-before_space None text = text
+-- the number at the front of a text: a digit before a space, or a 1 and a digit
+abbrev pub number_at : List ℕ → Option ℕ
+number_at [] = None
+number_at (first ∷ []) = None
+number_at (first ∷ (second ∷ behind)) =
+    if second == 32 then digit 0 first else if first == 49 then digit 10 second else None
 
-unfoldable pub word_of : List ℕ → List ℕ
-word_of text = before_space (space_at text) text
+-- the status that a line tells, which none but a status line does
+unfoldable pub status_of : List ℕ → Option ℕ
+status_of line = if starts_with nat_eq line (codes "status ") then number_at (drop 7 line) else None
 
--- how a run ended, by the word behind `status `
-abbrev pub ending_by : List ℕ → Option Ending
-ending_by word =
-    if bytes_eq word (codes "0") || bytes_eq word (codes "1") then Some endings.Run
-    else if bytes_eq word (codes "11") then Some endings.NoRun
-    else if bytes_eq word (codes "7") || bytes_eq word (codes "12") then Some endings.Failed
+-- how a run with this status ended
+abbrev pub ending_of : Option ℕ → Option Ending
+ending_of (Some status) =
+    if status == 0 || status == 1 then Some endings.Run
+    else if status == 11 then Some endings.NoRun
+    else if status == 7 || status == 12 then Some endings.Failed
     else None
+ending_of None = None
 
-abbrev pub ending_of : List ℕ → Option Ending
-ending_of line = if starts_with nat_eq line (codes "status ") then ending_by (word_of (drop 7 line)) else None
-
--- whether what was read is needed to tell of the run of this command
-abbrev pub needs_input : Bool → (name line : List ℕ) → Bool
-needs_input steps name line = steps || (bytes_eq name (codes "check") || (bytes_eq name (codes "launch")
-    || (starts_with nat_eq line (codes "status 2 ") || starts_with nat_eq line (codes "status 3 "))))
+-- words or a job are refused with this status
+abbrev pub is_refusal : Option ℕ → Bool
+is_refusal (Some status) = status == 2 || status == 3
+is_refusal None = false

@@ -1,15 +1,28 @@
 //! The command that a run is of, and what is kept of the run.
 
 ghost use Rattle.std.specs.Prelude.{◌≡◌, ◌&&◌, [], not, true, false, None, ℕ, List, option_map};
-ghost use Rattle.run_report.specs.Command.{HasWord, IsReadAgain, TellsPorts, is_node, lacks_port, name_of};
+ghost use Rattle.run_report.specs.Command.{HasWord, IsReadAgain, TellsPorts, is_node, kind_of, lacks_port, name_of, needs_input};
 ghost use Rattle.run_report.specs.Ports.{ArePorts};
 ghost use Rattle.std.specs.Bool.{MatchBool};
 
 use crate::ports::{FreePorts, Ports, free_ports, port_of, port_word, ports_line};
 use crate::seen::{MOST_INPUT, Seen};
-use crate::status::{last_line, needs_input};
+use crate::status::{is_refusal, last_line, status_of};
 use crate::telling::{Tells, tell_made};
 use std::alloc::Global;
+
+/// The commands of whose runs more is told than why they went wrong.
+#[derive(Clone, Copy)]
+pub(crate) enum CommandKind {
+    /// `check`.
+    Check,
+    /// `launch`.
+    Launch,
+    /// `world`.
+    World,
+    /// Another one.
+    Other,
+}
 
 /// A command, and what is kept of its run.
 #[derive(Drop)]
@@ -58,6 +71,37 @@ pub fn is_node(words: &[String]) -> bool
     command_name(words) == "node"
 }
 
+/// Which command words are of.
+#[tactic(auto, unfolding(crate::specs::Command::kind_of))]
+pub(crate) fn kind_of(words: &[String]) -> CommandKind
+    ensures { result ≡ kind_of (name_of words.now) }
+{
+    let name = command_name(words);
+    if name == "check" {
+        return CommandKind::Check;
+    }
+    if name == "launch" {
+        return CommandKind::Launch;
+    }
+    if name == "world" {
+        return CommandKind::World;
+    }
+    CommandKind::Other
+}
+
+/// Whether what was read is needed to tell of the run of this command with this last line: each
+/// step, what nodes tell, or why words or a job are refused.
+fn needs_input(steps: bool, kind: CommandKind, line: &[u8]) -> bool
+    ensures { result ≡ needs_input steps kind line.now }
+{
+    match kind {
+        CommandKind::Check => true,
+        CommandKind::Launch => true,
+        CommandKind::World => steps || is_refusal(status_of(line)),
+        CommandKind::Other => steps || is_refusal(status_of(line)),
+    }
+}
+
 impl Command {
     /// The command of these words, before its run. The steps of one node are never told.
     pub fn new(alloc: Global, words: Vec<String>, steps: bool, keeps: bool) -> Command
@@ -86,8 +130,8 @@ impl Command {
         ensures output { self.new.output ≡ self.old.output }
         ensures input { IsReadAgain (A.again from.now) self.old self.new }
     {
-        let (name, line) = (command_name(&self.words), last_line(&self.output.bytes));
-        if !self.input.keeps && needs_input(self.steps, name, line) {
+        let (kind, line) = (kind_of(&self.words), last_line(&self.output.bytes));
+        if !self.input.keeps && needs_input(self.steps, kind, line) {
             self.input.bytes = from.read_again(MOST_INPUT);
         }
     }

@@ -1,8 +1,8 @@
 //! How the nodes of a launch ended.
 
-ghost use Rattle.std.specs.Prelude.{◌≡◌, ◌++◌, ◌==◌, Bool, IfOk, OnOk, Some, string_bytes};
+ghost use Rattle.std.specs.Prelude.{◌≡◌, ◌++◌, ◌==◌, IfOk, OnOk, string_bytes};
 ghost use Rattle.std.specs.List.{flat_map};
-ghost use Rattle.run_report.specs.Ends.{end_line, end_told, ended_line, ends_text, is_told, status_name};
+ghost use Rattle.run_report.specs.Ends.{end_told, ended_line, ends_text, is_told, status_name};
 
 use std::alloc::{AllocError, Global};
 
@@ -61,10 +61,15 @@ pub(crate) fn is_told(stuck: bool, code: Option<u8>) -> bool
     }
 }
 
-/// Adds the line of how a node ended.
-fn add_end_line(text: &mut String, node: &EndedNode) -> Result<(), AllocError>
-    ensures { OnOk result (string_bytes text.new ≡ string_bytes text.old ++ end_line node.now) }
+/// Adds the line of how a node ended, if it is told of.
+#[tactic(auto, unfolding(crate::specs::Ends::end_told))]
+fn add_end(text: &mut String, node: &EndedNode, stuck: bool) -> Result<(), AllocError>
+    ensures { OnOk result (string_bytes text.new
+        ≡ string_bytes text.old ++ end_told stuck node.now) }
 {
+    if !is_told(stuck, node.code) {
+        return Ok(());
+    }
     let rank = node.rank;
     match node.code {
         Some(code) => add_ended_line(text, rank, code),
@@ -73,18 +78,6 @@ fn add_end_line(text: &mut String, node: &EndedNode) -> Result<(), AllocError>
             write!(text, "ended {rank} {how}\n")
         }
     }
-}
-
-/// Adds the line of how a node ended, if it is told of.
-#[tactic(auto, unfolding(crate::specs::Ends::end_told))]
-fn add_end(text: &mut String, node: &EndedNode, stuck: bool) -> Result<(), AllocError>
-    ensures { OnOk result (string_bytes text.new
-        ≡ string_bytes text.old ++ end_told stuck node.now) }
-{
-    if is_told(stuck, node.code) {
-        return add_end_line(text, node);
-    }
-    Ok(())
 }
 
 /// Adds the lines of the nodes that are told of.

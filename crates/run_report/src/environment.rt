@@ -3,12 +3,15 @@
 ghost use Rattle.std.specs.Prelude.{◌≡◌, Bool, IfOk, List, ℕ, Ok, Option, Result, String, codes, string_bytes};
 ghost use Rattle.std.specs.Global.{Global};
 ghost use Rattle.std.specs.declared.alloc.AllocError.{AllocError};
-ghost use Rattle.run_report.specs.Environment.{AreHosts, FilesText, IsHosts, IsHostsFile, IsKey, IsKeyText, IsSecret, IsSetOne};
+ghost use Rattle.run_report.specs.Environment.{AreHosts, IsHosts, IsHostsFile, IsKey, IsKeyText, IsSecret, IsSetOne};
 ghost use Rattle.run_report.specs.declared.environment.KeyFile.{KeyFile};
 ghost use Rattle.run_report.specs.declared.settings.Refusal.{Refusal};
 
-use crate::settings::{Refusal, is_one, is_private, secret_of};
+use crate::settings::{Refusal, is_one, secret_of};
 use std::alloc::{AllocError, Global};
+
+/// The bits of a file's mode by which others than its owner may use it.
+const OTHERS: u32 = 0o077;
 
 /// A file of a key.
 #[derive(Drop)]
@@ -68,23 +71,16 @@ pub struct SettingsTold {
     pub steps: bool,
 }
 
-/// The text of a file of hosts.
-fn file_text<E: Environment>(from: &E, path: &str) -> Result<Option<String>, Refusal>
-    ensures { IfOk result (FilesText (E.lists from.now) path.now) }
-{
-    match from.hosts_text(path) {
-        Some(text) => Ok(Some(text)),
-        None => Err(Refusal::NoHostsFile),
-    }
-}
-
 /// The text of the hosts by `GASNET_HOSTS_FILE`.
 fn hosts_by_file<E: Environment>(from: &E) -> Result<Option<String>, Refusal>
     ensures { IfOk result (IsHostsFile (E.sets from.now) (E.lists from.now)) }
 {
-    match from.value("GASNET_HOSTS_FILE")? {
-        Some(path) => file_text(from, path.as_str()),
-        None => Ok(None),
+    let Some(path) = from.value("GASNET_HOSTS_FILE")? else {
+        return Ok(None);
+    };
+    match from.hosts_text(path.as_str()) {
+        Some(text) => Ok(Some(text)),
+        None => Err(Refusal::NoHostsFile),
     }
 }
 
@@ -126,7 +122,7 @@ fn key_text<E: Environment>(from: &E, path: &str) -> Result<String, Refusal>
     let Some(file) = from.key_file(path) else {
         return Err(Refusal::NoKeyFile);
     };
-    if !is_private(file.mode) {
+    if file.mode & OTHERS != 0 {
         return Err(Refusal::OpenKeyFile);
     }
     match file.text {
@@ -154,14 +150,6 @@ fn secret_told<E: Environment>(from: &E) -> Result<Option<[u8; 32]>, Refusal>
     }
 }
 
-/// Whether `GASNET_STEPS` is 1.
-fn steps_told<E: Environment>(from: &E) -> Result<bool, Refusal>
-    ensures { IfOk result (IsSetOne (E.sets from.now)) }
-{
-    let value = from.value("GASNET_STEPS")?;
-    Ok(is_one(&value))
-}
-
 /// What the environment sets beside the hosts.
 ///
 /// # Errors
@@ -177,7 +165,7 @@ pub fn settings_told<E: Environment>(from: &E) -> Result<SettingsTold, Refusal>
     let secret = secret_told(from)?;
     let agent = from.value("GASNET_AGENT")?;
     let folder = from.value("GASNET_KEEP")?;
-    let steps = steps_told(from)?;
+    let steps = is_one(&from.value("GASNET_STEPS")?);
     Ok(SettingsTold {
         secret,
         agent,

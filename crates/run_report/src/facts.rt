@@ -1,7 +1,7 @@
 //! What the system kept of a run, and what is told of it.
 
 ghost use Rattle.std.specs.Prelude.{◌≡◌, IfOk, ℕ, Option, string_bytes};
-ghost use Rattle.run_report.specs.Facts.{GivesEnded, IsBindText, IsDroppedText, IsEndedNode, IsEndsText, IsLinkText, IsSocketText, IsStartText, bind_text, dropped_text, others_told, small_code, start_line, strays_told};
+ghost use Rattle.run_report.specs.Facts.{GivesEnded, IsBindText, IsDroppedText, IsEndedNode, IsEndsText, IsLinkText, IsSocketText, IsStartText, bind_text, others_told, small_code, start_line, strays_told};
 ghost use Rattle.run_report.specs.Gathering.{GivesTo};
 ghost use Rattle.run_report.specs.declared.facts.ChildSeen.{ChildSeen};
 
@@ -89,16 +89,6 @@ fn others_told(alloc: Global, address: &str, others: u64, last: u64) -> Result<S
     )
 }
 
-/// How many datagrams were dropped at the address of this text.
-fn dropped_at(alloc: Global, address: &str, facts: Facts) -> Result<String, AllocError>
-    ensures { IfOk result (λ text. string_bytes text ≡ dropped_text address.now facts) }
-{
-    let strays = strays_told(alloc, address, facts.strays)?;
-    let others = others_told(alloc, address, facts.others, facts.last)?;
-    let (first, second) = (strays.as_str(), others.as_str());
-    format!(in alloc; "{first}{second}")
-}
-
 /// How many datagrams were dropped, where there were any.
 ///
 /// # Errors
@@ -111,7 +101,10 @@ pub(crate) fn dropped_text(alloc: Global, facts: Facts) -> Result<String, AllocE
         return Ok(String::new(alloc));
     };
     let address = format!(in alloc; "{address}")?;
-    dropped_at(alloc, address.as_str(), facts)
+    let strays = strays_told(alloc, address.as_str(), facts.strays)?;
+    let others = others_told(alloc, address.as_str(), facts.others, facts.last)?;
+    let (first, second) = (strays.as_str(), others.as_str());
+    format!(in alloc; "{first}{second}")
 }
 
 /// Why an address can't be bound.
@@ -147,7 +140,7 @@ fn bound_text(alloc: Global, address: SocketAddr, code: i32) -> Result<String, A
     ensures { IfOk result (λ text. IsBindText (string_bytes text)) }
 {
     let address = format!(in alloc; "{address}")?;
-    let error = error_text(alloc, Some(code))?;
+    let error = error_text(alloc, code)?;
     let text = bind_text(alloc, address.as_str(), error.as_str())?;
     Ok(text)
 }
@@ -156,7 +149,7 @@ fn bound_text(alloc: Global, address: SocketAddr, code: i32) -> Result<String, A
 fn socket_text(alloc: Global, code: i32) -> Result<String, AllocError>
     ensures { IfOk result (λ text. IsSocketText (string_bytes text)) }
 {
-    let error = error_text(alloc, Some(code))?;
+    let error = error_text(alloc, code)?;
     let error = error.as_str();
     format!(in alloc; "the socket failed: {error}")
 }
@@ -180,7 +173,7 @@ pub(crate) fn start_text(alloc: Global, start: Option<(u16, i32)>) -> Result<Str
     let Some((rank, code)) = start else {
         return Ok(String::new(alloc));
     };
-    let error = error_text(alloc, Some(code))?;
+    let error = error_text(alloc, code)?;
     let text = start_line(alloc, rank, error.as_str())?;
     Ok(text)
 }

@@ -1,11 +1,12 @@
 //! What the outputs of the nodes of a run tell.
 
-ghost use Rattle.std.specs.Prelude.{◌≡◌, ◌++◌, ◌==◌, Bool, IfOk, OnOk, string_bytes};
+ghost use Rattle.std.specs.Prelude.{◌≡◌, ◌++◌, ◌==◌, IfOk, OnOk, string_bytes};
 ghost use Rattle.std.specs.List.{flat_map, list_any};
 ghost use Rattle.run_report.specs.Lines.{line_told};
-ghost use Rattle.run_report.specs.Findings.{blocked_told, counts_told, difference_told, fault_of, is_blocked, is_stuck, open_told, refused_line, refused_told, status_told};
+ghost use Rattle.run_report.specs.Findings.{blocked_told, difference_told, fault_of, is_blocked, is_stuck, open_told, refused_line, refused_told};
 
 use crate::ends::{add_ended_line, is_told};
+use crate::status::Ending;
 use std::alloc::{AllocError, Global};
 
 /// What the output of a node tells, by the replay of its trace.
@@ -55,14 +56,20 @@ pub fn refused_line(alloc: Global, rank: u16, turns: usize) -> Result<String, Al
 
 /// Adds how many turns of a node of a run that failed got what it refused, where there are any.
 #[tactic(auto, unfolding(crate::specs::Findings::refused_told))]
-fn add_refused(text: &mut String, failed: bool, node: NodeFinding) -> Result<(), AllocError>
+fn add_refused(text: &mut String, ending: Ending, node: NodeFinding) -> Result<(), AllocError>
     ensures { OnOk result (string_bytes text.new
-        ≡ string_bytes text.old ++ refused_told failed node) }
+        ≡ string_bytes text.old ++ refused_told ending node) }
 {
-    if failed && node.refused != 0 {
-        return add_refused_line(text, node.rank, node.refused);
+    match ending {
+        Ending::Run => Ok(()),
+        Ending::NoRun => Ok(()),
+        Ending::Failed => {
+            if node.refused == 0 {
+                return Ok(());
+            }
+            add_refused_line(text, node.rank, node.refused)
+        }
     }
-    Ok(())
 }
 
 /// Adds how many requests of a node aren't back, where there are any.
@@ -75,15 +82,6 @@ fn add_open(text: &mut String, node: NodeFinding) -> Result<(), AllocError>
         return write!(text, "open {rank} {open}\n");
     }
     Ok(())
-}
-
-/// Adds what is counted of a node.
-fn add_counts(text: &mut String, failed: bool, node: NodeFinding) -> Result<(), AllocError>
-    ensures { OnOk result (string_bytes text.new
-        ≡ string_bytes text.old ++ counts_told failed node) }
-{
-    add_refused(text, failed, node)?;
-    add_open(text, node)
 }
 
 /// What is wrong with the status that a node told, by the replay of its trace. Empty where nothing
@@ -149,23 +147,11 @@ pub(crate) fn has_stuck(nodes: &[NodeFinding]) -> bool
     nodes.iter().any(|node| node.status == 9)
 }
 
-/// Adds the status that a node ended with, if it is told of.
-#[tactic(auto, unfolding(crate::specs::Findings::status_told))]
-fn add_status(text: &mut String, stuck: bool, node: NodeFinding) -> Result<(), AllocError>
-    ensures { OnOk result (string_bytes text.new
-        ≡ string_bytes text.old ++ status_told stuck node) }
-{
-    if is_told(stuck, Some(node.status)) {
-        return add_ended_line(text, node.rank, node.status);
-    }
-    Ok(())
-}
-
 /// What is told of each node.
 #[derive(Clone, Copy)]
 pub(crate) enum NodeLine {
-    /// What is counted of it, of a run that failed or not.
-    Counts(bool),
+    /// What is counted of it, of a run that ended so.
+    Counts(Ending),
     /// That its status isn't what the replay of its trace has.
     Difference,
     /// Where the replay of its trace stops.
@@ -175,14 +161,23 @@ pub(crate) enum NodeLine {
 }
 
 /// Adds what is told of a node.
+#[tactic(auto, unfolding(crate::specs::Findings::status_told))]
 fn add_line(text: &mut String, told: NodeLine, node: NodeFinding) -> Result<(), AllocError>
     ensures { OnOk result (string_bytes text.new ≡ string_bytes text.old ++ line_told told node) }
 {
     match told {
-        NodeLine::Counts(failed) => add_counts(text, failed, node),
+        NodeLine::Counts(ending) => {
+            add_refused(text, ending, node)?;
+            add_open(text, node)
+        }
         NodeLine::Difference => add_difference(text, node),
         NodeLine::Blocked => add_blocked(text, node),
-        NodeLine::Status(stuck) => add_status(text, stuck, node),
+        NodeLine::Status(stuck) => {
+            if !is_told(stuck, Some(node.status)) {
+                return Ok(());
+            }
+            add_ended_line(text, node.rank, node.status)
+        }
     }
 }
 

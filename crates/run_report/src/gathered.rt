@@ -2,10 +2,11 @@
 
 ghost use Rattle.std.specs.Prelude.{IfOk, OnOk, string_bytes};
 ghost use Rattle.run_report.specs.Gathering.{GivesOne, GivesTo};
-ghost use Rattle.run_report.specs.Replays.{AddsSent, AreSent, AreSteps, AreWaits, IsFrontText};
+ghost use Rattle.run_report.specs.Replays.{AddsSent, AreSent, AreSteps, AreStepsAndWaits, AreWaits, IsFrontText};
 
 use crate::findings::NodeFinding;
 use crate::replays::Replays;
+use crate::status::Ending;
 use crate::texts::Texts;
 use crate::unsent::{Gap, SentMessage};
 use std::alloc::{AllocError, Global};
@@ -107,16 +108,33 @@ fn waits_of<T: Texts, R: Replays>(
 }
 
 /// The steps of the nodes that ended, and those that their threads wait for.
-pub(crate) fn front_text<T: Texts, R: Replays>(
+fn steps_and_waits<T: Texts, R: Replays>(
     alloc: Global,
     job: &[u8],
     replays: &R,
 ) -> Result<String, AllocError>
-    ensures { IfOk result (λ text. IsFrontText T.Texts R.Replays job.now replays.now
+    ensures { IfOk result (λ text. AreStepsAndWaits T.Texts R.Replays job.now replays.now
         (string_bytes text)) }
 {
     let steps = steps_of::<T, R>(alloc, job, replays)?;
     let waits = waits_of::<T, R>(alloc, job, replays)?;
     let (first, second) = (steps.as_str(), waits.as_str());
     format!(in alloc; "{first}{second}")
+}
+
+/// Where there is no run, the steps of the nodes that ended, and those that their threads wait for.
+pub(crate) fn front_text<T: Texts, R: Replays>(
+    alloc: Global,
+    ending: Ending,
+    job: &[u8],
+    replays: &R,
+) -> Result<String, AllocError>
+    ensures { IfOk result (λ text. IsFrontText T.Texts R.Replays ending job.now replays.now
+        (string_bytes text)) }
+{
+    match ending {
+        Ending::Run => Ok(String::new(alloc)),
+        Ending::NoRun => steps_and_waits::<T, R>(alloc, job, replays),
+        Ending::Failed => steps_and_waits::<T, R>(alloc, job, replays),
+    }
 }

@@ -4,8 +4,8 @@
 //! by a definition in `specs/`. Where memory runs out nothing is told. What is proved:
 //!
 //! - `tell_after` [`TellsAfter`]: all that is told after a run, in order, or less where memory ran out: what was dropped
-//!   (`IsDroppedText`), what the outputs of nodes tell (`IsFindingsText`), how the nodes of a launch ended (`IsEndsText`),
-//!   the steps, and why the run went wrong (`IsFaultText`), by the last line that it wrote (`last_line` [`IsLastLine`]).
+//!   (`IsDroppedText`), what the outputs of nodes tell (`IsToldBy`), how the nodes of a launch ended (`IsEndsText`),
+//!   the steps, and why the run went wrong (`IsFaultOf`), by the last line that it wrote (`last_line` [`IsLastLine`]).
 //! - What the outputs of nodes tell stands part by part in order: the requests that aren't back, a status that isn't what
 //!   the trace has, where replays stop, and the entries that got what no node sent (`gaps_text`): those that are causes,
 //!   or all. It is told of the replays (`Replays`) that were given, place by place (`GivesTo`).

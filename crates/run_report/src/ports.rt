@@ -1,8 +1,7 @@
 //! The blocks of ports of which a launch without a port takes one.
 
 ghost use Rattle.std.specs.Prelude.{◌≡◌, ◌+◌, ◌*◌, ◌%◌, ◌<◌, IfOk, MatchOption, ℕ, Option, Some, None, decimal, option_map, string_bytes};
-ghost use Rattle.std.specs.Bool.{MatchBool};
-ghost use Rattle.run_report.specs.Ports.{AreFree, ArePorts, HasNone, IsBlock, block_port, ports_line};
+ghost use Rattle.run_report.specs.Ports.{ArePorts, HasNone, IsBlock, block_port, ports_line};
 
 use std::alloc::{AllocError, Global};
 
@@ -47,20 +46,6 @@ fn block_port(number: u32, place: u16) -> u16
     10_023 + 257 * (block as u16)
 }
 
-/// Whether the ports behind the first one of a block are free.
-fn are_free<P: Ports>(from: &P, first: u16) -> bool
-    requires { first < 65000 }
-    ensures { MatchBool result (AreFree (P.holds from.now) first) (HasNone (P.holds from.now) first) }
-{
-    for place in 1..BLOCK {
-        match from.hold(first + place) {
-            Some(held) => drop(held),
-            None => return false,
-        }
-    }
-    true
-}
-
 /// The ports of the block of this first port, if all of them are free.
 fn block<P: Ports>(from: &P, first: u16) -> Option<FreePorts<P::Held>>
     requires { first < 65000 }
@@ -68,8 +53,11 @@ fn block<P: Ports>(from: &P, first: u16) -> Option<FreePorts<P::Held>>
         (IsBlock (P.holds from.now) first) }
 {
     let held = from.hold(first)?;
-    if !are_free(from, first) {
-        return None;
+    for place in 1..BLOCK {
+        match from.hold(first + place) {
+            Some(held) => drop(held),
+            None => return None,
+        }
     }
     let port = first + 1;
     Some(FreePorts { port, held })

@@ -1,41 +1,37 @@
 //! What is told after the run of a command, by what is kept of it.
 
-ghost use Rattle.std.specs.Prelude.{◌≡◌, Bool, IfOk, List, ℕ, string_bytes};
-ghost use Rattle.run_report.specs.Command.{name_of};
+ghost use Rattle.std.specs.Prelude.{◌≡◌, IfOk, string_bytes};
 ghost use Rattle.run_report.specs.Facts.{IsDroppedText, IsEndsText, IsLinkText, IsStartText};
-ghost use Rattle.run_report.specs.Ran.{AreParts, AreReplays, IsFaultBy, IsFaultOf, IsFindings, IsFindingsBy, IsJudged, IsOrNothing, IsStepsOf, IsToldAfter, TellsAfter, IsToldEnding, IsToldOf, is_told_of, made_or_nothing};
+ghost use Rattle.run_report.specs.Ran.{AreReplays, IsFindings, IsFindingsBy, IsOrNothing, IsStepsOf, IsToldAfter, IsToldEnding, IsToldOf, TellsAfter, made_or_nothing};
 
-use crate::causes::{FaultParts, error_text, fault_text, steps_text};
-use crate::command::{Command, command_name};
+use crate::causes::fault_of;
+use crate::command::{Command, CommandKind, kind_of};
 use crate::counted::KeptOutput;
 use crate::facts::{Children, Facts, children_text, dropped_text, link_text, start_text};
+use crate::gathered::findings_of;
 use crate::replays::Replays;
-use crate::report::{Judged, findings_text};
-use crate::status::{Ending, ending_of, last_line};
+use crate::report::{Judged, told_by};
+use crate::status::{Ending, ending_of, last_line, status_of};
 use crate::telling::{After, Tells, after_text, tell_made};
 use crate::texts::Texts;
 use std::alloc::{AllocError, Global};
 
-/// Whether a command is told of by the outputs of its nodes.
-fn is_told_of(name: &str) -> bool
-    ensures { result ≡ is_told_of name.now }
-{
-    name == "check" || name == "launch"
-}
-
 /// How a run of `check` or `launch` ended. None where there is nothing to tell, and of other
 /// commands.
 fn told_ending(command: &Command) -> Option<Ending>
-    ensures { IsToldEnding (name_of command.now.words.items) command.now.output.bytes.items result }
+    ensures { IsToldEnding command.now result }
 {
     let line = last_line(&command.output.bytes);
-    if is_told_of(command_name(&command.words)) {
-        return ending_of(line);
+    match kind_of(&command.words) {
+        CommandKind::Check => ending_of(status_of(line)),
+        CommandKind::Launch => ending_of(status_of(line)),
+        CommandKind::World => None,
+        CommandKind::Other => None,
     }
-    None
 }
 
-/// The steps beside their answers, where that is asked for.
+/// The steps beside their answers, where that is asked for: each step of the nodes, or each line of
+/// the schedule.
 fn steps_of<T: Texts>(alloc: Global, command: &Command) -> Result<String, AllocError>
     ensures { IfOk result (λ text. IsStepsOf T.Texts command.now (string_bytes text)) }
 {
@@ -43,97 +39,28 @@ fn steps_of<T: Texts>(alloc: Global, command: &Command) -> Result<String, AllocE
         return Ok(String::new(alloc));
     }
     let (input, output) = (&command.input.bytes, &command.output.bytes);
-    steps_text::<T>(alloc, command_name(&command.words), input, output)
-}
-
-/// Texts of why a part of a run failed, empty where there is nothing to tell.
-#[derive(Clone, Copy)]
-struct Errors<'a> {
-    /// The system's error of standard output.
-    output: &'a str,
-    /// The system's error of standard input.
-    input: &'a str,
-    /// Why the link failed.
-    link: &'a str,
-    /// Which child couldn't be started, and why.
-    start: &'a str,
-}
-
-/// What is known of a run that went wrong, by these errors.
-fn parts_of<'a>(command: &'a Command, errors: &Errors<'a>) -> FaultParts<'a>
-    ensures { AreParts command.now errors.now.output.now errors.now.input.now errors.now.link.now
-        errors.now.start.now result }
-{
-    FaultParts {
-        output_failed: command.output.failed,
-        output_error: errors.output,
-        line: last_line(&command.output.bytes),
-        words: &command.words,
-        input: &command.input.bytes,
-        input_error: errors.input,
-        link: errors.link,
-        start: errors.start,
+    match kind_of(&command.words) {
+        CommandKind::Check => T::steps_told(alloc, input, output),
+        CommandKind::Launch => T::steps_told(alloc, input, output),
+        CommandKind::World => T::lines_told(alloc, input, output),
+        CommandKind::Other => Ok(String::new(alloc)),
     }
-}
-
-/// Why the run went wrong, by these errors.
-fn fault_by_errors<T: Texts>(
-    alloc: Global,
-    command: &Command,
-    errors: &Errors<'_>,
-) -> Result<String, AllocError>
-    ensures { IfOk result (λ text. IsFaultBy T.Texts command.now errors.now.output.now
-        errors.now.input.now errors.now.link.now errors.now.start.now (string_bytes text)) }
-{
-    let parts = parts_of(command, errors);
-    fault_text::<T>(alloc, &parts)
-}
-
-/// Why the run went wrong.
-fn fault_of<T: Texts>(
-    alloc: Global,
-    command: &Command,
-    link: &str,
-    start: &str,
-) -> Result<String, AllocError>
-    ensures { IfOk result (λ text. IsFaultOf T.Texts command.now link.now start.now
-        (string_bytes text)) }
-{
-    let output = error_text(alloc, command.output.fault)?;
-    let input = error_text(alloc, command.input.fault)?;
-    let errors = Errors {
-        output: output.as_str(),
-        input: input.as_str(),
-        link,
-        start,
-    };
-    let text = fault_by_errors::<T>(alloc, command, &errors)?;
-    Ok(text)
 }
 
 /// The replays of what the nodes of a command gave: of a check what it read, else these outputs.
 fn replays_of<R: Replays>(
     alloc: Global,
-    command: &Command,
+    kind: CommandKind,
+    input: &[u8],
     outputs: Vec<KeptOutput>,
 ) -> Result<R, AllocError>
-    ensures { IfOk result (AreReplays R.Replays command.now outputs.items) }
+    ensures { IfOk result (AreReplays R.Replays kind input.now outputs.items) }
 {
-    let input = &command.input.bytes;
-    if command_name(&command.words) == "check" {
-        return R::of_input(alloc, input);
-    }
-    R::of_outputs(alloc, input, outputs)
-}
-
-/// A run of a command that ended so.
-fn judged_of(command: &Command, ending: Ending) -> Judged<'_>
-    ensures { IsJudged command.now ending result }
-{
-    Judged {
-        ending,
-        is_check: command_name(&command.words) == "check",
-        job: &command.input.bytes,
+    match kind {
+        CommandKind::Check => R::of_input(alloc, input),
+        CommandKind::Launch => R::of_outputs(alloc, input, outputs),
+        CommandKind::World => R::of_outputs(alloc, input, outputs),
+        CommandKind::Other => R::of_outputs(alloc, input, outputs),
     }
 }
 
@@ -147,9 +74,11 @@ fn findings_by<T: Texts, R: Replays>(
     ensures { IfOk result (λ text. IsFindingsBy T.Texts R.Replays command.now ending outputs.items
         (string_bytes text)) }
 {
-    let replays = replays_of::<R>(alloc, command, outputs)?;
-    let judged = judged_of(command, ending);
-    let text = findings_text::<T, R>(alloc, judged, &replays)?;
+    let (kind, job) = (kind_of(&command.words), &command.input.bytes);
+    let replays = replays_of::<R>(alloc, kind, job, outputs)?;
+    let nodes = findings_of(alloc, &replays)?;
+    let judged = Judged { ending, kind };
+    let text = told_by::<T, R>(alloc, judged, job, &nodes, &replays)?;
     Ok(text)
 }
 

@@ -1,6 +1,6 @@
 //! What the environment sets, by what the system tells of it.
 
-ghost use Rattle.std.specs.Prelude.{◌≡◌, ◌==◌, Bool, IfErr, IfOk, Ok, is_ok, bit_and};
+ghost use Rattle.std.specs.Prelude.{◌≡◌, IfErr, IfOk, Ok, is_ok};
 ghost use Rattle.run_report.specs.declared.settings.Refusal.TheVariants.{NoKey};
 ghost use Rattle.hex.specs.Hex.{decode_sized};
 ghost use Rattle.run_report.specs.Settings.{IsValue, is_one, refusal_code, refusal_line, refusal_text};
@@ -8,9 +8,6 @@ ghost use Rattle.run_report.specs.Settings.{IsValue, is_one, refusal_code, refus
 use hex::FromHex;
 use std::alloc::AllocError;
 use std::env::VarError;
-
-/// The bits of a file's mode by which others than its owner may use it.
-const OTHERS: u32 = 0o077;
 
 /// Why what the environment sets is refused.
 #[derive(Clone, Copy)]
@@ -105,13 +102,6 @@ pub fn is_one(value: &Option<String>) -> bool
         Some(text) => text.as_str() == "1",
         None => false,
     }
-}
-
-/// Whether no other than its owner may use a file of this mode.
-pub(crate) fn is_private(mode: u32) -> bool
-    ensures { result ≡ (bit_and mode 63 == 0) }
-{
-    mode & OTHERS == 0
 }
 
 /// The bytes of a key, by its 64 digits.

@@ -1,7 +1,7 @@
 //! The last line of what a command wrote, and what it says.
 
-ghost use Rattle.std.specs.Prelude.{◌≡◌, ◌<◌, IfSome, length};
-ghost use Rattle.run_report.specs.Status.{IsEnd, IsLastLine, IsStart, ending_of, needs_input, space_at, word_of};
+ghost use Rattle.std.specs.Prelude.{◌≡◌, ◌≤◌};
+ghost use Rattle.run_report.specs.Status.{IsEnd, IsLastLine, IsStart, digit, ending_of, is_refusal, number_at, status_of};
 
 /// How a run ended whose nodes' outputs are told of.
 #[derive(Clone, Copy)]
@@ -49,56 +49,66 @@ pub(crate) fn last_line(bytes: &[u8]) -> &[u8]
     line
 }
 
-/// The place of the first space.
-fn space_at(text: &[u8]) -> Option<usize>
-    ensures within { IfSome result (λ place. place < length text.now) }
-    ensures place { result ≡ space_at text.now }
+/// The number that a digit makes behind so many tens. None where the byte is no digit.
+fn digit(tens: u8, byte: u8) -> Option<u8>
+    requires { tens ≤ 10 }
+    ensures { result ≡ digit tens byte }
 {
-    text.iter().position(|byte| *byte == b' ')
-}
-
-/// The bytes before the first space, or all of them.
-#[tactic(auto, unfolding(crate::specs::Status::word_of))]
-fn word_of(text: &[u8]) -> &[u8]
-    ensures { result.now ≡ word_of text.now }
-{
-    match space_at(text) {
-        Some(place) => {
-            let (word, _) = text.split_at(place);
-            word
-        }
-        None => text,
+    if byte < b'0' || byte > b'9' {
+        return None;
     }
+    Some(tens + (byte - b'0'))
 }
 
-/// How the run of this status line ended. None where there is nothing to tell.
-pub(crate) fn ending_of(line: &[u8]) -> Option<Ending>
-    ensures { result ≡ ending_of line.now }
+/// The number at the front of what stands behind `status `: a digit before a space, or a 1 and a
+/// digit.
+fn number_at(text: &[u8]) -> Option<u8>
+    ensures { result ≡ number_at text.now }
 {
-    if !line.starts_with(b"status ") {
+    let (first, behind) = text.split_first()?;
+    let (second, _) = behind.split_first()?;
+    if *second == b' ' {
+        return digit(0, *first);
+    }
+    if *first == b'1' {
+        return digit(10, *second);
+    }
+    None
+}
+
+/// The status that a line tells. None where it is no status line.
+#[tactic(auto, unfolding(crate::specs::Status::status_of))]
+pub(crate) fn status_of(line: &[u8]) -> Option<u8>
+    ensures { result ≡ status_of line.now }
+{
+    if !line.starts_with("status ".as_bytes()) {
         return None;
     }
     let (_, behind) = line.split_at(7);
-    let word = word_of(behind);
-    if word == b"0".as_slice() || word == b"1".as_slice() {
-        Some(Ending::Run)
-    } else if word == b"11".as_slice() {
-        Some(Ending::NoRun)
-    } else if word == b"7".as_slice() || word == b"12".as_slice() {
-        Some(Ending::Failed)
-    } else {
-        None
+    number_at(behind)
+}
+
+/// How a run with this status ended. None where there is nothing to tell of its nodes' outputs.
+pub(crate) fn ending_of(status: Option<u8>) -> Option<Ending>
+    ensures { result ≡ ending_of status }
+{
+    match status {
+        Some(0) => Some(Ending::Run),
+        Some(1) => Some(Ending::Run),
+        Some(7) => Some(Ending::Failed),
+        Some(11) => Some(Ending::NoRun),
+        Some(12) => Some(Ending::Failed),
+        _ => None,
     }
 }
 
-/// Whether what was read is needed to tell of the run of this command: each step, what nodes tell,
-/// or why words or a job are refused.
-pub(crate) fn needs_input(steps: bool, name: &str, line: &[u8]) -> bool
-    ensures { result ≡ needs_input steps name.now line.now }
+/// Whether words or a job are refused with this status.
+pub(crate) fn is_refusal(status: Option<u8>) -> bool
+    ensures { result ≡ is_refusal status }
 {
-    steps
-        || name == "check"
-        || name == "launch"
-        || line.starts_with(b"status 2 ")
-        || line.starts_with(b"status 3 ")
+    match status {
+        Some(2) => true,
+        Some(3) => true,
+        _ => false,
+    }
 }

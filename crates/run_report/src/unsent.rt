@@ -2,7 +2,7 @@
 
 ghost use Rattle.std.specs.Prelude.{◌≡◌, ◌++◌, ◌==◌, Bool, OnOk, Some, MatchOption, find, string_bytes};
 ghost use Rattle.std.specs.List.{flat_map, list_any};
-ghost use Rattle.run_report.specs.Unsent.{entries_from, gap_at, gap_end, gap_line, gap_told, gaps_text, has_cause, is_alike, is_cause, is_message, is_otherwise, is_searched, message_told, message_word, sent_otherwise, told_of_sender};
+ghost use Rattle.run_report.specs.Unsent.{gap_at, gap_end, gap_line, gap_told, gaps_text, has_cause, is_alike, is_cause, is_message, is_otherwise, is_searched, message_told, message_word, sent_otherwise, told_of_sender};
 
 use crate::findings::NodeFinding;
 use std::alloc::AllocError;
@@ -47,23 +47,16 @@ pub struct SentMessage {
     pub message: Option<Message>,
 }
 
-/// How many entries these nodes have, at most 2^64 - 1.
-fn entries_of(nodes: &[NodeFinding]) -> usize
-    ensures { result ≡ entries_from 0 nodes.now }
-{
-    let mut entries = 0usize;
-    for node in nodes {
-        entries = entries.saturating_add(node.entries);
-    }
-    entries
-}
-
 /// Whether what no node sent is looked for: it isn't where that takes too many comparisons, of each
 /// entry with each datagram that was sent.
 pub(crate) fn is_searched(nodes: &[NodeFinding], sent: &[SentMessage]) -> bool
     ensures { result ≡ is_searched nodes.now sent.now }
 {
-    entries_of(nodes).saturating_mul(sent.len()) <= MOST
+    let mut entries = 0usize;
+    for node in nodes {
+        entries = entries.saturating_add(node.entries);
+    }
+    entries.saturating_mul(sent.len()) <= MOST
 }
 
 /// Whether both are requests, or both are none.
@@ -228,22 +221,6 @@ fn add_gap(
     Ok(())
 }
 
-/// Adds the lines of the gaps that are causes, or of all where no one is.
-fn add_gap_lines(
-    text: &mut String,
-    gaps: &[Gap],
-    sent: &[SentMessage],
-    all: bool,
-) -> Result<(), AllocError>
-    ensures { OnOk result (string_bytes text.new
-        ≡ string_bytes text.old ++ flat_map (gap_told gaps.now sent.now all) gaps.now) }
-{
-    for gap in gaps {
-        add_gap(text, gaps, sent, *gap, all)?;
-    }
-    Ok(())
-}
-
 /// Adds of each node the first entry that got what no node sent to it: of those that aren't mere
 /// consequences of others, or of all, where all may be such. Where there is none, and no replay
 /// stopped, that is told.
@@ -264,5 +241,9 @@ pub(crate) fn add_gaps(
         let told = "each datagram was sent, but one or more were got before they were sent\n";
         return text.push_str(told);
     }
-    add_gap_lines(text, gaps, sent, !has_cause(gaps, sent))
+    let all = !has_cause(gaps, sent);
+    for gap in gaps {
+        add_gap(text, gaps, sent, *gap, all)?;
+    }
+    Ok(())
 }

@@ -1,6 +1,6 @@
 use Rattle.std.proofs.Common.{◌≡◌, drop}
 use Rattle.run_report.specs.Unsent.{entries_from}
-use Rattle.run_report.proofs.unsent.entries_of.Given as goal
+use Rattle.run_report.proofs.unsent.is_searched.Given as goal
 
 -- the entries so far and those of the others
 abbrev pub invariant-loop-node : goal.invariant-loop-node

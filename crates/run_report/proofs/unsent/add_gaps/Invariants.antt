@@ -2,7 +2,7 @@ use Rattle.std.proofs.Common.{◌≡◌, ◌++◌, take}
 use Rattle.std.specs.String.{string_bytes}
 use Rattle.std.specs.List.{flat_map}
 use Rattle.run_report.specs.Unsent.{gap_told}
-use Rattle.run_report.proofs.unsent.add_gap_lines.Given as goal
+use Rattle.run_report.proofs.unsent.add_gaps.Given as goal
 
 -- the lines of the gaps so far were added
 abbrev pub invariant-loop-gap : goal.invariant-loop-gap

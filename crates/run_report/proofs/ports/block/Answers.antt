@@ -2,7 +2,7 @@
 use Rattle.std.proofs.Common.{ℕ, ◌+◌, ◌<◌}
 use Rattle.run_report.proofs.Gathering.{below_more}
 use Rattle.run_report.specs.Ports.{IsFree}
-use Rattle.run_report.proofs.ports.are_free.Goals as goal
+use Rattle.run_report.proofs.ports.block.Goals as goal
 
 pub loop-place-preserved : goal.loop-place-preserved
 loop-place-preserved g c = λ place positive within.

@@ -1,5 +1,5 @@
 use Rattle.run_report.specs.Ports.{AreFreeTo}
-use Rattle.run_report.proofs.ports.are_free.Given as goal
+use Rattle.run_report.proofs.ports.block.Given as goal
 
 -- the ports so far were found free
 abbrev pub invariant-loop-place : goal.invariant-loop-place
