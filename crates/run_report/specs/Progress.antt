@@ -5,11 +5,11 @@ use Rattle.run_report.specs.declared.progress.Counter.{Counter}
 use Rattle.run_report.specs.declared.progress.Counter.TheVariants as counters
 
 -- the place of what is counted, from 0 on
-abbrev pub place_of : Counter → ℕ
-place_of counters.Read = 0
-place_of counters.Lines = 1
-place_of counters.Started = 2
-place_of counters.Ended = 3
+abbrev pub counter_place : Counter → ℕ
+counter_place counters.Read = 0
+counter_place counters.Lines = 1
+counter_place counters.Started = 2
+counter_place counters.Ended = 3
 
 -- by what counters were found to have
 pub record AreCounted (counted : Counter → ℕ → Type 0) (all : Counted) : Type 0 where

@@ -1,7 +1,7 @@
 //! What is shown of what a command is at.
 
 ghost use Rattle.std.specs.Prelude.{◌≡◌, ◌<◌, IfOk, string_bytes};
-ghost use Rattle.run_report.specs.Progress.{is_shown_at, nodes_told, place_of, progress_line, streams_told};
+ghost use Rattle.run_report.specs.Progress.{counter_place, is_shown_at, nodes_told, progress_line, streams_told};
 
 use std::alloc::{AllocError, Global};
 
@@ -34,7 +34,7 @@ pub enum Counter {
 impl Counter {
     /// Its place among the four, from 0 on.
     pub fn place(self) -> usize
-        ensures place { result ≡ place_of self }
+        ensures place { result ≡ counter_place self }
         ensures within { result < 4 }
     {
         match self {
