@@ -6,13 +6,11 @@ use Rattle.gas_outside.specs.declared.sink.Sink.{Ghosts as SinkGhosts}
 use Rattle.gas_outside.specs.declared.link.Link.{Ghosts as LinkGhosts}
 use Rattle.gas_outside.specs.declared.spawner.Spawner.{Ghosts as SpawnerGhosts}
 use Rattle.gas_outside.specs.declared.clock.Clock.{Ghosts as ClockGhosts}
-use Rattle.launch_run.specs.Children.{spawner_seen}
-use Rattle.node_call.specs.Seen.{devices_seen}
 use Rattle.text_lines.specs.Lines.{Word}
 use Rattle.top_call.specs.Commands.{IsAsked, code_of}
 use Rattle.top_call.specs.HowEnds.{EndMeans}
-use Rattle.top_call.specs.Outsides.{Call, Course, Spawning, call_of, course_in, course_with, given_with, reading_over}
-use Rattle.top_call.specs.Outsides.{seen, spawning_in, spawning_of, took_in}
+use Rattle.top_call.specs.Outsides.{Call, Course, Spawning, call_between, course_in, course_over, given_with, seen}
+use Rattle.top_call.specs.Outsides.{spawning_in, spawning_over, took_in}
 use Rattle.top_call.specs.TopCall.{IsSaid}
 use Rattle.top_call.specs.TopParts.{Closes, Ends, EndsAs, EndsBy, KeepsOutside, StandsOver, with_sink}
 use Rattle.top_call.specs.declared.ending.EndedCommand.{EndedCommand}
@@ -41,14 +39,11 @@ module _ {S K L P C G : Type 0} (sources : SourceGhosts S) (sinks : SinkGhosts K
   abbrev pub RanOver : (first last : Outside S (Gathering K) L P C G) → EndedCommand → Type 0
   RanOver first last ended =
       EndsAs asked
-      (course_with (reading_over sources.left sources.faults first.source last.source)
-      (devices_seen links clocks first.link first.clock) (devices_seen links clocks last.link last.clock))
-      (spawning_of (spawner_seen spawners first.spawner) (spawner_seen spawners last.spawner))
+      (course_over sources links clocks first last) (spawning_over spawners first.spawner last.spawner)
       (outbox sinks.taken sinks.faults first.sink) (outbox sinks.taken sinks.faults last.sink) ended
 
   abbrev pub call_over : (first last : Outside S K L P C G) → Given → Call
-  call_over first last given =
-      call_of words (seen sources sinks links spawners clocks first) (seen sources sinks links spawners clocks last) given
+  call_over first last given = call_between (seen sources sinks links spawners clocks) words first last given
 
   pub closed_call : (outside back : Outside S K L P C G) (first last : Outside S (Gathering K) L P C G) (ended : EndedCommand)
       (status : Status) → IsAsked words asked → StandsOver outside first → RanOver first last ended

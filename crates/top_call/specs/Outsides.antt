@@ -61,6 +61,10 @@ pub record Call : Type 0 where
 abbrev pub call_of : List Word → (before after : Seen) → Given → Call
 call_of words before after given = record { words = words; before = before; after = after; given = given }
 
+-- a call over a place of which so much is seen
+abbrev pub call_between : {Place : Type 0} → (see : Place → Seen) → List Word → (before after : Place) → Given → Call
+call_between see words before after given = call_of words (see before) (see after) given
+
 -- what a call gives besides its exit status
 abbrev pub given_with : Status → Given
 given_with status = record { world = status.world; node = status.node; nodes = status.nodes }
@@ -90,6 +94,13 @@ pub record Course : Type 0 where
 abbrev pub course_with : Reading → (before after : DevicesSeen) → Course
 course_with reading before after = record { reading = reading; before = before; after = after }
 
+-- that of an outside of any kind
+abbrev pub course_over : {S K L P C G : Type 0} → SourceGhosts S → LinkGhosts L → ClockGhosts C
+    → (before after : Outside S K L P C G) → Course
+course_over sources links clocks before after =
+    course_with (reading_over sources.left sources.faults before.source after.source)
+    (devices_seen links clocks before.link before.clock) (devices_seen links clocks after.link after.clock)
+
 -- that of a call
 abbrev pub course_in : Call → Course
 course_in call = course_with (read_in call) call.before.devices call.after.devices
@@ -101,6 +112,10 @@ pub record Spawning : Type 0 where
 
 abbrev pub spawning_of : (before after : SpawnerSeen) → Spawning
 spawning_of before after = record { before = before; after = after }
+
+-- that of a spawner of any kind
+abbrev pub spawning_over : {P : Type 0} → SpawnerGhosts P → (before after : P) → Spawning
+spawning_over spawners before after = spawning_of (spawner_seen spawners before) (spawner_seen spawners after)
 
 -- that of a call
 abbrev pub spawning_in : Call → Spawning

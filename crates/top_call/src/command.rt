@@ -1,9 +1,7 @@
 //! The commands that return whatever comes, by their words.
 
 ghost use Rattle.gas_outside.specs.Buffered.{outbox};
-ghost use Rattle.launch_run.specs.Children.{spawner_seen};
-ghost use Rattle.node_call.specs.Seen.{devices_seen};
-ghost use Rattle.top_call.specs.Outsides.{course_with, reading_over, spawning_of};
+ghost use Rattle.top_call.specs.Outsides.{course_over, spawning_over};
 ghost use Rattle.top_call.specs.TopParts.{EndsAs, IsNoNode};
 
 use crate::check::check_command;
@@ -28,11 +26,8 @@ pub fn returning_command<S: Source, K: Sink, L: Link, P: Spawner, C: Clock, G, N
 ) -> EndedCommand
     requires { IsNoNode asked }
     ensures { EndsAs asked
-        (course_with (reading_over S.left S.faults outside.old.source outside.new.source)
-        (devices_seen L.Link C.Clock outside.old.link outside.old.clock)
-        (devices_seen L.Link C.Clock outside.new.link outside.new.clock))
-        (spawning_of (spawner_seen P.Spawner outside.old.spawner)
-        (spawner_seen P.Spawner outside.new.spawner))
+        (course_over S.Source L.Link C.Clock outside.old outside.new)
+        (spawning_over P.Spawner outside.old.spawner outside.new.spawner)
         (outbox K.taken K.faults outside.old.sink) (outbox K.taken K.faults outside.new.sink)
         result }
 {

@@ -3,9 +3,8 @@
 ghost use Rattle.std.specs.Prelude.{◌≡◌};
 ghost use Rattle.gas_outside.specs.Buffered.{outbox};
 ghost use Rattle.job_text.specs.JobText.{IsJob};
-ghost use Rattle.launch_run.specs.Children.{spawner_seen};
 ghost use Rattle.top_call.specs.LaunchCommand.{LaunchEnds};
-ghost use Rattle.top_call.specs.Outsides.{Reading, reading_over, spawning_of};
+ghost use Rattle.top_call.specs.Outsides.{Reading, reading_over, spawning_over};
 ghost use Rattle.top_call.specs.TopParts.{EndsBy, GivesText, end_of_fault};
 
 use crate::ending::{CommandEnd, EndedCommand, Given};
@@ -47,8 +46,7 @@ fn launch_read<P: Spawner, K: Sink, N: Notes>(
 ) -> EndedCommand
     requires { IsJob read.job }
     ensures { (reading : Reading) → GivesText reading read.job read.bytes.items
-        → EndsBy (LaunchEnds at.port reading (spawning_of
-        (spawner_seen P.Spawner spawner.old) (spawner_seen P.Spawner spawner.new)))
+        → EndsBy (LaunchEnds at.port reading (spawning_over P.Spawner spawner.old spawner.new))
         (outbox K.taken K.faults sink.old) (outbox K.taken K.faults sink.new) result }
 {
     let LaunchAt { alloc, port } = at;
@@ -77,7 +75,7 @@ pub fn launch_command<S: Source, P: Spawner, K: Sink, N: Notes>(
 ) -> EndedCommand
     ensures { EndsBy (LaunchEnds at.port
         (reading_over S.left S.faults source.old source.new)
-        (spawning_of (spawner_seen P.Spawner spawner.old) (spawner_seen P.Spawner spawner.new)))
+        (spawning_over P.Spawner spawner.old spawner.new))
         (outbox K.taken K.faults sink.old) (outbox K.taken K.faults sink.new) result }
 {
     match text_from(at.alloc, source) {

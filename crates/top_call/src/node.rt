@@ -6,7 +6,7 @@ ghost use Rattle.job_text.specs.JobText.{IsJob};
 ghost use Rattle.node_call.specs.Seen.{devices_seen};
 ghost use Rattle.top_call.specs.JobReads.{GivesJob};
 ghost use Rattle.top_call.specs.NodeCommand.{NodeEnds, has_node_place};
-ghost use Rattle.top_call.specs.Outsides.{Reading, course_with, reading_over};
+ghost use Rattle.top_call.specs.Outsides.{Reading, course_over, course_with};
 ghost use Rattle.top_call.specs.HowEnds.{nothing};
 ghost use Rattle.top_call.specs.TopParts.{EndsBy, SaysEnd, SaysNode};
 
@@ -160,9 +160,7 @@ pub fn node_command<
     outside: Outside<S, BufferedSink<K>, L, P, C, G>,
 ) -> (EndedCommand, Outside<S, BufferedSink<K>, L, P, C, G>)
     ensures ends { EndsBy (NodeEnds address.rank address.port
-        (course_with (reading_over S.left S.faults outside.source result.1.source)
-        (devices_seen L.Link C.Clock outside.link outside.clock)
-        (devices_seen L.Link C.Clock result.1.link result.1.clock)))
+        (course_over S.Source L.Link C.Clock outside result.1))
         (outbox K.taken K.faults outside.sink) (outbox K.taken K.faults result.1.sink) result.0 }
     ensures spawner { result.1.spawner ≡ outside.spawner }
 {

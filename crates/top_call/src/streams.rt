@@ -5,7 +5,7 @@ ghost use Rattle.std.specs.Process.{exit_status};
 ghost use Rattle.std.specs.Vec.Iter.{into_iter_items};
 ghost use Rattle.top_call.specs.declared.ending.Given.{Given};
 ghost use Rattle.top_call.specs.Standard.{streams_seen, uncounted};
-ghost use Rattle.top_call.specs.Outsides.{call_of};
+ghost use Rattle.top_call.specs.Outsides.{call_between};
 ghost use Rattle.top_call.specs.Told.{AreTold};
 ghost use Rattle.top_call.specs.TopCall.{IsComplete, LeavesAlone, StatusMeans};
 
@@ -44,17 +44,17 @@ pub fn run_streams<
     ExitCode,
     Outside<ReaderSource<R>, WriterSink<W>, L, P, C, G>,
 )
-    ensures means { (given : Given) × StatusMeans (call_of (map string_bytes words.now)
-        (streams_seen R.remaining W.contents L.Link P.Spawner C.Clock (uncounted streams))
-        (streams_seen R.remaining W.contents L.Link P.Spawner C.Clock result.1) given)
+    ensures means { (given : Given) × StatusMeans (call_between
+        (streams_seen R.remaining W.contents L.Link P.Spawner C.Clock)
+        (map string_bytes words.now) (uncounted streams) result.1 given)
         (exit_status result.0) }
-    ensures complete { (given : Given) × IsComplete (call_of (map string_bytes words.now)
-        (streams_seen R.remaining W.contents L.Link P.Spawner C.Clock (uncounted streams))
-        (streams_seen R.remaining W.contents L.Link P.Spawner C.Clock result.1) given)
+    ensures complete { (given : Given) × IsComplete (call_between
+        (streams_seen R.remaining W.contents L.Link P.Spawner C.Clock)
+        (map string_bytes words.now) (uncounted streams) result.1 given)
         (exit_status result.0) }
-    ensures leaves { (given : Given) × LeavesAlone (call_of (map string_bytes words.now)
-        (streams_seen R.remaining W.contents L.Link P.Spawner C.Clock (uncounted streams))
-        (streams_seen R.remaining W.contents L.Link P.Spawner C.Clock result.1) given) }
+    ensures leaves { (given : Given) × LeavesAlone (call_between
+        (streams_seen R.remaining W.contents L.Link P.Spawner C.Clock)
+        (map string_bytes words.now) (uncounted streams) result.1 given) }
 {
     let Outside {
         source,

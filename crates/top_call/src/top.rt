@@ -2,7 +2,7 @@
 
 ghost use Rattle.std.specs.Prelude.{◌≡◌, ℕ, IfErr, IfOk, MatchOption, map, string_bytes};
 ghost use Rattle.gas_outside.specs.Buffered.{outbox};
-ghost use Rattle.top_call.specs.Outsides.{call_of, given_with, seen};
+ghost use Rattle.top_call.specs.Outsides.{call_between, given_with, seen};
 ghost use Rattle.top_call.specs.TopCall.{AsksNode, IsComplete, IsSaid, LeavesAlone, StatusMeans};
 ghost use Rattle.top_call.specs.TopParts.{Closes, GivesOn, IsNoNode, StandsOver};
 
@@ -149,10 +149,9 @@ pub fn returning_call<S: Source, K: Sink, L: Link, P: Spawner, C: Clock, G, N: N
     outside: Outside<S, K, L, P, C, G>,
     notes: &mut N,
 ) -> Result<(Status, Outside<S, K, L, P, C, G>), (NodeAddress, Outside<S, K, L, P, C, G>)>
-    ensures said { IfOk result (λ done. IsSaid (call_of (map string_bytes words.now)
-        (seen S.Source K.Sink L.Link P.Spawner C.Clock outside)
-        (seen S.Source K.Sink L.Link P.Spawner C.Clock done.1)
-        (given_with done.0)) done.0.code) }
+    ensures said { IfOk result (λ done. IsSaid
+        (call_between (seen S.Source K.Sink L.Link P.Spawner C.Clock)
+        (map string_bytes words.now) outside done.1 (given_with done.0)) done.0.code) }
     ensures returns { IfOk result (λ done. (rank port : ℕ)
         → AsksNode (map string_bytes words.now) rank port → ⊥) }
     ensures node { IfErr result (λ asked.
@@ -221,20 +220,14 @@ pub fn gasnet<
     notes: &mut N,
 ) -> (Status, Outside<S, K, L, P, C, G>)
     // What each exit status says of what was read, what was written, and what is given.
-    ensures means { StatusMeans (call_of (map string_bytes words.now)
-        (seen S.Source K.Sink L.Link P.Spawner C.Clock outside)
-        (seen S.Source K.Sink L.Link P.Spawner C.Clock result.1)
-        (given_with result.0)) result.0.code }
+    ensures means { StatusMeans (call_between (seen S.Source K.Sink L.Link P.Spawner C.Clock)
+        (map string_bytes words.now) outside result.1 (given_with result.0)) result.0.code }
     // A job that could be read is run, or written, unless memory runs out.
-    ensures complete { IsComplete (call_of (map string_bytes words.now)
-        (seen S.Source K.Sink L.Link P.Spawner C.Clock outside)
-        (seen S.Source K.Sink L.Link P.Spawner C.Clock result.1)
-        (given_with result.0)) result.0.code }
+    ensures complete { IsComplete (call_between (seen S.Source K.Sink L.Link P.Spawner C.Clock)
+        (map string_bytes words.now) outside result.1 (given_with result.0)) result.0.code }
     // What the words don't ask for stands as it did.
-    ensures leaves { LeavesAlone (call_of (map string_bytes words.now)
-        (seen S.Source K.Sink L.Link P.Spawner C.Clock outside)
-        (seen S.Source K.Sink L.Link P.Spawner C.Clock result.1)
-        (given_with result.0)) }
+    ensures leaves { LeavesAlone (call_between (seen S.Source K.Sink L.Link P.Spawner C.Clock)
+        (map string_bytes words.now) outside result.1 (given_with result.0)) }
 {
     match returning_call(alloc, words, outside, notes) {
         Ok(done) => done,
