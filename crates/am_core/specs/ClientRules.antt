@@ -119,7 +119,7 @@ has_place Medium = false
 has_place Long = true
 
 -- what may be wrong with a request beside its target, in order: no handler of requests is registered for the index;
--- there are more than 16 arguments; the payload has more than 8,192 bytes; it is a range that passes the end of the own
+-- there are more than 16 arguments; the payload has more than 8,192 bytes; it is a range that passes the end of the local
 -- segment; its place passes the end of the target's
 abbrev pub asking_faults : Parameters → (table : List (Option Entry)) → Asking → List (Bool × Which)
 asking_faults settings table asking =

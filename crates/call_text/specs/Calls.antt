@@ -88,8 +88,8 @@ word_row = form (codes "word") (U64 ▸ End) call.Word
 abbrev pub set_word_row : Row ⊥ ScheduledCall
 set_word_row = form (codes "set-word") (U64 ▸ U64 ▸ End) call.SetWord
 
--- the words of a put and of a get (GASNet 1.8.1, extended API): the node, the offset in its segment, that in the own
--- one, and how many bytes
+-- the words of a put and of a get (GASNet 1.8.1, extended API): the node, the offset in its segment, that in the
+-- local one, and how many bytes
 abbrev pub move_shape : Shape
 move_shape = U16 ▸ U64 ▸ U64 ▸ U64 ▸ End
 

@@ -47,7 +47,7 @@ impl fmt::Display for BatchFault {
 impl Error for BatchFault {}
 
 /// A batch: 1 to 64 operations on words of the target's segment, which are done at one moment, and the place in the
-/// own segment where what the words were comes back, with a tag behind it.
+/// local segment where what the words were comes back, with a tag behind it.
 #[derive(Drop)]
 pub struct Batch {
     pub(crate) settings: Settings,

@@ -103,7 +103,7 @@ impl Endpoint {
     ///
     /// A library call that the rule table forbids is answered `Forbidden`, whatever the call, and
     /// noted once as a violation; nothing else happens. Else `Poll` is answered `Polled` and
-    /// `Attempt` `Allowed`, and they change nothing. `Cell` and `SetCell`, and the calls on the own
+    /// `Attempt` `Allowed`, and they change nothing. `Cell` and `SetCell`, and the calls on the local
     /// segment, are no library calls.
     /// Requests are those of `am_core::Core`; a delivery that brings a reply tells the transfers, and one
     /// of a note the barrier. A tick sends the request that is due again, else the barrier's note that is

@@ -35,6 +35,7 @@ impl World {
             self.old self.new) }
     {
         for turn in 0..rounds {
+            // The rounds are alike: their number stands in the loop's invariant alone.
             let _ = turn;
             self.round(handlers, now)?;
         }

@@ -125,6 +125,7 @@ impl World {
             (H.meaning handlers.now) }
         ensures barrier { BarrierHolds self.new.settings self.new.table (H.meaning handlers.now) }
     {
+        // That the settings stand is known where a field of them is read.
         let _ = &self.settings;
         self.step_as_recorded(handlers, now, event)
     }
@@ -224,8 +225,8 @@ fn no_exchanges(alloc: Global, pairs: usize) -> Result<Vec<Exchanges>, AllocErro
     Ok(exchanges)
 }
 
-/// The node of which a call is asked, where that is a request and the node is there; else the own
-/// node.
+/// The node of which a call is asked, where that is a request and the node is there; else the
+/// node itself.
 #[inline(always)]
 fn target_of(settings: &Settings, node: u16, call: &Call<'_>) -> u16
     ensures { IsTargetOf settings.now node call.now result }

@@ -1,7 +1,7 @@
 -- A job, as it is read.
 use Rattle.std.proofs.Common.{◌≡◌, ℕ, ◌-◌, ◌<◌, ◌≤◌, List, length, Result, Ok, Err, true, false, eqb, refl, ap}
 use Rattle.std.proofs.lemmas.Bool.{lt-ltb, le-ltb}
-use Rattle.job_text.specs.JobReading.{BadLine, Front, start, limit, front_with, of_front, alone, sized, read}
+use Rattle.job_text.specs.JobReading.{BadLine, Front, start, front_with, of_front, alone, sized, read}
 use Rattle.job_text.specs.JobReading.{job_of}
 use Rattle.job_text.specs.JobReading.{front_of}
 use Rattle.text_lines.specs.Chains.{◌>>=◌}
@@ -11,16 +11,17 @@ use Rattle.job_text.specs.declared.fault.JobFault.TheVariants as faults
 use Rattle.text_lines.specs.declared.why.LineWhy.TheVariants.{Size, After}
 use Rattle.job_text.specs.declared.job.Job.{Job}
 use Rattle.text_lines.proofs.Fronts.{cond_yes, cond_no}
+use Rattle.job_text.specs.declared.reading.TheConstants.{MAX_JOB_BYTES}
 
 -- too many bytes
-pub too_long : (bytes : List ℕ) → limit < length bytes → job_of bytes ≡ Err (record { line = 0; why = Size })
+pub too_long : (bytes : List ℕ) → MAX_JOB_BYTES < length bytes → job_of bytes ≡ Err (record { line = 0; why = Size })
 unfolding job_of
-too_long bytes lt = cond_yes _ _ _ (lt-ltb limit (length bytes) lt)
+too_long bytes lt = cond_yes _ _ _ (lt-ltb MAX_JOB_BYTES (length bytes) lt)
 
 -- not too many
-pub job_reads : (bytes : List ℕ) → length bytes ≤ limit → job_of bytes ≡ of_front alone (read start 1 bytes)
+pub job_reads : (bytes : List ℕ) → length bytes ≤ MAX_JOB_BYTES → job_of bytes ≡ of_front alone (read start 1 bytes)
 unfolding job_of
-job_reads bytes le = cond_no _ _ _ (le-ltb limit (length bytes) le)
+job_reads bytes le = cond_no _ _ _ (le-ltb MAX_JOB_BYTES (length bytes) le)
 
 -- what fails in its first part fails
 pub fails_on : {A B : Type 0} (e : JobFault) (r : Result A BadLine) (k : A → Result B BadLine) → FailsAt e r
@@ -48,10 +49,10 @@ pub front_reads : (bytes : List ℕ) → front_of bytes ≡ of_front (sized (len
 unfolding front_of
 front_reads bytes = refl
 
-pub is_sized : (job : Job) (line count : ℕ) (rest : List ℕ) → count - length rest ≤ limit
+pub is_sized : (job : Job) (line count : ℕ) (rest : List ℕ) → count - length rest ≤ MAX_JOB_BYTES
     → sized count (front_with job line rest) ≡ Ok (job, count - length rest)
-is_sized job line count rest le = cond_no _ _ _ (le-ltb limit (count - length rest) le)
+is_sized job line count rest le = cond_no _ _ _ (le-ltb MAX_JOB_BYTES (count - length rest) le)
 
-pub not_sized : (job : Job) (line count : ℕ) (rest : List ℕ) → limit < count - length rest
+pub not_sized : (job : Job) (line count : ℕ) (rest : List ℕ) → MAX_JOB_BYTES < count - length rest
     → sized count (front_with job line rest) ≡ Err (record { line = 0; why = Size })
-not_sized job line count rest lt = cond_yes _ _ _ (lt-ltb limit (count - length rest) lt)
+not_sized job line count rest lt = cond_yes _ _ _ (lt-ltb MAX_JOB_BYTES (count - length rest) lt)

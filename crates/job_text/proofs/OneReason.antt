@@ -12,7 +12,7 @@ use Rattle.job_text.specs.Places.{Place, AtSetting, AtSieve, AtPairs, AtAtomics,
 use Rattle.job_text.specs.Places.{AtScripts, AtSteps}
 use Rattle.job_text.specs.Places.{AtCollect, AtSchedule, AtDone, Over, Named, Other, Item, item_form}
 use Rattle.job_text.specs.Places.{HandlerItem, CollectItem, AtomicsItem}
-use Rattle.job_text.specs.JobReading.{BadLine, start, limit, line_at, next, opened, headed, collected, served}
+use Rattle.job_text.specs.JobReading.{BadLine, start, line_at, next, opened, headed, collected, served}
 use Rattle.job_text.specs.JobReading.{front_with, of_front, alone, sized, from_lines, read_lines, read, job_of}
 use Rattle.job_text.specs.JobReading.{front_of}
 use Rattle.job_text.specs.JobReading.{most_handlers}
@@ -41,6 +41,7 @@ use Rattle.job_text.proofs.LineRuns.{IsOpen, goes_on, open_or_over, line_takes, 
 use Rattle.job_text.proofs.LineRuns.{line_bad, over_read}
 use Rattle.job_text.proofs.Completeness.{reach_read, job_read}
 use Rattle.job_text.proofs.Reaching.{known, reach_place}
+use Rattle.job_text.specs.declared.reading.TheConstants.{MAX_JOB_BYTES}
 
 -- ---- the first lines, and those after them
 
@@ -338,7 +339,7 @@ after_read bytes line w =
 
 -- ---- what is meant is told
 
-within_read : (bytes : List ℕ) (line : ℕ) (why : LineWhy) → IsWithin why → IsWrong bytes line why × (length bytes ≤ limit)
+within_read : (bytes : List ℕ) (line : ℕ) (why : LineWhy) → IsWithin why → IsWrong bytes line why × (length bytes ≤ MAX_JOB_BYTES)
     → job_of bytes ≡ Err (record { line = line; why = why })
 within_read bytes line why within w = job_reads bytes w.1 ∙ ap (of_front alone) (wrong_read bytes line why within w.0)
 
@@ -346,7 +347,7 @@ pub means_told : (bytes : List ℕ) (line : ℕ) (why : LineWhy) → Means bytes
     → job_of bytes ≡ Err (record { line = line; why = why })
 unfolding job_of
 means_told bytes line Size m =
-    cond_yes _ _ _ (lt-ltb limit (length bytes) m.1)
+    cond_yes _ _ _ (lt-ltb MAX_JOB_BYTES (length bytes) m.1)
     ∙ ap (λ (n : ℕ). Err (record { line = n; why = Size })) (sym m.0)
 means_told bytes line Early m = within_read bytes line Early tt m
 means_told bytes line Text m = within_read bytes line Text tt m
@@ -371,7 +372,7 @@ long_read bytes t =
     front_reads bytes
     ∙ ap (λ (b : List ℕ). of_front (sized (length bytes)) (read start 1 b)) t.text
     ∙ ap (of_front (sized (length bytes))) (job_read t.job t.is t.rest)
-    ∙ cond_yes _ _ _ (lt-ltb limit (length bytes - length front.rest) (omega (arith, size, long)))
+    ∙ cond_yes _ _ _ (lt-ltb MAX_JOB_BYTES (length bytes - length front.rest) (omega (arith, size, long)))
 
 pub front_means_told : (bytes : List ℕ) (line : ℕ) (why : LineWhy) → FrontMeans bytes line why
     → front_of bytes ≡ Err (record { line = line; why = why })

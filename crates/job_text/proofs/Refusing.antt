@@ -10,7 +10,7 @@ use Rattle.job_text.specs.Places as places
 use Rattle.job_text.specs.Places.{Place, AtSetting, AtSieve, AtPairs, AtHandlers, AtBody, AtScripts, AtSteps}
 use Rattle.job_text.specs.Places.{AtAtomics, AtCollect, AtSchedule, AtDone, Over}
 use Rattle.job_text.specs.Places.{Version}
-use Rattle.job_text.specs.JobReading.{State, BadLine, Front, start, limit, of_front, alone, sized, read}
+use Rattle.job_text.specs.JobReading.{State, BadLine, Front, start, of_front, alone, sized, read}
 use Rattle.job_text.specs.JobReading.{job_of}
 use Rattle.job_text.specs.JobReading.{front_of}
 use Rattle.job_text.specs.JobText.{Line, spell, setting_line, sieve_line, pair_line, handler_lines}
@@ -34,6 +34,7 @@ use Rattle.job_text.proofs.States.{unread, start_is, sound_completed}
 use Rattle.job_text.proofs.LineRuns.{IsOpen}
 use Rattle.job_text.proofs.Walks.{Walks, Walked, walk_keeps, Outcome, EndsAs, Ends, Fails, IsOver}
 use Rattle.job_text.proofs.Walks.{read_outcome}
+use Rattle.job_text.specs.declared.reading.TheConstants.{MAX_JOB_BYTES}
 
 -- ---- first lines
 
@@ -319,7 +320,7 @@ alone_of : (read : Result Front BadLine) (job : Job) → of_front alone read ≡
 alone_of (Err bad) job h = absurd (cc)
 alone_of (Ok front) job h = alone_by front job _ (eqb (length front.rest) 0) refl h
 
-long_by : (bytes : List ℕ) (job : Job) (t : Bool) → ltb limit (length bytes) ≡ t → job_of bytes ≡ Ok job
+long_by : (bytes : List ℕ) (job : Job) (t : Bool) → ltb MAX_JOB_BYTES (length bytes) ≡ t → job_of bytes ≡ Ok job
     → JobText job bytes
 unfolding job_of
 long_by bytes job true e h = absurd (err_ok (sym (cond_yes _ _ _ e) ∙ h))
@@ -332,10 +333,10 @@ long_by bytes job false e h =
     let text : bytes ≡ job_text a.front.job = p.1 ∙ ap (λ (r : List ℕ). job_text a.front.job ++ r) a.none
     ∙ append-nil (job_text a.front.job) in
     subst (λ (j : Job). JobText j bytes) a.same
-    (record { is_job = p.0; text = text; within = ltb-false limit (length bytes) e })
+    (record { is_job = p.0; text = text; within = ltb-false MAX_JOB_BYTES (length bytes) e })
 
 pub job_text_of : (bytes : List ℕ) (job : Job) → job_of bytes ≡ Ok job → JobText job bytes
-job_text_of bytes job h = long_by bytes job (ltb limit (length bytes)) refl h
+job_text_of bytes job h = long_by bytes job (ltb MAX_JOB_BYTES (length bytes)) refl h
 
 -- what a reader returned
 pub gives_found : (r : Result Job JobFault) (bytes : List ℕ) → GivesAt (λ (j : Job). j) r (job_of bytes) → IfOk r
@@ -346,7 +347,7 @@ gives_found (Err fault) bytes h = tt
 -- ---- a job at the front
 
 begins_by : (bytes : List ℕ) (front : Front) (x : Job × ℕ) (bad : BadLine) (t : Bool)
-    → ltb limit (length bytes - length front.rest) ≡ t → read start 1 bytes ≡ Ok front → ◌≡◌
+    → ltb MAX_JOB_BYTES (length bytes - length front.rest) ≡ t → read start 1 bytes ≡ Ok front → ◌≡◌
     {A = Result (Job × ℕ) BadLine} (cond t (Err bad) (Ok (front.job, length bytes - length front.rest))) (Ok x)
     → BeginsWith x.0 x.1 bytes
 begins_by bytes front x bad true e h same = absurd (cc)
@@ -359,7 +360,7 @@ begins_by bytes front x bad false e h same =
       rest = front.rest;
       text = p.1;
       long = size;
-      within = ltb-false limit (length bytes - length front.rest) e;
+      within = ltb-false MAX_JOB_BYTES (length bytes - length front.rest) e;
     } in
     subst (λ (y : Job × ℕ). BeginsWith y.0 y.1 bytes) (ok_is same) found
   where
@@ -370,7 +371,7 @@ begins_with : (bytes : List ℕ) (x : Job × ℕ) (r : Result Front BadLine) →
     → of_front (sized (length bytes)) r ≡ Ok x → BeginsWith x.0 x.1 bytes
 begins_with bytes x (Err bad) e h = absurd (cc)
 begins_with bytes x (Ok front) e h =
-    begins_by bytes front x _ (ltb limit (length bytes - length front.rest)) refl e h
+    begins_by bytes front x _ (ltb MAX_JOB_BYTES (length bytes - length front.rest)) refl e h
 
 pub gives_front_found : (r : Result (Job × ℕ) JobFault) (bytes : List ℕ)
     → GivesAt (λ (x : Job × ℕ). x) r (front_of bytes) → IfOk r (λ x. BeginsWith x.0 x.1 bytes)

@@ -36,6 +36,7 @@ use Rattle.job_text.specs.declared.sections.HandlerHeader.{HandlerHeader}
 use Rattle.job_text.specs.declared.sections.Section.{Section}
 use Rattle.job_text.specs.declared.sections.Section.TheVariants as section
 use Rattle.job_text.specs.declared.schedules.TheConstants.{LINES}
+use Rattle.job_text.specs.declared.reading.TheConstants.{MAX_JOB_BYTES}
 
 -- ---- what was read so far
 
@@ -441,10 +442,6 @@ abbrev pub of_front : {A : Type 0} → (Front → Result A BadLine) → Result F
 of_front make (Ok front) = make front
 of_front make (Err bad) = Err bad
 
--- the most bytes of a job's text
-abbrev pub limit : ℕ
-limit = 4194304
-
 -- the job, where no byte stands behind it
 abbrev pub alone : Front → Result Job BadLine
 alone front = if length front.rest == 0 then Ok front.job else Err (record { line = front.line; why = After })
@@ -452,12 +449,12 @@ alone front = if length front.rest == 0 then Ok front.job else Err (record { lin
 -- what a text is read as
 unfoldable pub job_of : List ℕ → Result Job BadLine
 job_of bytes =
-    if nat_lt limit (length bytes) then Err (record { line = 0; why = Size }) else of_front alone (read start 1 bytes)
+    if nat_lt MAX_JOB_BYTES (length bytes) then Err (record { line = 0; why = Size }) else of_front alone (read start 1 bytes)
 
 -- the job at the front of so many bytes, and the size of its text, which is not too long
 abbrev pub sized : (count : ℕ) → Front → Result (Job × ℕ) BadLine
 sized count front =
-    if nat_lt limit (count - length front.rest) then Err (record { line = 0; why = Size })
+    if nat_lt MAX_JOB_BYTES (count - length front.rest) then Err (record { line = 0; why = Size })
     else Ok (front.job, count - length front.rest)
 
 -- what bytes are read as that go on behind a job's text

@@ -17,7 +17,7 @@ use Rattle.job_text.specs.CollectAreas.{IsCollectOrNone}
 use Rattle.job_text.specs.Locks.{are_listed}
 use Rattle.job_text.specs.Scopes.{scope_of}
 use Rattle.line_forms.specs.declared.scope.Scope.{Scope}
-use Rattle.job_text.specs.JobReading.{has_thread, total_rounds, limit, is_reserved, lines_of, most_handlers}
+use Rattle.job_text.specs.JobReading.{has_thread, total_rounds, is_reserved, lines_of, most_handlers}
 use Rattle.job_text.specs.PlanPieces.{most_pieces, schedule_pieces, scripts_pieces}
 use Rattle.job_text.specs.declared.job.CollectArea.{CollectArea}
 use Rattle.job_text.specs.declared.job.HandlerText.{HandlerText}
@@ -29,6 +29,7 @@ use Rattle.job_text.specs.declared.sections.Section.TheVariants as section
 use Rattle.datagram_grammar.specs.declared.limits.TheConstants.{MAX_CREDITS}
 use Rattle.job_text.specs.declared.head.TheConstants.{MAX_SEGMENT}
 use Rattle.job_text.specs.declared.schedules.TheConstants.{LINES}
+use Rattle.job_text.specs.declared.reading.TheConstants.{MAX_JOB_BYTES}
 
 -- ---- lines
 
@@ -208,7 +209,7 @@ job_text job = spell (job_lines job)
 pub record JobText (job : Job) (bytes : List ℕ) : Type 0 where
   pub is_job : IsJob job
   pub text : bytes ≡ job_text job
-  pub within : length bytes ≤ limit
+  pub within : length bytes ≤ MAX_JOB_BYTES
 
 -- the bytes begin with the text of the job, which has this size
 pub record BeginsWith (job : Job) (size : ℕ) (bytes : List ℕ) : Type 0 where
@@ -216,4 +217,4 @@ pub record BeginsWith (job : Job) (size : ℕ) (bytes : List ℕ) : Type 0 where
   pub rest : List ℕ
   pub text : bytes ≡ job_text job ++ rest
   pub long : size ≡ length (job_text job)
-  pub within : size ≤ limit
+  pub within : size ≤ MAX_JOB_BYTES

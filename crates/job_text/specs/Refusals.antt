@@ -15,7 +15,7 @@ use Rattle.job_text.specs.Places.{AtBody}
 use Rattle.job_text.specs.Places.{AtScripts, AtSteps, HandlerItem, CollectItem, AtomicsItem}
 use Rattle.job_text.specs.Places.{AtSchedule, AtDone, Over, NamedOr, Named, Other, Item, item_form, item_text}
 use Rattle.job_text.specs.Places.{IsItem}
-use Rattle.job_text.specs.JobReading.{limit, job_of, front_of, with_handler, with_script, lines_of}
+use Rattle.job_text.specs.JobReading.{job_of, front_of, with_handler, with_script, lines_of}
 use Rattle.job_text.specs.JobReading.{amounts_of}
 use Rattle.job_text.specs.PlanPieces.{scripts_pieces}
 use Rattle.job_text.specs.StepPieces.{steps_pieces}
@@ -36,6 +36,7 @@ use Rattle.text_lines.specs.declared.why.LineWhy.TheVariants.{Size, Early, Text,
 use Rattle.text_lines.specs.declared.why.LineWhy.TheVariants.{After}
 use Rattle.job_text.specs.declared.job.Job.{Job}
 use Rattle.step_text.specs.declared.steps.TimedEvent.{TimedEvent}
+use Rattle.job_text.specs.declared.reading.TheConstants.{MAX_JOB_BYTES}
 
 -- the first so many lines, each with its ending byte, which the last one may lack
 abbrev pub first_lines : (count : ℕ) → List ℕ → List ℕ
@@ -260,8 +261,8 @@ pub record IsWrong (bytes : List ℕ) (line : ℕ) (why : LineWhy) : Type 0 wher
 
 -- what a refusal at a line means
 abbrev pub Means : List ℕ → (line : ℕ) → LineWhy → Type 0
-Means bytes line Size = (line ≡ 0) × (limit < length bytes)
-Means bytes line why = IsWrong bytes line why × (length bytes ≤ limit)
+Means bytes line Size = (line ≡ 0) × (MAX_JOB_BYTES < length bytes)
+Means bytes line why = IsWrong bytes line why × (length bytes ≤ MAX_JOB_BYTES)
 
 -- a refusal means that, unless memory ran out
 abbrev pub IsMeant : List ℕ → JobFault → Type 0
@@ -291,7 +292,7 @@ pub record IsTooLong (bytes : List ℕ) : Type 0 where
   pub is : IsJob job
   pub rest : List ℕ
   pub text : bytes ≡ job_text job ++ rest
-  pub long : limit < length (job_text job)
+  pub long : MAX_JOB_BYTES < length (job_text job)
 
 -- what a refusal means where any bytes may follow a job's text
 abbrev pub FrontMeans : List ℕ → (line : ℕ) → LineWhy → Type 0

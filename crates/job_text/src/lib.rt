@@ -43,4 +43,4 @@ pub use job::{
     Body, CollectArea, HandlerText, HandlerTexts, Job, ListedLocks, NodeScript, NodeScripts,
     Schedule, ScriptSteps, SieveRule,
 };
-pub use reading::{read_job, read_job_front};
+pub use reading::{MAX_JOB_BYTES, read_job, read_job_front};

@@ -22,7 +22,7 @@ use std::alloc::Global;
 use text_lines::LineWhy;
 
 /// The most bytes of a job's text.
-const LIMIT: usize = 4_194_304;
+pub const MAX_JOB_BYTES: usize = 4_194_304;
 
 /// The job with whose text the bytes begin, the number of the line behind it, and the bytes from there on.
 fn front_at(alloc: Global, bytes: &[u8]) -> Result<(Job, u32, &[u8]), JobFault>
@@ -62,7 +62,7 @@ fn front_at(alloc: Global, bytes: &[u8]) -> Result<(Job, u32, &[u8]), JobFault>
 fn job_at(alloc: Global, bytes: &[u8]) -> Result<Job, JobFault>
     ensures { GivesAt (λ j. j) result (job_of bytes.now) }
 {
-    if bytes.len() > LIMIT {
+    if bytes.len() > MAX_JOB_BYTES {
         let (line, why) = (0, LineWhy::Size);
         return Err(JobFault::Bad { line, why });
     }
@@ -87,7 +87,7 @@ fn sized_job_at(alloc: Global, bytes: &[u8]) -> Result<(Job, usize), JobFault>
         Err(fault) => return Err(fault),
     };
     let size = bytes.len() - rest.len();
-    if size > LIMIT {
+    if size > MAX_JOB_BYTES {
         drop(job);
         let (line, why) = (0, LineWhy::Size);
         return Err(JobFault::Bad { line, why });

@@ -153,7 +153,7 @@ impl Barrier {
         }
     }
 
-    /// Hears a note that has come (profile). One of the present phase or the next one is kept, also before the own
+    /// Hears a note that has come (profile). One of the present phase or the next one is kept, also before the local
     /// notify; any other one is old and changes nothing.
     pub fn heard(&mut self, note: &BarrierNote)
         ensures stands { ForItsBarrierRecord self.old (λ nodes me kept.

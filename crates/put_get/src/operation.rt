@@ -21,7 +21,7 @@ pub struct Handle {
 }
 
 /// A contiguous transfer to or from another node's segment (GASNet 1.8.1 extended API, put, get and memset). Offsets
-/// and lengths are in bytes; `remote` is an offset into the target's segment and `local` one into the own.
+/// and lengths are in bytes; `remote` is an offset into the target's segment and `local` one into the local segment.
 #[derive(Clone, Copy)]
 pub enum Transfer {
     /// Bytes of the local segment are written into the target's (gasnet_put).
@@ -31,7 +31,7 @@ pub enum Transfer {
         local: u64,
         len: u64,
     },
-    /// Bytes of the target's segment are written into the own (gasnet_get).
+    /// Bytes of the target's segment are written into the local one (gasnet_get).
     Get {
         to: u16,
         remote: u64,

@@ -6,7 +6,7 @@ use std::fmt;
 /// The first reason that applies to the first bad line of a text.
 #[derive(Clone, Copy, Debug)]
 pub enum LineWhy {
-    /// The text has more than 4,194,304 bytes; told before all others, for line 0.
+    /// The text has more bytes than its reader takes; told before all others, for line 0.
     Size,
     /// The text ends before the line `done`.
     Early,

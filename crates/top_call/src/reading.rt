@@ -5,12 +5,9 @@ ghost use Rattle.top_call.specs.TopParts.{ReadsOrNot, ReadsTextOrNot};
 
 use crate::ending::CommandEnd;
 use gas_outside::{ReadAll, Source, read_all};
-use job_text::{Job, JobFault, read_job};
+use job_text::{Job, JobFault, MAX_JOB_BYTES, read_job};
 use std::alloc::Global;
 use text_lines::LineWhy;
-
-/// The most bytes of a job's text.
-const LIMIT: usize = 4_194_304;
 
 /// A job, and the bytes that are its text.
 #[derive(Drop)]
@@ -26,7 +23,7 @@ pub struct JobRead {
 pub fn text_from<S: Source>(alloc: Global, source: &mut S) -> Result<JobRead, CommandEnd>
     ensures { ReadsTextOrNot (reading_over S.left S.faults source.old source.new) result }
 {
-    match read_all(alloc, source, LIMIT) {
+    match read_all(alloc, source, MAX_JOB_BYTES) {
         ReadAll::Bytes(bytes) => match read_job(alloc, &bytes) {
             Ok(job) => Ok(JobRead { job, bytes }),
             Err(JobFault::Bad { line, why }) => Err(CommandEnd::BadJob { line, why }),

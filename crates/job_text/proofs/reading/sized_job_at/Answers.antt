@@ -17,14 +17,14 @@ returns-in-Err c =
     subst (λ (r : Result (Job × ℕ) BadLine). FailsAt c.in-Err.fault r) (sym (front_reads c.args.bytes.now))
     (front_fails c.in-Err.fault (sized (length c.args.bytes.now)) (read start 1 c.args.bytes.now) c.in-Err.ensures)
 
-pub returns-then-size-gt-LIMIT : goal.returns-then-size-gt-LIMIT
-returns-then-size-gt-LIMIT c =
+pub returns-then-size-gt-MAX_JOB_BYTES : goal.returns-then-size-gt-MAX_JOB_BYTES
+returns-then-size-gt-MAX_JOB_BYTES c =
     front_reads c.args.bytes.now ∙ ap (of_front (sized (length c.args.bytes.now))) c.in-Ok.ensures
     ∙ not_sized c.in-Ok.read.0 c.in-Ok.read.1 (length c.args.bytes.now) c.in-Ok.read.2.now
-    (omega (arith, c.if-size-gt-LIMIT.true))
+    (omega (arith, c.if-size-gt-MAX_JOB_BYTES.true))
 
 pub returns : goal.returns
 returns c =
     front_reads c.args.bytes.now ∙ ap (of_front (sized (length c.args.bytes.now))) c.in-Ok.ensures
     ∙ is_sized c.in-Ok.read.0 c.in-Ok.read.1 (length c.args.bytes.now) c.in-Ok.read.2.now
-    (omega (arith, c.if-size-gt-LIMIT.false))
+    (omega (arith, c.if-size-gt-MAX_JOB_BYTES.false))
