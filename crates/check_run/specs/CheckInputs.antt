@@ -17,7 +17,7 @@ use Rattle.gasnet_trace.specs.declared.fault.TraceFault.TheVariants as tracefaul
 use Rattle.gasnet_trace.specs.declared.output.Output.{Output}
 use Rattle.gasnet_trace.specs.declared.output.Wanted.{Wanted}
 use Rattle.gasnet_trace.specs.declared.trace.Trace.{Trace}
-use Rattle.job_text.specs.JobReading.{BadLine, front_of, limit}
+use Rattle.job_text.specs.JobReading.{BadLine, front_of}
 use Rattle.job_text.specs.JobText.{BeginsWith, IsJob, job_text}
 use Rattle.job_text.specs.Refusals.{FrontMeans}
 use Rattle.text_lines.specs.declared.why.LineWhy.{LineWhy}
@@ -26,6 +26,7 @@ use Rattle.job_text.specs.declared.job.Job.{Job as JobState}
 use Rattle.check_run.specs.declared.input.InputFault.{InputFault}
 use Rattle.check_run.specs.declared.input.InputFault.TheVariants as faults
 use Rattle.gas_outside.specs.declared.spawner.TheConstants.{MAX_OUTPUT}
+use Rattle.job_text.specs.declared.reading.TheConstants.{MAX_JOB_BYTES}
 
 -- ---- the text
 
@@ -54,7 +55,7 @@ outputs_text version outputs = flat_map (output_text version) outputs
 -- the bytes are the text of the job, and behind it those of an output of each of its nodes, in rising order of ranks
 pub record InputText (job : JobState) (outputs : List Output) (bytes : List ℕ) : Type 0 where
   pub is_job : IsJob job
-  pub short : length (job_text job) ≤ limit
+  pub short : length (job_text job) ≤ MAX_JOB_BYTES
   pub nodes : length outputs ≡ job.settings.nodes
   pub are : AreOutputs job 0 outputs
   pub text : bytes ≡ job_text job ++ outputs_text job.settings.version outputs
@@ -240,7 +241,7 @@ pub record TakesInput (old new : Option (List ℕ)) (job : JobState) (outputs : 
   pub ended : IsAtEnd new
   pub is_input : IsInput bytes job outputs
 
--- it was read past the limit; or to its end, and its bytes are no input, by this line, for this reason
+-- it was read past the MAX_JOB_BYTES; or to its end, and its bytes are no input, by this line, for this reason
 pub record TakesNone (old new : Option (List ℕ)) (line : ℕ) (reason : LineWhy) : Type 0 where
   pub bytes : List ℕ
   pub read : Consumes old new bytes

@@ -11,7 +11,7 @@ use Rattle.job_text.specs.Places.{AtAtomics, AtCollect, AtSchedule, AtDone, Over
 use Rattle.job_text.specs.Scopes.{scope_of}
 use Rattle.job_text.specs.Places.{Named, Other, Item, item_text, item_form, HandlerItem, CollectItem}
 use Rattle.job_text.specs.Places.{AtomicsItem, PairItem}
-use Rattle.job_text.specs.JobReading.{State, BadLine, Front, start, limit, line_at, why_at, next, onward}
+use Rattle.job_text.specs.JobReading.{State, BadLine, Front, start, line_at, why_at, next, onward}
 use Rattle.job_text.specs.JobReading.{stepped}
 use Rattle.job_text.specs.JobReading.{step, unless, opened, headed, paired, has_index, has_pair, has_thread}
 use Rattle.job_text.specs.JobReading.{handler_why, section_why, pair_why, action_why, step_why, line_why}
@@ -52,6 +52,7 @@ use Rattle.job_text.proofs.Refusing.{walk_front}
 use Rattle.job_text.proofs.Refusing.{front_same, read_text, rest_size, walk_lines}
 use Rattle.job_text.proofs.Standing.{not_over, walk_reached}
 use Rattle.job_text.proofs.Completeness.{job_read}
+use Rattle.job_text.specs.declared.reading.TheConstants.{MAX_JOB_BYTES}
 
 -- ---- a walk is read
 
@@ -482,7 +483,7 @@ read_means bytes found h =
     ends_mean bytes found o.count o.end o.rest (read start 1 bytes) o.walks o.ends h
 
 -- of a text that isn't too long, and of one behind which bytes may follow
-line_means : (bytes : List ℕ) (line : ℕ) (why : LineWhy) → length bytes ≤ limit → IsLineWrong bytes line why
+line_means : (bytes : List ℕ) (line : ℕ) (why : LineWhy) → length bytes ≤ MAX_JOB_BYTES → IsLineWrong bytes line why
     → Means bytes line why
 line_means bytes line Size few h = absurd h
 line_means bytes line Early few h = (h, few)
@@ -520,7 +521,7 @@ ends_after bytes front count end rest result w (IsOver over r) h some =
 after_by : (bytes : List ℕ) (front : Front) (found : BadLine) (t : Bool) → eqb (length front.rest) 0 ≡ t
     → read start 1 bytes ≡ Ok front → ◌≡◌ {A = Result Job BadLine}
     (cond t (Ok front.job) (Err (record { line = front.line; why = After }))) (Err found)
-    → length bytes ≤ limit → Means bytes found.line found.why
+    → length bytes ≤ MAX_JOB_BYTES → Means bytes found.line found.why
 after_by bytes front found true e r h few = absurd (err_ok h refl)
 after_by bytes front found false e r h few =
     let o = read_outcome start 1 bytes in
@@ -531,24 +532,24 @@ after_by bytes front found false e r h few =
     )
 
 alone_means : (bytes : List ℕ) (found : BadLine) (r : Result Front BadLine) → read start 1 bytes ≡ r
-    → of_front alone r ≡ Err found → length bytes ≤ limit → Means bytes found.line found.why
+    → of_front alone r ≡ Err found → length bytes ≤ MAX_JOB_BYTES → Means bytes found.line found.why
 alone_means bytes found (Err bad) e h few =
     line_means bytes found.line found.why few (read_means bytes found (e ∙ ap (λ (b : BadLine). Err b) (bad_same h)))
 alone_means bytes found (Ok front) e h few = after_by bytes front found (eqb (length front.rest) 0) refl e h few
 
-means_of : (bytes : List ℕ) (found : BadLine) (t : Bool) → ltb limit (length bytes) ≡ t → job_of bytes ≡ Err found
+means_of : (bytes : List ℕ) (found : BadLine) (t : Bool) → ltb MAX_JOB_BYTES (length bytes) ≡ t → job_of bytes ≡ Err found
     → Means bytes found.line found.why
 unfolding job_of
 means_of bytes found true e h =
     subst (λ (b : BadLine). Means bytes b.line b.why) (bad_same {A = Job} (sym (cond_yes _ _ _ e) ∙ h))
-    (refl, ltb-true limit (length bytes) e)
+    (refl, ltb-true MAX_JOB_BYTES (length bytes) e)
 means_of bytes found false e h =
-    alone_means bytes found (read start 1 bytes) refl (sym (cond_no _ _ _ e) ∙ h) (ltb-false limit (length bytes) e)
+    alone_means bytes found (read start 1 bytes) refl (sym (cond_no _ _ _ e) ∙ h) (ltb-false MAX_JOB_BYTES (length bytes) e)
 
 -- the one job of a text
 text_read : (bytes : List ℕ) (job : Job) → JobText job bytes → job_of bytes ≡ Ok job
 unfolding job_of
-text_read bytes job is = cond_no _ _ _ (le-ltb limit (length bytes) is.within)
+text_read bytes job is = cond_no _ _ _ (le-ltb MAX_JOB_BYTES (length bytes) is.within)
     ∙ ap (λ (b : List ℕ). of_front alone (read start 1 b)) (is.text ∙ sym (append-nil (job_text job)))
     ∙ ap (of_front alone) (job_read job is.is_job [])
 
@@ -564,7 +565,7 @@ pub gives_meant : (r : Result Job JobFault) (bytes : List ℕ) → GivesAt (λ (
     (λ fault. IsMeant bytes fault)
 gives_meant (Ok job) bytes h = tt
 gives_meant (Err faults.NoMemory) bytes h = tt
-gives_meant (Err (faults.Bad line why)) bytes h = means_of bytes (record { line = line; why = why }) (ltb limit
+gives_meant (Err (faults.Bad line why)) bytes h = means_of bytes (record { line = line; why = why }) (ltb MAX_JOB_BYTES
     (length bytes)) refl h
 
 pub gives_none : (r : Result Job JobFault) (bytes : List ℕ) → GivesAt (λ (j : Job). j) r (job_of bytes) → IfErr r
@@ -577,14 +578,14 @@ gives_none (Err (faults.Bad line why)) bytes h = inr (λ job is. err_ok h (text_
 
 -- a job's text that is too long
 long_by : (bytes : List ℕ) (front : Front) (found : BadLine) (x : Job × ℕ) (t : Bool)
-    → ltb limit (length bytes - length front.rest) ≡ t → read start 1 bytes ≡ Ok front → ◌≡◌
+    → ltb MAX_JOB_BYTES (length bytes - length front.rest) ≡ t → read start 1 bytes ≡ Ok front → ◌≡◌
     {A = Result (Job × ℕ) BadLine} (cond t (Err (record { line = 0; why = Size })) (Ok x)) (Err found)
     → FrontMeans bytes found.line found.why
 long_by bytes front found x true e r h =
     let p = read_text bytes front r in
     let size : length bytes - length front.rest ≡ length (job_text front.job) = omega
     (arith, rest_size bytes front r) in
-    let lt = ltb-true limit (length bytes - length front.rest) e in
+    let lt = ltb-true MAX_JOB_BYTES (length bytes - length front.rest) e in
     let long : IsTooLong bytes = record {
       job = front.job;
       is = p.0;
@@ -601,7 +602,7 @@ sized_means bytes found (Err bad) e h =
     line_front_means bytes found.line found.why
     (read_means bytes found (e ∙ ap (λ (b : BadLine). Err b) (bad_same h)))
 sized_means bytes found (Ok front) e h =
-    long_by bytes front found _ (ltb limit (length bytes - length front.rest)) refl e h
+    long_by bytes front found _ (ltb MAX_JOB_BYTES (length bytes - length front.rest)) refl e h
 
 -- the one job of a front
 front_read : (bytes : List ℕ) (job : Job) (size : ℕ) → BeginsWith job size bytes → front_of bytes ≡ Ok (job, size)
@@ -611,7 +612,7 @@ front_read bytes job size is =
     let behind : length bytes ≡ length (job_text job) + length is.rest =
     ap length is.text ∙ length-append (job_text job) is.rest in
     let count : length bytes - length is.rest ≡ size = omega (arith, behind, is.long) in
-    let few : length bytes - length is.rest ≤ limit = omega (arith, count, is.within) in
+    let few : length bytes - length is.rest ≤ MAX_JOB_BYTES = omega (arith, count, is.within) in
     ap (λ (b : List ℕ). of_front (sized (length bytes)) (read start 1 b)) is.text
     ∙ ap (of_front (sized (length bytes))) (job_read job is.is_job is.rest)
     ∙ is_sized job line (length bytes) is.rest few

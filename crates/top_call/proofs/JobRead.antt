@@ -5,7 +5,7 @@ use Rattle.std.specs.Io.KnownBytes.{Consumes, IsAtEnd}
 use Rattle.gas_outside.specs.Buffered.{Outbox}
 use Rattle.job_text.specs.declared.job.Job.{Job as JobState}
 use Rattle.job_text.specs.JobText.{JobText}
-use Rattle.job_text.specs.JobReading.{limit, job_of}
+use Rattle.job_text.specs.JobReading.{job_of}
 use Rattle.job_text.specs.Refusals.{IsNoMemory, IsBadLine, IsMeant}
 use Rattle.job_text.specs.Refusals as refusals
 use Rattle.text_lines.specs.declared.why.LineWhy.{LineWhy}
@@ -20,12 +20,13 @@ use Rattle.top_call.specs.declared.ending.CommandEnd.{CommandEnd}
 use Rattle.top_call.specs.declared.ending.CommandEnd.TheVariants as ends
 use Rattle.top_call.specs.declared.ending.EndedCommand.{EndedCommand}
 use Rattle.top_call.proofs.LastLine.{IsSaid, Weakens, alone, says_alone, weak_alone}
+use Rattle.job_text.specs.declared.reading.TheConstants.{MAX_JOB_BYTES}
 
 -- ---- the bytes read
 
 -- all bytes were read, and they are the text of one job
 pub reads_text : (left left' : Option (List ℕ)) (bytes seen : List ℕ) (j : JobState) → seen ≡ bytes
-    → (length bytes ≤ limit) × Consumes left left' bytes × IsAtEnd left' → JobText j seen
+    → (length bytes ≤ MAX_JOB_BYTES) × Consumes left left' bytes × IsAtEnd left' → JobText j seen
     → ((other : JobState) → JobText other seen → other ≡ j)
     → (read : ReadsJob left left' j) × (read.bytes ≡ bytes)
 reads_text left left' bytes seen j same h text one = (
@@ -41,7 +42,7 @@ reads_text left left' bytes seen j same h text one = (
 
 -- all bytes were read, and they are no job's text
 pub reads_bad : (left left' : Option (List ℕ)) (bytes seen : List ℕ) (fault : JobFault) (line : ℕ) (reason : LineWhy)
-    → seen ≡ bytes → fault ≡ faults.Bad line reason → (length bytes ≤ limit) × Consumes left left' bytes × IsAtEnd left'
+    → seen ≡ bytes → fault ≡ faults.Bad line reason → (length bytes ≤ MAX_JOB_BYTES) × Consumes left left' bytes × IsAtEnd left'
     → IsNoMemory fault ⊎ IsBadLine seen fault → IsMeant seen fault
     → IsNoMemory fault ⊎ ((j : JobState) → JobText j seen → ⊥) → ReadsNoJob left left' line reason
 reads_bad left left' bytes seen faults.NoMemory line reason same is h bad meant none = absurd (cc)
@@ -63,7 +64,7 @@ reads_bad left left' bytes seen (faults.Bad n why) line reason same is h (inr ba
 
 -- more bytes than a job's text has were read
 pub reads_long : (left left' : Option (List ℕ))
-    → ((bytes : List ℕ) × (limit < length bytes) × Consumes left left' bytes)
+    → ((bytes : List ℕ) × (MAX_JOB_BYTES < length bytes) × Consumes left left' bytes)
     → ReadsNoJob left left' 0 Size
 reads_long left left' h = record { bytes = h.0; read = h.2; none = inl (h.1, refl, refl) }
 

@@ -5,12 +5,13 @@ use Rattle.gas_outside.specs.Faults.{Rose}
 use Rattle.job_text.specs.declared.job.Job.{Job as JobState}
 use Rattle.job_text.specs.JobText.{JobText}
 use Rattle.job_text.specs.Refusals as refusals
-use Rattle.job_text.specs.JobReading.{limit, job_of}
+use Rattle.job_text.specs.JobReading.{job_of}
 use Rattle.text_lines.specs.declared.why.LineWhy.{LineWhy}
 use Rattle.text_lines.specs.declared.why.LineWhy.TheVariants as why
 use Rattle.top_call.specs.Outsides.{Input, Reading}
 use Rattle.top_call.specs.HowEnds.{After, EndsHow, SaysAlone}
 use Rattle.top_call.specs.declared.ending.CommandEnd.TheVariants as ends
+use Rattle.job_text.specs.declared.reading.TheConstants.{MAX_JOB_BYTES}
 
 -- a source was read to its end, and its bytes are the text of this job, and of no other
 pub record ReadsJob (old new : Option (List ℕ)) (job : JobState) : Type 0 where
@@ -22,7 +23,7 @@ pub record ReadsJob (old new : Option (List ℕ)) (job : JobState) : Type 0 wher
 
 -- more bytes than a job's text has: line 0, for their size
 abbrev pub IsTooLong : List ℕ → (line : ℕ) → LineWhy → Type 0
-IsTooLong bytes line reason = (limit < length bytes) × (line ≡ 0) × (reason ≡ why.Size)
+IsTooLong bytes line reason = (MAX_JOB_BYTES < length bytes) × (line ≡ 0) × (reason ≡ why.Size)
 
 -- all bytes of a source, which are no job's text: this line is the first bad one, this the first reason that applies
 -- to it, and what that means, apart from how a text is read
@@ -31,7 +32,7 @@ IsBad new bytes line reason =
     IsAtEnd new × (job_of bytes ≡ Err (record { line = line; why = reason })) × refusals.Means bytes line reason
     × ((job : JobState) → JobText job bytes → ⊥)
 
--- it was read past the limit; or to its end, and its bytes are no job's text, by this line and for this reason
+-- it was read past the MAX_JOB_BYTES; or to its end, and its bytes are no job's text, by this line and for this reason
 pub record ReadsNoJob (old new : Option (List ℕ)) (line : ℕ) (reason : LineWhy) : Type 0 where
   pub bytes : List ℕ
   pub read : Consumes old new bytes
