@@ -13,6 +13,8 @@ ghost use Rattle.access_region.specs.Regions.{region_of, has_begun, name_of, emp
 ghost use Rattle.access_region.specs.Regions.{after_operation};
 
 use std::alloc::{AllocError, Global};
+use std::error::Error;
+use std::fmt;
 use std::marker::Model;
 
 /// A region that a thread has begun.
@@ -23,12 +25,28 @@ pub struct Region {
 }
 
 /// The thread has begun a region already: regions don't nest.
-#[derive(Clone, Copy)]
+#[derive(Clone, Copy, Debug)]
 pub struct Nested;
 
+impl fmt::Display for Nested {
+    fn fmt<W: fmt::Write>(&self, f: &mut fmt::Formatter<W>) -> fmt::Result {
+        write!(f, "the thread has begun a region already")
+    }
+}
+
+impl Error for Nested {}
+
 /// The thread has begun no region.
-#[derive(Clone, Copy, PartialEq, Eq)]
+#[derive(Clone, Copy, Debug, PartialEq, Eq)]
 pub struct NoRegion;
+
+impl fmt::Display for NoRegion {
+    fn fmt<W: fmt::Write>(&self, f: &mut fmt::Formatter<W>) -> fmt::Result {
+        write!(f, "the thread has begun no region")
+    }
+}
+
+impl Error for NoRegion {}
 
 /// The regions of a node's threads. Its value is the list of what each thread has begun.
 #[derive(Drop)]

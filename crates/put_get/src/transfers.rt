@@ -131,8 +131,8 @@ impl Transfers {
     pub fn is_idle(&self) -> bool
         ensures idle { ForItsOperations self.now (λ operations.
             result ≡ not (list_any has_next operations)) }
-        ensures next { (can : ℕ → Bool) (operations : List Operation) → Stands self.now operations
-            → result ≡ true → next_chunk can 1 operations ≡ None }
+        ensures next { (can : ℕ → Bool) → ForItsOperations self.now (λ operations.
+            result ≡ true → next_chunk can 1 operations ≡ None) }
     {
         self.table.is_idle()
     }
