@@ -2,5 +2,6 @@ pub mod Addresses
 pub mod Children
 pub mod Ends
 pub mod Faults
+pub mod HostTexts
 pub mod Losses
 pub mod Waits

@@ -1,7 +1,8 @@
 //! The addresses of a job's nodes.
 
-ghost use Rattle.std.specs.Prelude.{◌≡◌, ◌↔◌, [], IsTrue};
+ghost use Rattle.std.specs.Prelude.{◌≡◌, ◌↔◌, [], IfOk, IsTrue};
 ghost use Rattle.real_outside.specs.Addresses.{AreFor, FindsPeer, IsAddress};
+ghost use Rattle.real_outside.specs.HostTexts.{NamesHosts, is_between};
 
 use std::alloc::{AllocError, Global};
 use std::net::{IpAddr, Ipv4Addr, SocketAddr};
@@ -11,6 +12,13 @@ const MOST: usize = 256;
 
 /// This host.
 const LOCAL: IpAddr = IpAddr::V4(Ipv4Addr::LOCALHOST);
+
+/// Whether a byte stands between hosts: a comma, or white space of ASCII, which spaces and line ends are.
+fn is_between(byte: u8) -> bool
+    ensures { result ≡ is_between byte }
+{
+    byte == b',' || byte.is_ascii_whitespace()
+}
 
 /// The address of each node of a job, by its rank.
 ///
@@ -38,13 +46,15 @@ impl Hosts {
     /// # Errors
     ///
     /// `AllocError` where memory ran out.
-    pub fn of_text(alloc: Global, text: &str) -> Result<Option<Hosts>, AllocError> {
+    pub fn of_text(alloc: Global, text: &str) -> Result<Option<Hosts>, AllocError>
+        ensures { IfOk result (NamesHosts text.now) }
+    {
         let mut addresses = Vec::new(alloc);
-        for word in text.split(|letter: char| letter == ',' || letter.is_ascii_whitespace()) {
+        for word in text.as_bytes().split(|byte| is_between(*byte)) {
             if word.is_empty() {
                 continue;
             }
-            match word.parse::<IpAddr>() {
+            match IpAddr::parse_ascii(word) {
                 Ok(address) if addresses.len() < MOST => addresses.push(address)?,
                 _ => return Ok(None),
             }

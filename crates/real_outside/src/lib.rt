@@ -9,7 +9,8 @@
 //! - `UdpLink` meets `Link` [`bound`, `later`, `cause`]: it tells what it was bound to; its count of faults never
 //!   falls, and a call fails only where that count rose, or stands at its last value. Which errors are losses is exact
 //!   (`IsLoss`).
-//! - `Hosts`: the address of the node of a rank (`IsAddress`), and which node is the peer at an address (`FindsPeer`).
+//! - `Hosts`: which hosts a text names (`NamesHosts`), the address of the node of a rank (`IsAddress`), and which node is
+//!   the peer at an address (`FindsPeer`).
 //! - `SystemClock` meets `Clock` [`asked`, `said`]: it counts how often it was asked, and tells what it said last.
 //! - `SocketWaiter` meets `Waiter`, which promises nothing.
 //! - `ProcessSpawner` meets `Spawner` [`output`, `later`, `cause`]: where a child ended, bytes within the limit were
