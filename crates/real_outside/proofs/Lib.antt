@@ -1,1 +1,2 @@
 mod HostReading
+mod Looking

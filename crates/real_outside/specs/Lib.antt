@@ -1,4 +1,5 @@
 pub mod Addresses
+pub mod Arrivals
 pub mod Children
 pub mod Ends
 pub mod Faults

@@ -52,9 +52,14 @@ impl LinkSocket {
         &self.sender
     }
 
-    /// One more was dropped.
-    pub(crate) fn count_stray(&self) {
-        self.strays.fetch_add(1, Ordering::SeqCst);
+    /// Keeps the rank of the peer whose datagram was received last.
+    pub(crate) fn note_sender(&self, peer: u16) {
+        self.sender.store(u64::from(peer), Ordering::SeqCst);
+    }
+
+    /// So many more were dropped.
+    pub(crate) fn count_strays(&self, more: u32) {
+        self.strays.fetch_add(u64::from(more), Ordering::SeqCst);
     }
 
     /// Notes that nobody reads standard output any more. From now on the link fails.

@@ -6,6 +6,7 @@ ghost use Rattle.gas_outside.specs.Faults.{Rose};
 ghost use Rattle.real_outside.specs.Addresses.{HasPlace, IsAt};
 ghost use Rattle.real_outside.specs.Losses.{IsLoss};
 
+use crate::arrivals::{Arrivals, take_first};
 use crate::hosts::Hosts;
 use crate::link_fault::LinkFault;
 use crate::link_socket::LinkSocket;
@@ -14,16 +15,29 @@ use std::io;
 use std::io::ErrorKind;
 use std::net::{Net, SocketAddr, UdpSocket};
 use std::os::fd::AsRawFd;
-use std::sync::atomic::Ordering;
 
 /// The system's number for want of room in its queues.
 const NO_ROOM: i32 = 105;
 
-/// How many strays a call of `receive` drops, at most.
-const DROPS: u32 = 64;
-
 /// The bytes that are asked of the system for the receive buffer.
 const RECEIVE_BYTES: i32 = 4_194_304;
+
+/// What arrives at a socket, of which it tells nothing.
+#[derive(Drop)]
+struct SocketArrivals<'a> {
+    socket: &'a UdpSocket,
+}
+
+impl Arrivals for SocketArrivals<'_> {
+    ghost use Rattle.std.specs.Prelude.{None};
+
+    ghost told = { λ _. None };
+
+    /// Receives a datagram from the socket.
+    fn take_next(&mut self, buf: &mut [u8]) -> io::Result<(usize, SocketAddr)> {
+        self.socket.recv_from(buf)
+    }
+}
 
 /// A link over a UDP socket that doesn't wait. The node of rank r has the port `port + r` at the address of its host.
 ///
@@ -87,23 +101,17 @@ impl<'a, R: Net> UdpLink<'a, R> {
     fn take(&self, buf: &mut [u8]) -> io::Result<usize>
         ensures { ReadsAtMost result buf.new }
     {
-        let (Some(socket), Some((rank, nodes, port))) = (self.socket.get(), self.bound) else {
+        let (Some(socket), Some(bound)) = (self.socket.get(), self.bound) else {
             return Err(io::Error::from(ErrorKind::NotConnected));
         };
         if self.socket.is_orphaned() {
             return Err(io::Error::from(ErrorKind::BrokenPipe));
         }
-        for _ in 0..DROPS {
-            let (len, from) = socket.recv_from(buf)?;
-            if let Some(peer) = self.hosts.peer(from, rank, nodes, port) {
-                self.socket
-                    .sender()
-                    .store(u64::from(peer), Ordering::SeqCst);
-                return Ok(len);
-            }
-            self.socket.count_stray();
-        }
-        Err(io::Error::from(ErrorKind::WouldBlock))
+        let look = take_first(&mut SocketArrivals { socket }, buf, self.hosts, bound);
+        self.socket.count_strays(look.strays);
+        let (len, peer) = look.found?;
+        self.socket.note_sender(peer);
+        Ok(len)
     }
 
     /// Hands a datagram to the socket.
