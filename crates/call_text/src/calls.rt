@@ -20,7 +20,7 @@ use crate::sync_calls::{
 use crate::transfer_calls::{
     get_call, implicit_get_call, implicit_memset_call, implicit_put_call, memset_call, put_call,
 };
-use line_forms::{LineForm, Scope};
+use line_forms::{HasName, Scope};
 use std::alloc::Global;
 use text_lines::{Miss, is_name, name_of};
 

@@ -10,7 +10,7 @@ ghost use Rattle.line_forms.specs.FormTests.{shape_form};
 ghost use Rattle.line_forms.specs.Tables.{IsRow, first_named};
 
 use line_forms::WordCount::{Between, Exactly, Operations};
-use line_forms::{LineForm, WordCount};
+use line_forms::{HasName, WordCount};
 use text_lines::{is_name, words_left};
 
 /// A form of call, without its words.
@@ -254,7 +254,7 @@ impl CallForm {
     }
 }
 
-impl LineForm for CallForm {
+impl HasName for CallForm {
     ghost use Rattle.call_text.specs.Calls.{form_name};
 
     ghost name_of = { form_name };

@@ -8,7 +8,7 @@ ghost use Rattle.step_text.specs.declared.steps.Action.TheVariants as actions;
 use crate::forms::{Last, write, write_form};
 use crate::words::Word;
 use gas_outside::{BufferedSink, Sink, Wrote};
-use line_forms::LineForm;
+use line_forms::HasName;
 use step_text::{Action, ActionForm, ReplyAction, ReplyForm};
 
 /// Writes what stands behind the word `reply`.

@@ -11,7 +11,7 @@ use crate::forms::{Last, write, write_form, write_list};
 use crate::words::Word;
 use call_text::{BatchText, CallForm, LongText, MediumText, ScheduledCall};
 use gas_outside::{BufferedSink, Sink, Wrote};
-use line_forms::{LineForm, Operands};
+use line_forms::{HasName, Operands};
 use put_get::Transfer;
 
 /// Writes a Short request.
@@ -47,7 +47,7 @@ fn write_medium<K: Sink>(text: &MediumText, sink: &mut BufferedSink<K>) -> Wrote
 }
 
 /// Writes a Long request of this form.
-fn write_long<K: Sink, F: LineForm>(form: F, text: &LongText, sink: &mut BufferedSink<K>) -> Wrote
+fn write_long<K: Sink, F: HasName>(form: F, text: &LongText, sink: &mut BufferedSink<K>) -> Wrote
     ensures { GathersAll (outbox K.taken K.faults sink.old) (outbox K.taken K.faults sink.new)
         (F.name_of form ++ values_text none_text long_row.shape (
           text.now.to,
@@ -150,7 +150,7 @@ fn write_implicit<K: Sink>(transfer: &Transfer, sink: &mut BufferedSink<K>) -> W
 }
 
 /// Writes a call on the barrier of this form, by the identifier and the flags.
-pub(crate) fn write_barrier<K: Sink, F: LineForm>(
+pub(crate) fn write_barrier<K: Sink, F: HasName>(
     form: F,
     id: i32,
     flags: u8,

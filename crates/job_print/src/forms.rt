@@ -13,7 +13,7 @@ use gas_atomic::WordOp;
 use gas_outside::{BufferedSink, Sink, Wrote};
 use gas_strided::Level;
 use job_text::ListedLocks;
-use line_forms::{LineForm, Operand, Operands, Registers};
+use line_forms::{HasName, Operand, Operands, Registers};
 use text_lines::write_number;
 
 /// The list of words at the end of a line.
@@ -192,7 +192,7 @@ pub(crate) fn write_named_form<K: Sink>(
 }
 
 /// Writes the name of a form, a space and a word for each of the words, and a list.
-pub(crate) fn write_form<K: Sink, F: LineForm>(
+pub(crate) fn write_form<K: Sink, F: HasName>(
     form: F,
     words: &[Word<'_>],
     last: Last<'_>,
@@ -205,7 +205,7 @@ pub(crate) fn write_form<K: Sink, F: LineForm>(
 }
 
 /// Writes the name of a form, and a space and a word for each of the words.
-pub(crate) fn write<K: Sink, F: LineForm>(
+pub(crate) fn write<K: Sink, F: HasName>(
     form: F,
     words: &[Word<'_>],
     sink: &mut BufferedSink<K>,
@@ -217,7 +217,7 @@ pub(crate) fn write<K: Sink, F: LineForm>(
 }
 
 /// Writes the name of a form, and a space and a word for each of the registers.
-pub(crate) fn write_list<K: Sink, F: LineForm>(
+pub(crate) fn write_list<K: Sink, F: HasName>(
     form: F,
     registers: &Registers,
     sink: &mut BufferedSink<K>,
@@ -229,7 +229,7 @@ pub(crate) fn write_list<K: Sink, F: LineForm>(
 }
 
 /// Writes the line of a form that has no words.
-pub(crate) fn write_bare<K: Sink, F: LineForm>(form: F, sink: &mut BufferedSink<K>) -> Wrote
+pub(crate) fn write_bare<K: Sink, F: HasName>(form: F, sink: &mut BufferedSink<K>) -> Wrote
     ensures { GathersAll (outbox K.taken K.faults sink.old) (outbox K.taken K.faults sink.new)
         (F.name_of form ++ 10 ∷ []) result }
 {

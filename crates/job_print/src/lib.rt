@@ -15,7 +15,6 @@ mod events;
 mod forms;
 mod handlers;
 mod head;
-mod names;
 mod numbers;
 mod payloads;
 mod printing;

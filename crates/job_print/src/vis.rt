@@ -9,7 +9,7 @@ use crate::forms::{Last, write_named_form};
 use crate::words::Word;
 use gas_outside::{BufferedSink, Sink, Wrote};
 use gas_strided::Way;
-use line_forms::LineForm;
+use line_forms::HasName;
 use vis_text::{VisForm, VisShape, VisText};
 
 /// The name of a strided transfer.

@@ -4,14 +4,13 @@ ghost use Rattle.gas_outside.specs.Buffered.{GathersAll, outbox};
 ghost use Rattle.std.specs.List.{flat_map};
 ghost use Rattle.job_print.specs.Writing.{spaced_word, word_bytes};
 
-use crate::names::{collective_word, implicit_word, kind_word, op_word, role_word};
 use crate::numbers::write_operand;
 use crate::payloads::write_payload;
 use collective_area::CollectiveKind;
 use gas_atomic::Op;
 use gas_outside::{BufferedSink, Sink, Wrote};
 use handler_rules::{CallKind, Role};
-use line_forms::{Operand, Payload};
+use line_forms::{HasName, Operand, Payload};
 use put_get::ImplicitKinds;
 use text_lines::{Bytes, write_bytes, write_integer, write_number};
 
@@ -58,11 +57,11 @@ pub(crate) fn write_word<K: Sink>(word: Word<'_>, sink: &mut BufferedSink<K>) ->
         Word::U64(number) => write_number(number, sink),
         Word::Integer(number) => write_integer(number, sink),
         Word::Value(operand) => write_operand(operand, sink),
-        Word::Kind(kind) => sink.write_all(kind_word(kind)),
-        Word::Role(role) => sink.write_all(role_word(role)),
-        Word::Implicit(which) => sink.write_all(implicit_word(which)),
-        Word::Operation(op) => sink.write_all(op_word(op)),
-        Word::Collective(kind) => sink.write_all(collective_word(kind)),
+        Word::Kind(kind) => sink.write_all(kind.name()),
+        Word::Role(role) => sink.write_all(role.name()),
+        Word::Implicit(which) => sink.write_all(which.name()),
+        Word::Operation(op) => sink.write_all(op.name()),
+        Word::Collective(kind) => sink.write_all(kind.name()),
         Word::Bytes(bytes) => write_bytes(bytes.items(), sink),
         Word::Payload(payload) => write_payload(payload, sink),
     }

@@ -7,7 +7,7 @@ ghost use Rattle.std.specs.Str.{bytes_eq};
 ghost use Rattle.text_lines.specs.Lines.{front};
 ghost use Rattle.job_text.specs.Places.{form_fits, form_name, setting_name};
 
-use line_forms::LineForm;
+use line_forms::HasName;
 use text_lines::{begins, is_name};
 
 /// A line of a name and a number. A job's text begins with one of each, in this order.
@@ -49,7 +49,7 @@ impl Setting {
     }
 }
 
-impl LineForm for Setting {
+impl HasName for Setting {
     ghost use Rattle.job_text.specs.Places.{setting_name};
 
     ghost name_of = { λ setting. setting_name setting };
@@ -121,7 +121,7 @@ impl JobForm {
     }
 }
 
-impl LineForm for JobForm {
+impl HasName for JobForm {
     ghost use Rattle.job_text.specs.Places.{form_name};
 
     ghost name_of = { λ form. form_name form };

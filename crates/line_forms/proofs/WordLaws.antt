@@ -1,6 +1,7 @@
 -- Reading a word is the inverse of writing it.
 use Rattle.std.proofs.Common.{FitsSigned, ℤ, pos, negsuc, ◌≡◌, ℕ, ◌^◌, ◌<◌, ◌≤◌, List, [], ◌∷◌, drop, get_or}
-use Rattle.std.proofs.Common.{Option, Some, true, false, cond, eqb, refl, ap, ◌∙◌, arith, decimal, codes}
+use Rattle.std.proofs.Common.{Some, true, false, eqb, refl, ap, ◌∙◌, arith, decimal}
+use Rattle.std.specs.List.{AllByRecursion}
 use Rattle.std.specs.Str.{bytes_eq}
 use Rattle.std.specs.Str.Parse.{AllDigits}
 use Rattle.std.specs.Int.{w32}
@@ -12,6 +13,7 @@ use Rattle.std.proofs.lemmas.Bool.{and_parts, and_from, leb-true, le-leb, ne_eqb
 use Rattle.collective_area.specs.declared.shape.CollectiveKind.{CollectiveKind}
 use Rattle.collective_area.specs.declared.shape.CollectiveKind.TheVariants as collective
 use Rattle.gas_atomic.specs.declared.word.Op.{Op}
+use Rattle.gas_atomic.specs.Words.{all_ops}
 use Rattle.gas_atomic.specs.declared.word.Op.TheVariants as op
 use Rattle.handler_rules.specs.declared.rules.CallKind.{CallKind}
 use Rattle.handler_rules.specs.declared.rules.CallKind.TheVariants as kind
@@ -24,8 +26,9 @@ use Rattle.line_forms.specs.declared.values.Operand.TheVariants as operand
 use Rattle.text_lines.specs.Lines.{Word}
 use Rattle.text_lines.specs.Words.{number_in}
 use Rattle.line_forms.specs.Kinds.{schedule_operand, body_operand, operand_word, IsOperand}
-use Rattle.line_forms.specs.Kinds.{kind_of, kind_word, IsNamed, role_of, role_word}
-use Rattle.line_forms.specs.Kinds.{implicit_of, implicit_word, op_of, op_word, collective_of, collective_word}
+use Rattle.line_forms.specs.Kinds.{kind_word, named_kinds, IsNamed, role_word, all_roles, implicit_word, all_implicit}
+use Rattle.line_forms.specs.Kinds.{op_word, collective_word, all_collectives}
+use Rattle.line_forms.specs.Names.{first_named}
 use Rattle.line_forms.specs.declared.operands.NumberPlace.TheVariants.{Schedule, Body}
 use Rattle.line_forms.specs.Forms.{Bytes, Payload, BodyPayload, Integer, Implicit, Operation, Collective}
 use Rattle.line_forms.specs.Forms.{Part, Number, NumberOf, Kind, Role, Meaning, word_text, IsSaid, word_says}
@@ -65,22 +68,24 @@ same_word a b h = (bytes_eq-Decides a b).0 h
 pub equal_word : (a : Word) → bytes_eq a a ≡ true
 equal_word a = (bytes_eq-Decides a a).1 refl
 
--- one of several words
-one_of : {A : Type 0} {P : A → Type 0} {word name : Word} (x : A) {others : Option A} → (word ≡ name → P x)
-    → Takes P others → Takes P (cond (bytes_eq word name) (Some x) others)
-one_of {A} {P} {word} {name} x is rest = takes_if (λ b. takes_some (is (same_word word name b))) (λ b. rest)
+-- a word that was read as the name of one of several
+named_takes : {A : Type 0} {P : A → Type 0} (name_of : A → Word) (all : List A) (word : Word)
+    → AllByRecursion P all → Takes (λ x. (word ≡ name_of x) × P x) (first_named name_of all word)
+named_takes name_of [] word each = takes_none
+named_takes name_of (x ∷ all) word each =
+    takes_if (λ b. takes_some (same_word word (name_of x) b, each.0)) (λ b. named_takes name_of all word each.1)
 
--- a word that was read as a kind
-kind_takes : (word : Word) → Takes (λ k. (word ≡ kind_word k) × IsNamed k) (kind_of word)
-unfolding kind_of
-kind_takes word =
-    one_of _ (λ e. (e, tt)) (one_of _ (λ e. (e, tt)) (one_of _ (λ e. (e, tt)) (one_of _ (λ e. (e, tt))
-    (one_of _ (λ e. (e, tt)) (one_of _ (λ e. (e, tt)) (one_of _ (λ e. (e, tt)) (one_of _
-    (λ e. (e, tt)) takes_none)))))))
+-- nothing more is asked of them
+nothing_more : {A : Type 0} (all : List A) → AllByRecursion (λ x. Unit {0}) all
+nothing_more [] = tt
+nothing_more (x ∷ all) = (tt, nothing_more all)
+
+-- the kinds by which a word is read have words
+all_named : AllByRecursion IsNamed named_kinds
+all_named = (tt, (tt, (tt, (tt, (tt, (tt, (tt, (tt, tt))))))))
 
 -- a kind is read again
-kind_again : (k : CallKind) → IsNamed k → kind_of (kind_word k) ≡ Some k
-unfolding kind_of
+kind_again : (k : CallKind) → IsNamed k → first_named kind_word named_kinds (kind_word k) ≡ Some k
 kind_again kind.Request h = refl
 kind_again kind.Reply h = refl
 kind_again kind.Poll h = refl
@@ -180,16 +185,8 @@ body_run (operand.Argument n) h = (refl, decimal_run n (omega arith))
 
 -- ---- roles
 
--- a word that was read as a role
-role_takes : (word : Word) → Takes (λ r. word ≡ role_word r) (role_of word)
-unfolding role_of
-role_takes word =
-    one_of {P = λ r. word ≡ role_word r} {word = word} {name = codes "request"} role.Request (λ e. e)
-    (one_of {P = λ r. word ≡ role_word r} {word = word} {name = codes "reply"} role.Reply (λ e. e) takes_none)
-
 -- a role is read again
-role_again : (r : HandlerRole) → role_of (role_word r) ≡ Some r
-unfolding role_of
+role_again : (r : HandlerRole) → first_named role_word all_roles (role_word r) ≡ Some r
 role_again role.Request = refl
 role_again role.Reply = refl
 
@@ -200,17 +197,8 @@ role_run role.Reply = (refl, (refl, (refl, (refl, (refl, tt)))))
 
 -- ---- implicit operations
 
--- a word that was read as implicit operations
-implicit_takes : (word : Word) → Takes (λ k. word ≡ implicit_word k) (implicit_of word)
-unfolding implicit_of
-implicit_takes word =
-    one_of {P = λ k. word ≡ implicit_word k} {word = word} {name = codes "puts"} implicit.Puts (λ e. e)
-    (one_of {P = λ k. word ≡ implicit_word k} {word = word} {name = codes "gets"} implicit.Gets (λ e. e)
-    (one_of {P = λ k. word ≡ implicit_word k} {word = word} {name = codes "all"} implicit.All (λ e. e) takes_none))
-
 -- implicit operations are read again
-implicit_again : (k : ImplicitKinds) → implicit_of (implicit_word k) ≡ Some k
-unfolding implicit_of
+implicit_again : (k : ImplicitKinds) → first_named implicit_word all_implicit (implicit_word k) ≡ Some k
 implicit_again implicit.Puts = refl
 implicit_again implicit.Gets = refl
 implicit_again implicit.All = refl
@@ -223,17 +211,8 @@ implicit_run implicit.All = (refl, (refl, (refl, tt)))
 
 -- ---- operations of remote atomics
 
--- a word that was read as an operation
-op_takes : (word : Word) → Takes (λ o. (word ≡ op_word o) × Unit {0}) (op_of word)
-unfolding op_of
-op_takes word =
-    one_of _ (λ e. (e, tt)) (one_of _ (λ e. (e, tt)) (one_of _ (λ e. (e, tt)) (one_of _ (λ e. (e, tt))
-    (one_of _ (λ e. (e, tt)) (one_of _ (λ e. (e, tt)) (one_of _ (λ e. (e, tt)) (one_of _ (λ e. (e, tt))
-    (one_of _ (λ e. (e, tt)) (one_of _ (λ e. (e, tt)) takes_none)))))))))
-
 -- an operation is read again
-op_again : (o : Op) → op_of (op_word o) ≡ Some o
-unfolding op_of
+op_again : (o : Op) → first_named op_word all_ops (op_word o) ≡ Some o
 op_again op.Get = refl
 op_again op.Swap = refl
 op_again op.CompareSwap = refl
@@ -260,17 +239,8 @@ op_run op.Max = (refl, (refl, (refl, tt)))
 
 -- ---- kinds of collectives
 
--- a word that was read as a kind of collective
-collective_takes : (word : Word) → Takes (λ k. (word ≡ collective_word k) × Unit {0}) (collective_of word)
-unfolding collective_of
-collective_takes word =
-    one_of _ (λ e. (e, tt)) (one_of _ (λ e. (e, tt)) (one_of _ (λ e. (e, tt)) (one_of _ (λ e. (e, tt))
-    (one_of _ (λ e. (e, tt)) (one_of _ (λ e. (e, tt)) (one_of _ (λ e. (e, tt)) (one_of _ (λ e. (e, tt))
-    (one_of _ (λ e. (e, tt)) takes_none))))))))
-
--- it is read again
-collective_again : (k : CollectiveKind) → collective_of (collective_word k) ≡ Some k
-unfolding collective_of
+-- a kind of collective is read again
+collective_again : (k : CollectiveKind) → first_named collective_word all_collectives (collective_word k) ≡ Some k
 collective_again collective.Broadcast = refl
 collective_again collective.Gather = refl
 collective_again collective.AllGather = refl
@@ -300,15 +270,15 @@ pub word_takes : (p : Part) (word : Word) → Takes (λ x. (word ≡ word_text p
 word_takes (Number low high) word = in_takes low high word
 word_takes (NumberOf Schedule) word = schedule_takes word
 word_takes (NumberOf Body) word = body_takes word
-word_takes Kind word = kind_takes word
-word_takes Role word = takes_weaker (λ w. word ≡ role_word w) (role_takes word) (λ w h. (h, tt))
+word_takes Kind word = named_takes kind_word named_kinds word all_named
+word_takes Role word = named_takes role_word all_roles word (nothing_more all_roles)
 word_takes Bytes word = bytes_take word
 word_takes Payload word = payload_takes word
 word_takes BodyPayload word = body_payload_takes word
 word_takes Integer word = takes_weaker (IsInteger word) (integer_takes word) (λ z h. (h.spells, h.fits))
-word_takes Implicit word = takes_weaker (λ w. word ≡ implicit_word w) (implicit_takes word) (λ w h. (h, tt))
-word_takes Operation word = op_takes word
-word_takes Collective word = collective_takes word
+word_takes Implicit word = named_takes implicit_word all_implicit word (nothing_more all_implicit)
+word_takes Operation word = named_takes op_word all_ops word (nothing_more all_ops)
+word_takes Collective word = named_takes collective_word all_collectives word (nothing_more all_collectives)
 
 -- a word is read again
 pub word_again : (p : Part) (x : Meaning p) → IsSaid p x → word_says p (word_text p x) ≡ Some x

@@ -10,8 +10,9 @@ use Rattle.std.specs.Str.{bytes_eq}
 use Rattle.text_lines.specs.Lines.{Word, ◌>>=◌, front, back, spaced, has_space}
 use Rattle.text_lines.specs.Words.{integer_of, integer_read, number_in}
 use Rattle.line_forms.specs.Kinds.{operand_of, operand_word, IsOperand}
-use Rattle.line_forms.specs.Kinds.{kind_of, kind_word, IsNamed, role_of, role_word}
-use Rattle.line_forms.specs.Kinds.{implicit_of, implicit_word, op_of, op_word, collective_of, collective_word}
+use Rattle.line_forms.specs.Kinds.{kind_word, named_kinds, IsNamed, role_word, all_roles, implicit_word, all_implicit}
+use Rattle.line_forms.specs.Kinds.{op_word, collective_word, all_collectives}
+use Rattle.line_forms.specs.Names.{first_named}
 use Rattle.line_forms.specs.Payloads.{payload_of, body_payload_of, payload_word, IsPayload, IsBodyPayload}
 use Rattle.text_lines.specs.HexBytes.{bytes_of}
 use Rattle.text_lines.specs.HexBytes.{bytes_word, AreBytes}
@@ -23,6 +24,7 @@ use Rattle.line_forms.specs.declared.operands.NumberPlace.{NumberPlace}
 use Rattle.line_forms.specs.declared.operands.NumberPlace.TheVariants.{Schedule, Body}
 use Rattle.collective_area.specs.declared.shape.CollectiveKind.{CollectiveKind}
 use Rattle.gas_atomic.specs.declared.word.Op.{Op}
+use Rattle.gas_atomic.specs.Words.{all_ops}
 use Rattle.gas_atomic.specs.declared.word.WordOp.{WordOp}
 use Rattle.gas_strided.specs.declared.shapes.Level.{Level}
 use Rattle.handler_rules.specs.declared.rules.CallKind.{CallKind}
@@ -97,15 +99,15 @@ IsSaid Collective kind = Unit {0}
 abbrev pub word_says : (p : Part) → Word → Option (Meaning p)
 word_says (Number low high) word = number_in low high word
 word_says (NumberOf place) word = operand_of place word
-word_says Kind word = kind_of word
-word_says Role word = role_of word
+word_says Kind word = first_named kind_word named_kinds word
+word_says Role word = first_named role_word all_roles word
 word_says Bytes word = bytes_of word
 word_says Payload word = payload_of word
 word_says BodyPayload word = body_payload_of word
 word_says Integer word = integer_of word
-word_says Implicit word = implicit_of word
-word_says Operation word = op_of word
-word_says Collective word = collective_of word
+word_says Implicit word = first_named implicit_word all_implicit word
+word_says Operation word = first_named op_word all_ops word
+word_says Collective word = first_named collective_word all_collectives word
 
 -- what the first word says, and the bytes after it
 unfoldable pub word_at : (p : Part) → List ℕ → Option (Meaning p × List ℕ)

@@ -1,9 +1,9 @@
 -- The words of operands, of kinds of calls, of roles and of operations.
-use Rattle.std.specs.Prelude.{[], ◌<◌, ◌∷◌, Option, Some, None, codes, decimal, drop, slice_index, ◌==◌, if◌then◌else◌}
+use Rattle.std.specs.Prelude.{List, [], ◌<◌, ◌∷◌, Option, Some, codes, decimal, drop, slice_index, ◌==◌}
+use Rattle.std.specs.Prelude.{if◌then◌else◌}
 use Rattle.std.specs.Int.{w32}
 use Rattle.std.specs.Int.RustNames.{FitsSigned}
 use Rattle.std.specs.Fmt.{signed_decimal}
-use Rattle.std.specs.Str.{bytes_eq}
 use Rattle.text_lines.specs.Lines.{Word, ◌>>=◌}
 use Rattle.text_lines.specs.Words.{number_in, integer_of}
 use Rattle.put_get.specs.declared.operation.ImplicitKinds.{ImplicitKinds}
@@ -70,28 +70,20 @@ IsNamed kind.Unlock = ⊥
 IsNamed kind.Return = ⊥
 IsNamed k = Unit {0}
 
--- a kind of call that has a word
-unfoldable pub kind_of : Word → Option CallKind
-kind_of word =
-    if bytes_eq word (codes "request") then Some kind.Request else (
-    if bytes_eq word (codes "reply") then Some kind.Reply else (
-    if bytes_eq word (codes "poll") then Some kind.Poll else (
-    if bytes_eq word (codes "transfer") then Some kind.Transfer else (
-    if bytes_eq word (codes "sync") then Some kind.Sync else (
-    if bytes_eq word (codes "region") then Some kind.Region else (
-    if bytes_eq word (codes "barrier") then Some kind.Barrier else (
-    if bytes_eq word (codes "source") then Some kind.Source else None)))))))
+-- these kinds, in the order in which a word is looked up
+abbrev pub named_kinds : List CallKind
+named_kinds =
+    kind.Request ∷ kind.Reply ∷ kind.Poll ∷ kind.Transfer ∷ kind.Sync ∷ kind.Region ∷ kind.Barrier ∷ kind.Source
+    ∷ []
 
 -- the word of a role
 abbrev pub role_word : Role → Word
 role_word role.Request = codes "request"
 role_word role.Reply = codes "reply"
 
--- a role by its word
-unfoldable pub role_of : Word → Option Role
-role_of word =
-    if bytes_eq word (codes "request") then Some role.Request else (
-    if bytes_eq word (codes "reply") then Some role.Reply else None)
+-- the roles, in the order in which a word is looked up
+abbrev pub all_roles : List Role
+all_roles = role.Request ∷ role.Reply ∷ []
 
 -- the word of implicit operations (GASNet 1.8.1, extended API: gasnet_try_syncnbi_puts, _gets and _all)
 abbrev pub implicit_word : ImplicitKinds → Word
@@ -99,12 +91,9 @@ implicit_word implicit.Puts = codes "puts"
 implicit_word implicit.Gets = codes "gets"
 implicit_word implicit.All = codes "all"
 
--- implicit operations by their word
-unfoldable pub implicit_of : Word → Option ImplicitKinds
-implicit_of word =
-    if bytes_eq word (codes "puts") then Some implicit.Puts else (
-    if bytes_eq word (codes "gets") then Some implicit.Gets else (
-    if bytes_eq word (codes "all") then Some implicit.All else None))
+-- the implicit operations, in that order
+abbrev pub all_implicit : List ImplicitKinds
+all_implicit = implicit.Puts ∷ implicit.Gets ∷ implicit.All ∷ []
 
 -- the word of an operation of remote atomics
 abbrev pub op_word : Op → Word
@@ -119,20 +108,6 @@ op_word op.Xor = codes "xor"
 op_word op.Min = codes "min"
 op_word op.Max = codes "max"
 
--- an operation by its word
-unfoldable pub op_of : Word → Option Op
-op_of word =
-    if bytes_eq word (codes "get") then Some op.Get else (
-    if bytes_eq word (codes "swap") then Some op.Swap else (
-    if bytes_eq word (codes "cas") then Some op.CompareSwap else (
-    if bytes_eq word (codes "add") then Some op.Add else (
-    if bytes_eq word (codes "sub") then Some op.Sub else (
-    if bytes_eq word (codes "and") then Some op.And else (
-    if bytes_eq word (codes "or") then Some op.Or else (
-    if bytes_eq word (codes "xor") then Some op.Xor else (
-    if bytes_eq word (codes "min") then Some op.Min else (
-    if bytes_eq word (codes "max") then Some op.Max else None)))))))))
-
 -- the word of a kind of collective
 abbrev pub collective_word : CollectiveKind → Word
 collective_word collective.Broadcast = codes "broadcast"
@@ -145,15 +120,8 @@ collective_word collective.AllSum = codes "all-sum"
 collective_word collective.AllMin = codes "all-min"
 collective_word collective.AllMax = codes "all-max"
 
--- a kind of collective by its word
-unfoldable pub collective_of : Word → Option CollectiveKind
-collective_of word =
-    if bytes_eq word (codes "broadcast") then Some collective.Broadcast else (
-    if bytes_eq word (codes "gather") then Some collective.Gather else (
-    if bytes_eq word (codes "all-gather") then Some collective.AllGather else (
-    if bytes_eq word (codes "sum") then Some collective.Sum else (
-    if bytes_eq word (codes "min") then Some collective.Min else (
-    if bytes_eq word (codes "max") then Some collective.Max else (
-    if bytes_eq word (codes "all-sum") then Some collective.AllSum else (
-    if bytes_eq word (codes "all-min") then Some collective.AllMin else (
-    if bytes_eq word (codes "all-max") then Some collective.AllMax else None))))))))
+-- the kinds of collectives, in that order
+abbrev pub all_collectives : List CollectiveKind
+all_collectives =
+    collective.Broadcast ∷ collective.Gather ∷ collective.AllGather ∷ collective.Sum ∷ collective.Min
+    ∷ collective.Max ∷ collective.AllSum ∷ collective.AllMin ∷ collective.AllMax ∷ []

@@ -1,18 +1,11 @@
 -- Tables of forms in code.
-use Rattle.std.specs.Prelude.{◌≡◌, ℕ, ◌+◌, List, [], ◌∷◌, Option, None, Some, Bool, ◌&&◌, nat_le, ◌==◌}
-use Rattle.std.specs.Prelude.{if◌then◌else◌}
-use Rattle.std.specs.Str.{bytes_eq}
+use Rattle.std.specs.Prelude.{◌≡◌, ℕ, ◌+◌, Bool, ◌&&◌, nat_le, ◌==◌}
 use Rattle.text_lines.specs.Lines.{Word}
 use Rattle.line_forms.specs.Forms.{Shape, End, ◌▸◌, Many, Any, Bundles, Split, Inner, Operations, Row}
 use Rattle.line_forms.specs.FormTests.{are_bundles}
+pub use Rattle.line_forms.specs.Names.{first_named}
 use Rattle.line_forms.specs.declared.tables.WordCount.{WordCount}
 use Rattle.line_forms.specs.declared.tables.WordCount.TheVariants as counts
-
--- the first of the forms that has this name
-abbrev pub first_named : {F : Type 0} → (name_of : F → Word) → List F → Word → Option F
-first_named name_of [] name = None
-first_named name_of (form ∷ forms) name =
-    if bytes_eq name (name_of form) then Some form else first_named name_of forms name
 
 -- whether so many words may follow the name
 abbrev pub fits : WordCount → (words : ℕ) → Bool

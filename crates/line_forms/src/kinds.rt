@@ -1,48 +1,164 @@
 //! Kinds of calls, of implicit operations and of collectives, roles, and operations of remote atomics, as words of a
-//! line.
+//! line: the one place in code that has these words.
 
-ghost use Rattle.std.specs.Prelude.{◌≡◌};
-ghost use Rattle.line_forms.specs.Kinds.{collective_of, implicit_of, kind_of, op_of, role_of};
 ghost use Rattle.line_forms.specs.Forms.{Collective, Implicit, Kind, Operation, Role as RolePart};
 ghost use Rattle.line_forms.specs.Forms.{part_at};
+ghost use Rattle.line_forms.specs.Names.{named_at};
 ghost use Rattle.text_lines.specs.Found.{Finds};
 
+use crate::names::{HasName, first_named};
 use collective_area::CollectiveKind;
 use gas_atomic::Op;
 use handler_rules::{CallKind, Role};
 use put_get::ImplicitKinds;
-use text_lines::{Other, is_name, name_of, spaced};
+use text_lines::{Other, name_of, spaced};
 
-/// The kind of calls that a word names.
-#[tactic(auto, unfolding(crate::specs::Kinds::kind_of))]
-fn kind_of(word: &[u8]) -> Option<CallKind>
-    ensures { result ≡ kind_of word.now }
+/// The kinds of calls that have a word, in the order in which it is looked up.
+const NAMED_KINDS: [CallKind; 8] = [
+    CallKind::Request,
+    CallKind::Reply,
+    CallKind::Poll,
+    CallKind::Transfer,
+    CallKind::Sync,
+    CallKind::Region,
+    CallKind::Barrier,
+    CallKind::Source,
+];
+
+/// The roles.
+const ALL_ROLES: [Role; 2] = [Role::Request, Role::Reply];
+
+/// The implicit operations.
+const ALL_IMPLICIT: [ImplicitKinds; 3] = [
+    ImplicitKinds::Puts,
+    ImplicitKinds::Gets,
+    ImplicitKinds::All,
+];
+
+/// The operations of remote atomics.
+const ALL_OPS: [Op; 10] = [
+    Op::Get,
+    Op::Swap,
+    Op::CompareSwap,
+    Op::Add,
+    Op::Sub,
+    Op::And,
+    Op::Or,
+    Op::Xor,
+    Op::Min,
+    Op::Max,
+];
+
+/// The kinds of collectives.
+const ALL_COLLECTIVES: [CollectiveKind; 9] = [
+    CollectiveKind::Broadcast,
+    CollectiveKind::Gather,
+    CollectiveKind::AllGather,
+    CollectiveKind::Sum,
+    CollectiveKind::Min,
+    CollectiveKind::Max,
+    CollectiveKind::AllSum,
+    CollectiveKind::AllMin,
+    CollectiveKind::AllMax,
+];
+
+impl HasName for CallKind {
+    ghost use Rattle.line_forms.specs.Kinds.{kind_word};
+
+    ghost name_of = { kind_word };
+
+    fn name(self) -> &'static [u8] {
+        match self {
+            CallKind::Request => b"request",
+            CallKind::Reply => b"reply",
+            CallKind::Poll => b"poll",
+            CallKind::Transfer => b"transfer",
+            CallKind::Sync => b"sync",
+            CallKind::Region => b"region",
+            CallKind::Barrier => b"barrier",
+            CallKind::Source => b"source",
+            CallKind::Lock | CallKind::Unlock | CallKind::Return => b"",
+        }
+    }
+}
+
+impl HasName for Role {
+    ghost use Rattle.line_forms.specs.Kinds.{role_word};
+
+    ghost name_of = { role_word };
+
+    fn name(self) -> &'static [u8] {
+        match self {
+            Role::Request => b"request",
+            Role::Reply => b"reply",
+        }
+    }
+}
+
+impl HasName for ImplicitKinds {
+    ghost use Rattle.line_forms.specs.Kinds.{implicit_word};
+
+    ghost name_of = { implicit_word };
+
+    fn name(self) -> &'static [u8] {
+        match self {
+            ImplicitKinds::Puts => b"puts",
+            ImplicitKinds::Gets => b"gets",
+            ImplicitKinds::All => b"all",
+        }
+    }
+}
+
+impl HasName for Op {
+    ghost use Rattle.line_forms.specs.Kinds.{op_word};
+
+    ghost name_of = { op_word };
+
+    fn name(self) -> &'static [u8] {
+        match self {
+            Op::Get => b"get",
+            Op::Swap => b"swap",
+            Op::CompareSwap => b"cas",
+            Op::Add => b"add",
+            Op::Sub => b"sub",
+            Op::And => b"and",
+            Op::Or => b"or",
+            Op::Xor => b"xor",
+            Op::Min => b"min",
+            Op::Max => b"max",
+        }
+    }
+}
+
+impl HasName for CollectiveKind {
+    ghost use Rattle.line_forms.specs.Kinds.{collective_word};
+
+    ghost name_of = { collective_word };
+
+    fn name(self) -> &'static [u8] {
+        match self {
+            CollectiveKind::Broadcast => b"broadcast",
+            CollectiveKind::Gather => b"gather",
+            CollectiveKind::AllGather => b"all-gather",
+            CollectiveKind::Sum => b"sum",
+            CollectiveKind::Min => b"min",
+            CollectiveKind::Max => b"max",
+            CollectiveKind::AllSum => b"all-sum",
+            CollectiveKind::AllMin => b"all-min",
+            CollectiveKind::AllMax => b"all-max",
+        }
+    }
+}
+
+/// Which of them the word behind a space names.
+fn named_at<'a, N: HasName>(all: &[N], bytes: &'a [u8]) -> Result<(N, &'a [u8]), Other>
+    ensures { Finds (λ x. (x.0, x.1.now)) result (named_at N.name_of all.now bytes.now) }
 {
-    if is_name(word, b"request") {
-        return Some(CallKind::Request);
-    }
-    if is_name(word, b"reply") {
-        return Some(CallKind::Reply);
-    }
-    if is_name(word, b"poll") {
-        return Some(CallKind::Poll);
-    }
-    if is_name(word, b"transfer") {
-        return Some(CallKind::Transfer);
-    }
-    if is_name(word, b"sync") {
-        return Some(CallKind::Sync);
-    }
-    if is_name(word, b"region") {
-        return Some(CallKind::Region);
-    }
-    if is_name(word, b"barrier") {
-        return Some(CallKind::Barrier);
-    }
-    if is_name(word, b"source") {
-        return Some(CallKind::Source);
-    }
-    None
+    let (word, rest) = name_of(spaced(bytes)?);
+    let Some(named) = first_named(all, word) else {
+        return Err(Other);
+    };
+    Ok((named, rest))
 }
 
 /// A kind of calls behind a space.
@@ -50,26 +166,7 @@ fn kind_of(word: &[u8]) -> Option<CallKind>
 pub fn kind_at(bytes: &[u8]) -> Result<(CallKind, &[u8]), Other>
     ensures { Finds (λ x. (x.0, x.1.now)) result (part_at Kind bytes.now) }
 {
-    let bytes = spaced(bytes)?;
-    let (word, rest) = name_of(bytes);
-    let Some(kind) = kind_of(word) else {
-        return Err(Other);
-    };
-    Ok((kind, rest))
-}
-
-/// The role that a word names.
-#[tactic(auto, unfolding(crate::specs::Kinds::role_of))]
-fn role_of(word: &[u8]) -> Option<Role>
-    ensures { result ≡ role_of word.now }
-{
-    if is_name(word, b"request") {
-        return Some(Role::Request);
-    }
-    if is_name(word, b"reply") {
-        return Some(Role::Reply);
-    }
-    None
+    named_at(&NAMED_KINDS, bytes)
 }
 
 /// A role behind a space.
@@ -77,29 +174,7 @@ fn role_of(word: &[u8]) -> Option<Role>
 pub fn role_at(bytes: &[u8]) -> Result<(Role, &[u8]), Other>
     ensures { Finds (λ x. (x.0, x.1.now)) result (part_at RolePart bytes.now) }
 {
-    let bytes = spaced(bytes)?;
-    let (word, rest) = name_of(bytes);
-    let Some(role) = role_of(word) else {
-        return Err(Other);
-    };
-    Ok((role, rest))
-}
-
-/// The kind of implicit operations that a word names.
-#[tactic(auto, unfolding(crate::specs::Kinds::implicit_of))]
-fn implicit_of(word: &[u8]) -> Option<ImplicitKinds>
-    ensures { result ≡ implicit_of word.now }
-{
-    if is_name(word, b"puts") {
-        return Some(ImplicitKinds::Puts);
-    }
-    if is_name(word, b"gets") {
-        return Some(ImplicitKinds::Gets);
-    }
-    if is_name(word, b"all") {
-        return Some(ImplicitKinds::All);
-    }
-    None
+    named_at(&ALL_ROLES, bytes)
 }
 
 /// A kind of implicit operations behind a space.
@@ -107,50 +182,7 @@ fn implicit_of(word: &[u8]) -> Option<ImplicitKinds>
 pub fn implicit_at(bytes: &[u8]) -> Result<(ImplicitKinds, &[u8]), Other>
     ensures { Finds (λ x. (x.0, x.1.now)) result (part_at Implicit bytes.now) }
 {
-    let bytes = spaced(bytes)?;
-    let (word, rest) = name_of(bytes);
-    let Some(kind) = implicit_of(word) else {
-        return Err(Other);
-    };
-    Ok((kind, rest))
-}
-
-/// The operation of remote atomics that a word names.
-#[tactic(auto, unfolding(crate::specs::Kinds::op_of))]
-fn op_of(word: &[u8]) -> Option<Op>
-    ensures { result ≡ op_of word.now }
-{
-    if is_name(word, b"get") {
-        return Some(Op::Get);
-    }
-    if is_name(word, b"swap") {
-        return Some(Op::Swap);
-    }
-    if is_name(word, b"cas") {
-        return Some(Op::CompareSwap);
-    }
-    if is_name(word, b"add") {
-        return Some(Op::Add);
-    }
-    if is_name(word, b"sub") {
-        return Some(Op::Sub);
-    }
-    if is_name(word, b"and") {
-        return Some(Op::And);
-    }
-    if is_name(word, b"or") {
-        return Some(Op::Or);
-    }
-    if is_name(word, b"xor") {
-        return Some(Op::Xor);
-    }
-    if is_name(word, b"min") {
-        return Some(Op::Min);
-    }
-    if is_name(word, b"max") {
-        return Some(Op::Max);
-    }
-    None
+    named_at(&ALL_IMPLICIT, bytes)
 }
 
 /// An operation of remote atomics behind a space.
@@ -158,47 +190,7 @@ fn op_of(word: &[u8]) -> Option<Op>
 pub fn op_at(bytes: &[u8]) -> Result<(Op, &[u8]), Other>
     ensures { Finds (λ x. (x.0, x.1.now)) result (part_at Operation bytes.now) }
 {
-    let bytes = spaced(bytes)?;
-    let (word, rest) = name_of(bytes);
-    let Some(op) = op_of(word) else {
-        return Err(Other);
-    };
-    Ok((op, rest))
-}
-
-/// The kind of collective that a word names.
-#[tactic(auto, unfolding(crate::specs::Kinds::collective_of))]
-fn collective_of(word: &[u8]) -> Option<CollectiveKind>
-    ensures { result ≡ collective_of word.now }
-{
-    if is_name(word, b"broadcast") {
-        return Some(CollectiveKind::Broadcast);
-    }
-    if is_name(word, b"gather") {
-        return Some(CollectiveKind::Gather);
-    }
-    if is_name(word, b"all-gather") {
-        return Some(CollectiveKind::AllGather);
-    }
-    if is_name(word, b"sum") {
-        return Some(CollectiveKind::Sum);
-    }
-    if is_name(word, b"min") {
-        return Some(CollectiveKind::Min);
-    }
-    if is_name(word, b"max") {
-        return Some(CollectiveKind::Max);
-    }
-    if is_name(word, b"all-sum") {
-        return Some(CollectiveKind::AllSum);
-    }
-    if is_name(word, b"all-min") {
-        return Some(CollectiveKind::AllMin);
-    }
-    if is_name(word, b"all-max") {
-        return Some(CollectiveKind::AllMax);
-    }
-    None
+    named_at(&ALL_OPS, bytes)
 }
 
 /// A kind of collective behind a space.
@@ -206,10 +198,5 @@ fn collective_of(word: &[u8]) -> Option<CollectiveKind>
 pub fn collective_kind_at(bytes: &[u8]) -> Result<(CollectiveKind, &[u8]), Other>
     ensures { Finds (λ x. (x.0, x.1.now)) result (part_at Collective bytes.now) }
 {
-    let bytes = spaced(bytes)?;
-    let (word, rest) = name_of(bytes);
-    let Some(kind) = collective_of(word) else {
-        return Err(Other);
-    };
-    Ok((kind, rest))
+    named_at(&ALL_COLLECTIVES, bytes)
 }

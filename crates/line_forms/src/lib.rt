@@ -7,6 +7,7 @@
 
 mod bundles;
 mod kinds;
+mod names;
 mod number_words;
 mod operand_lists;
 mod operands;
@@ -17,10 +18,11 @@ mod values;
 
 pub use bundles::are_bundles;
 pub use kinds::{collective_kind_at, implicit_at, kind_at, op_at, role_at};
+pub use names::{HasName, first_named};
 pub use number_words::{byte_at, number_at, number_here, short_at};
 pub use operand_lists::{operands_at, registers_at};
 pub use operands::{NumberPlace, body_value_at, integer_at, value_at};
 pub use payloads::{body_payload_at, bytes_at, payload_at};
 pub use scope::{Scope, is_second};
-pub use tables::{LineForm, WordCount, first_named};
+pub use tables::WordCount;
 pub use values::{Operand, Operands, Payload, Registers};

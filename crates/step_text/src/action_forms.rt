@@ -5,7 +5,7 @@ ghost use Rattle.line_forms.specs.FormTests.{shape_form};
 ghost use Rattle.step_text.specs.Bodies.{action_form_row, action_named, reply_form};
 
 use crate::bodies::reply_form;
-use line_forms::{LineForm, first_named};
+use line_forms::{HasName, first_named};
 use text_lines::{spaced, words_left};
 
 /// A form of action, without its words.
@@ -73,7 +73,7 @@ impl ActionForm {
     }
 }
 
-impl LineForm for ActionForm {
+impl HasName for ActionForm {
     ghost use Rattle.step_text.specs.Bodies.{action_form_row};
 
     ghost name_of = { λ form. (action_form_row form).name };

@@ -6,7 +6,7 @@ ghost use Rattle.line_forms.specs.Tables.{IsRow};
 ghost use Rattle.step_text.specs.CollectiveLines.{collective_form_row, collective_named};
 
 use line_forms::WordCount::Exactly;
-use line_forms::{LineForm, WordCount, first_named};
+use line_forms::{HasName, WordCount, first_named};
 use text_lines::words_left;
 
 /// A form of line that is a call of collectives, without its words.
@@ -55,7 +55,7 @@ impl CollectiveForm {
     }
 }
 
-impl LineForm for CollectiveForm {
+impl HasName for CollectiveForm {
     ghost use Rattle.step_text.specs.CollectiveLines.{collective_form_row};
 
     ghost name_of = { λ form. (collective_form_row form).name };

@@ -6,7 +6,7 @@ ghost use Rattle.step_text.specs.Events.{event_form_row, event_named};
 ghost use Rattle.step_text.specs.ThreadActions.{thread_action_form};
 
 use crate::thread_actions::thread_action_form;
-use line_forms::{LineForm, Scope, first_named};
+use line_forms::{HasName, Scope, first_named};
 use text_lines::{skipped, spaced, words_left};
 
 /// A form of event, without its words.
@@ -59,7 +59,7 @@ impl EventForm {
     }
 }
 
-impl LineForm for EventForm {
+impl HasName for EventForm {
     ghost use Rattle.step_text.specs.Events.{event_form_row};
 
     ghost name_of = { λ form. (event_form_row 1 1 form).name };

@@ -6,7 +6,7 @@ ghost use Rattle.line_forms.specs.Tables.{IsRow};
 ghost use Rattle.step_text.specs.Bodies.{reply_form_row, reply_named};
 
 use line_forms::WordCount::Between;
-use line_forms::{LineForm, WordCount, first_named};
+use line_forms::{HasName, WordCount, first_named};
 use text_lines::words_left;
 
 /// A form of reply, without its words.
@@ -51,7 +51,7 @@ impl ReplyForm {
     }
 }
 
-impl LineForm for ReplyForm {
+impl HasName for ReplyForm {
     ghost use Rattle.step_text.specs.Bodies.{reply_form_row};
 
     ghost name_of = { λ form. (reply_form_row form).name };

@@ -6,7 +6,7 @@ ghost use Rattle.line_forms.specs.Tables.{IsRow};
 ghost use Rattle.step_text.specs.Scripts.{waiting_row, waiting_named};
 
 use line_forms::WordCount::{Between, Exactly};
-use line_forms::{LineForm, WordCount, first_named};
+use line_forms::{HasName, WordCount, first_named};
 use text_lines::words_left;
 
 /// A form of step that scripts alone have, without its words.
@@ -95,7 +95,7 @@ impl WaitingForm {
     }
 }
 
-impl LineForm for WaitingForm {
+impl HasName for WaitingForm {
     ghost use Rattle.step_text.specs.Scripts.{waiting_row};
 
     ghost name_of = { λ form. (waiting_row form).name };

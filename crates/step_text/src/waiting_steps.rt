@@ -15,7 +15,7 @@ use crate::thread_actions::{ThreadAction, thread_action_at, thread_action_form};
 use crate::waiting_forms::WaitingForm;
 use call_text::{Move, boxed, fill_at, get_of, memset_of, move_at, put_of};
 use line_forms::{
-    LineForm, Scope, byte_at, implicit_at, integer_at, is_second, number_at, registers_at, value_at,
+    HasName, Scope, byte_at, implicit_at, integer_at, is_second, number_at, registers_at, value_at,
 };
 use std::alloc::Global;
 use text_lines::{Miss, is_name, name_of};

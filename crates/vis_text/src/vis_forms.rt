@@ -6,7 +6,7 @@ ghost use Rattle.line_forms.specs.FormTests.{are_split, shape_form};
 ghost use Rattle.vis_text.specs.VisLines.{vis_form_row, vis_named};
 
 use crate::vis_lines::count_at;
-use line_forms::{LineForm, are_bundles, first_named};
+use line_forms::{HasName, are_bundles, first_named};
 use text_lines::{Other, skipped, words_left};
 
 /// A form of line that begins a transfer of many pieces, without its words.
@@ -63,7 +63,7 @@ impl VisForm {
     }
 }
 
-impl LineForm for VisForm {
+impl HasName for VisForm {
     ghost use Rattle.vis_text.specs.VisLines.{vis_form_row};
 
     ghost name_of = { λ form. (vis_form_row form).name };

@@ -10,6 +10,6 @@ returns g c =
     let old = outbox g.K.Sink.taken g.K.Sink.faults c.args.sink.now in
     let new = outbox g.K.Sink.taken g.K.Sink.faults c.write.new.sink in
     let Written = λ (id : ℤ). GathersAll old new
-    (g.F.LineForm.name_of c.args.form ++ (32 ∷ (signed_decimal id ++ (32 ∷ (decimal c.args.flags ++ [])))))
+    (g.F.HasName.name_of c.args.form ++ (32 ∷ (signed_decimal id ++ (32 ∷ (decimal c.args.flags ++ [])))))
     c.write.result in
     subst Written (to_z-of_z w32 c.args.id c.ranges.id) c.write.ensures
