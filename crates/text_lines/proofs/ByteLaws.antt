@@ -80,7 +80,7 @@ abbrev pub ArePairsOf : (digits bytes : List ℕ) → Type 0
 ArePairsOf digits bytes = (digits ≡ flat_map hex_byte bytes) × AllByRecursion (λ byte. byte < 256) bytes
 
 -- pairs of digits that were read
-pairs_take : (digits : List ℕ) → Takes (ArePairsOf digits) (pairs_of digits)
+pub pairs_take : (digits : List ℕ) → Takes (ArePairsOf digits) (pairs_of digits)
 unfolding pairs_of
 pairs_take [] = takes_some (refl, tt)
 pairs_take (high ∷ []) = takes_none
@@ -93,7 +93,7 @@ pairs_take (high ∷ low ∷ digits) =
     )))
 
 -- pairs of digits are read again
-pairs_again : (bytes : List ℕ) → AllByRecursion (λ byte. byte < 256) bytes → pairs_of (flat_map hex_byte bytes)
+pub pairs_again : (bytes : List ℕ) → AllByRecursion (λ byte. byte < 256) bytes → pairs_of (flat_map hex_byte bytes)
     ≡ Some bytes
 unfolding pairs_of
 pairs_again [] all = refl

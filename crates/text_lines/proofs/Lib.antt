@@ -9,3 +9,4 @@ pub mod WholeNumbers
 pub mod Names
 pub mod Seams
 pub mod LineTexts
+pub mod TextLaws

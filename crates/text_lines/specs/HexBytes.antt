@@ -1,6 +1,6 @@
 -- Bytes as a word of a line.
 use Rattle.std.specs.Prelude.{◌<◌, ◌≤◌, ◌+◌, ◌*◌, ◌-◌, ◌/◌, ◌%◌, ℕ, List, [], ◌∷◌, length, Option, Some, None}
-use Rattle.std.specs.Prelude.{◌&&◌, nat_lt, nat_le, ◌==◌, if◌then◌else◌}
+use Rattle.std.specs.Prelude.{Bool, is_some, ◌&&◌, nat_lt, nat_le, ◌==◌, if◌then◌else◌}
 use Rattle.std.specs.List.{AllByRecursion, flat_map}
 use Rattle.text_lines.specs.Lines.{Word, ◌>>=◌}
 use Rattle.text_lines.specs.declared.byte_words.TheConstants.{MAX_WORD_BYTES}
@@ -10,6 +10,10 @@ abbrev pub digit_value : (character : ℕ) → Option ℕ
 digit_value character =
     if nat_le 48 character && nat_le character 57 then Some (character - 48) else (
     if nat_le 97 character && nat_le character 102 then Some (character - 87) else None)
+
+-- whether a byte is such a digit
+abbrev pub is_digit : (character : ℕ) → Bool
+is_digit character = is_some (digit_value character)
 
 -- the digit of a value below 16
 abbrev pub hex_digit : (value : ℕ) → ℕ

@@ -1,11 +1,14 @@
 //! Writing bytes as words of a line.
 
-ghost use Rattle.std.specs.Prelude.{◌≡◌, ◌<◌};
+ghost use Rattle.std.specs.Prelude.{◌≡◌, ◌<◌, ◌≤◌, ◌*◌, length};
 ghost use Rattle.std.specs.List.{flat_map};
 ghost use Rattle.gas_outside.specs.Buffered.{GathersAll, outbox};
 ghost use Rattle.text_lines.specs.HexBytes.{bytes_word, hex_byte, hex_digit};
 
 use gas_outside::{BufferedSink, Sink, Wrote};
+
+/// How many bytes are turned into digits at once.
+const PIECE: usize = 64;
 
 /// The digit of a value below 16.
 fn hex_digit(value: u8) -> u8
@@ -18,19 +21,27 @@ fn hex_digit(value: u8) -> u8
     b'a' - 10 + value
 }
 
-/// The two digits of a byte.
-fn hex_byte(byte: u8) -> [u8; 2]
-    ensures { result ≡ hex_byte byte }
+/// Puts two digits for each byte into room for them.
+fn put_digits(bytes: &[u8], digits: &mut [u8])
+    requires { length digits.old ≡ 2 * length bytes.now }
+    ensures { digits.new ≡ flat_map hex_byte bytes.now }
 {
-    [hex_digit(byte / 16), hex_digit(byte % 16)]
+    'bytes: for i in 0..bytes.len() {
+        digits[2 * i] = hex_digit(bytes[i] / 16);
+        digits[2 * i + 1] = hex_digit(bytes[i] % 16);
+    }
 }
 
-/// Writes the two digits of a byte.
-fn write_byte<K: Sink>(byte: u8, sink: &mut BufferedSink<K>) -> Wrote
+/// Writes two digits for each of a few bytes.
+fn write_piece<K: Sink>(bytes: &[u8], sink: &mut BufferedSink<K>) -> Wrote
+    requires { length bytes.now ≤ 64 }
     ensures { GathersAll (outbox K.taken K.faults sink.old) (outbox K.taken K.faults sink.new)
-        (hex_byte byte) result }
+        (flat_map hex_byte bytes.now) result }
 {
-    sink.write_all(&hex_byte(byte))
+    let mut room = [0; 2 * PIECE];
+    let (digits, _) = room.split_at_mut(2 * bytes.len());
+    put_digits(bytes, digits);
+    sink.write_all(digits)
 }
 
 /// Writes two digits for each byte.
@@ -40,10 +51,13 @@ pub fn write_digits<K: Sink>(bytes: &[u8], sink: &mut BufferedSink<K>) -> Wrote
     ensures { GathersAll (outbox K.taken K.faults sink.old) (outbox K.taken K.faults sink.new)
         (flat_map hex_byte bytes.now) result }
 {
-    for byte in bytes {
-        if let Wrote::Fault = write_byte(*byte, sink) {
+    let mut rest = bytes;
+    while !rest.is_empty() {
+        let (piece, others) = rest.split_at(rest.len().min(PIECE));
+        if let Wrote::Fault = write_piece(piece, sink) {
             return Wrote::Fault;
         }
+        rest = others;
     }
     Wrote::Done
 }

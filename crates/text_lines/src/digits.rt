@@ -1,54 +1,77 @@
 //! Bytes of a line, as pairs of hexadecimal digits.
 
-ghost use Rattle.std.specs.Prelude.{◌≡◌};
-ghost use Rattle.text_lines.specs.HexBytes.{digit_value, byte_of, pairs_of, bytes_of};
+ghost use Rattle.std.specs.Prelude.{◌≡◌, ◌*◌, length, true, Some};
+ghost use Rattle.std.specs.List.{list_all};
+ghost use Rattle.text_lines.specs.HexBytes.{digit_value, is_digit, byte_of, pairs_of, bytes_of};
 ghost use Rattle.text_lines.specs.Found.{Reads};
 
 use crate::byte_words::{Bytes, MAX_WORD_BYTES};
 use crate::miss::Miss;
 use std::alloc::Global;
 
-/// The value of a hexadecimal digit.
-fn digit_value(digit: u8) -> Option<u8>
-    ensures { result ≡ digit_value digit }
+/// Whether a byte is a hexadecimal digit.
+fn is_digit(byte: u8) -> bool
+    ensures { result ≡ is_digit byte }
 {
-    if b'0' <= digit && digit <= b'9' {
-        return Some(digit - b'0');
+    matches!(byte, b'0'..=b'9' | b'a'..=b'f')
+}
+
+/// Whether all bytes are digits. It has no early exit, so that many are tested together.
+fn are_digits(bytes: &[u8]) -> bool
+    ensures { result ≡ list_all is_digit bytes.now }
+{
+    let mut all = true;
+    for byte in bytes {
+        all &= is_digit(*byte);
     }
-    if b'a' <= digit && digit <= b'f' {
-        return Some(digit - b'a' + 10);
+    all
+}
+
+/// The value of a digit.
+fn digit_value(digit: u8) -> u8
+    requires { is_digit digit ≡ true }
+    ensures { digit_value digit ≡ Some result }
+{
+    if digit < b'a' {
+        digit - b'0'
+    } else {
+        digit - b'a' + 10
     }
-    None
 }
 
 /// The byte of two digits.
 #[tactic(auto, unfolding(crate::specs::HexBytes::byte_of))]
-fn byte_of(high: u8, low: u8) -> Option<u8>
-    ensures { result ≡ byte_of high low }
+fn byte_of(high: u8, low: u8) -> u8
+    requires { (is_digit high ≡ true) × (is_digit low ≡ true) }
+    ensures { byte_of high low ≡ Some result }
 {
-    let tens = digit_value(high)?;
-    let ones = digit_value(low)?;
-    Some(16 * tens + ones)
+    16 * digit_value(high) + digit_value(low)
+}
+
+/// Writes the bytes whose digits these are.
+fn decode(digits: &[u8], bytes: &mut [u8])
+    requires digits { list_all is_digit digits.now ≡ true }
+    requires room { length digits.now ≡ 2 * length bytes.old }
+    ensures { pairs_of digits.now ≡ Some bytes.new }
+{
+    'bytes: for i in 0..bytes.len() {
+        bytes[i] = byte_of(digits[2 * i], digits[2 * i + 1]);
+    }
 }
 
 /// The bytes of pairs of digits.
-fn pairs_of(alloc: Global, digits: &[u8]) -> Result<Vec<u8>, Miss>
+pub fn pairs_of(alloc: Global, digits: &[u8]) -> Result<Vec<u8>, Miss>
     ensures { Reads (λ v. v.items) result (pairs_of digits.now) }
 {
-    let mut items = Vec::new(alloc);
-    let mut rest = digits;
-    while rest.len() >= 2 {
-        let Some(byte) = byte_of(rest[0], rest[1]) else {
-            return Err(Miss::Unlike);
-        };
-        items.push(byte)?;
-        let (_, after) = rest.split_at(2);
-        rest = after;
-    }
-    if rest.len() == 1 {
+    if digits.len() % 2 != 0 {
         return Err(Miss::Unlike);
     }
-    Ok(items)
+    if !are_digits(digits) {
+        return Err(Miss::Unlike);
+    }
+    let mut bytes = vec![in alloc; 0u8; digits.len() / 2]?;
+    decode(digits, bytes.as_mut_slice());
+    Ok(bytes)
 }
 
 /// The bytes that a word is.

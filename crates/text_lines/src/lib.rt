@@ -24,13 +24,13 @@ mod words;
 
 pub use byte_words::{Bytes, MAX_WORD_BYTES};
 pub use digit_writer::{write_bytes, write_digits};
-pub use digits::bytes_of;
+pub use digits::{bytes_of, pairs_of};
 pub use line_parts::{put_end, put_number, put_word};
 pub use line_writer::write_line;
 pub use miss::{Miss, Other};
 pub use number_writer::{write_integer, write_number};
 pub use numbers::{number_from, number_of};
-pub use reasons::{is_between, reason_of, skipped, words_left};
+pub use reasons::{is_between, is_text, reason_of, skipped, words_left};
 pub use signed::{after_first, integer_here, starts};
 pub use why::LineWhy;
 pub use words::{begins, behind_name, ended, has_more, is_name, name_of, spaced};

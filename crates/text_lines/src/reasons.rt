@@ -15,7 +15,7 @@ fn is_plain(byte: u8) -> bool
 
 /// Whether bytes begin with a line of words and its ending byte.
 #[tactic(auto, unfolding(crate::specs::Reasons::is_text))]
-fn is_text(bytes: &[u8]) -> bool
+pub fn is_text(bytes: &[u8]) -> bool
     ensures { result ≡ is_text bytes.now }
 {
     let mut begins = true;

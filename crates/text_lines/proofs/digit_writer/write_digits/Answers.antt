@@ -1,21 +1,35 @@
-use Rattle.std.proofs.Common.{◌≡◌, ℕ, ◌+◌, ◌<◌, List, ◌++◌, length, drop, get_or, ap}
-use Rattle.gas_outside.proofs.Outboxes.{past_done, past_fault}
+use Rattle.std.proofs.Common.{◌≡◌, ℕ, List, [], ◌∷◌, ◌++◌, length, take, drop, refl, ap, sym, ◌∙◌, arith}
+use Rattle.gas_outside.proofs.Outboxes.{past_done, past_fault, all_gathered}
 use Rattle.std.specs.List.{flat_map}
-use Rattle.std.proofs.lemmas.List.{drop_more}
+use Rattle.std.proofs.lemmas.Bool.{eqb-true}
+use Rattle.std.proofs.lemmas.List.{take-append-drop}
+use Rattle.std.proofs.lemmas.List.Concat.{flat_map-append}
 use Rattle.text_lines.specs.HexBytes.{hex_byte}
 use Rattle.text_lines.proofs.digit_writer.write_digits.Goals as goal
 
--- what is left begins with the digits of the next byte
-next_byte : (bytes : List ℕ) (i d : ℕ) → i < length bytes
-    → flat_map hex_byte (drop i bytes) ≡ hex_byte (get_or bytes i d) ++ flat_map hex_byte (drop (i + 1) bytes)
-next_byte bytes i d low = ap (λ (left : List ℕ). flat_map hex_byte left) (drop_more bytes i d low)
+-- the digits of bytes that were cut in two
+cut_digits : (rest front back : List ℕ) (n : ℕ) → front ≡ take n rest → back ≡ drop n rest
+    → flat_map hex_byte rest ≡ flat_map hex_byte front ++ flat_map hex_byte back
+cut_digits rest front back n before after =
+    ap (λ (z : List ℕ). flat_map hex_byte z) (sym (take-append-drop n rest))
+    ∙ flat_map-append hex_byte (take n rest) (drop n rest)
+    ∙ ap (λ (z : List ℕ). flat_map hex_byte z ++ flat_map hex_byte (drop n rest)) (sym before)
+    ∙ ap (λ (z : List ℕ). flat_map hex_byte front ++ flat_map hex_byte z) (sym after)
+
+no_digits : (rest : List ℕ) → length rest ≡ 0 → flat_map hex_byte rest ≡ []
+no_digits [] none = refl
+no_digits (byte ∷ rest) none = absurd (omega arith)
 
 pub returns-in-Fault : goal.returns-in-Fault
 returns-in-Fault g c =
-    past_fault _ _ _ _ _ _ _ (next_byte c.args.bytes.now c.loop-byte.byte-index 0 c.loop-byte-test.true)
-    c.loop-byte.invariant c.in-Fault.ensures
+    past_fault _ _ _ _ _ _ _ (cut_digits c.loop-rest.rest.now c.split_at.result.0.now c.split_at.result.1.now
+    c.min.result c.split_at.ensures.front c.split_at.ensures.back) c.loop-rest.invariant c.in-Fault.ensures
 
-pub loop-byte-preserved : goal.loop-byte-preserved
-loop-byte-preserved g c =
-    past_done _ _ _ _ _ _ _ (next_byte c.args.bytes.now c.loop-byte.byte-index 0 c.loop-byte-test.true)
-    c.loop-byte.invariant c.in_default.ensures
+pub loop-rest-preserved : goal.loop-rest-preserved
+loop-rest-preserved g c =
+    past_done _ _ _ _ _ _ _ (cut_digits c.loop-rest.rest.now c.split_at.result.0.now c.split_at.result.1.now
+    c.min.result c.split_at.ensures.front c.split_at.ensures.back) c.loop-rest.invariant c.in_default.ensures
+
+pub returns : goal.returns
+returns g c = all_gathered _ _ _ _ (no_digits c.loop-rest.rest.now (eqb-true (length c.loop-rest.rest.now) 0
+    (sym c.is_empty.ensures ∙ c.loop-rest-test.false))) c.loop-rest.invariant

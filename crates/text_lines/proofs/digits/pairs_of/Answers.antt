@@ -1,22 +1,9 @@
-use Rattle.std.proofs.Common.{◌∙◌, sym, arith}
-use Rattle.text_lines.proofs.BytePairs.{pairs_more, pairs_fail, pairs_odd, pairs_end}
+use Rattle.std.proofs.Common.{sym, ◌∙◌}
+use Rattle.text_lines.proofs.BytePairs.{pairs_not, pairs_odd}
 use Rattle.text_lines.proofs.digits.pairs_of.Goals as goal
 
-pub returns-in_default : goal.returns-in_default
-returns-in_default c = sym c.loop-rest.invariant ∙ pairs_fail c.loop-rest.items.items c.loop-rest.rest.now
-    (omega (arith, c.loop-rest-test.true)) (sym c.byte_of.ensures ∙ c.in_default.is)
+pub returns-then-digits-ne0 : goal.returns-then-digits-ne0
+returns-then-digits-ne0 c = pairs_odd c.args.digits.now (λ even. c.if-digits-ne0.true even)
 
-pub loop-rest-preserved : goal.loop-rest-preserved
-loop-rest-preserved c =
-    rw (c.in_ok-push.ensures.items, c.split_at.ensures.back)
-    (sym (pairs_more c.loop-rest.items.items c.loop-rest.rest.now c.in-Some.byte (omega (arith, c.loop-rest-test.true))
-    (sym c.byte_of.ensures ∙ c.in-Some.is)) ∙ c.loop-rest.invariant)
-
-pub returns-then-rest-eq1 : goal.returns-then-rest-eq1
-returns-then-rest-eq1 c =
-    sym c.loop-rest.invariant ∙ pairs_odd c.loop-rest.items.items c.loop-rest.rest.now c.if-rest-eq1.true
-
-pub returns : goal.returns
-returns c =
-    sym c.loop-rest.invariant ∙ pairs_end c.loop-rest.items.items c.loop-rest.rest.now
-    (omega (arith, c.loop-rest-test.false)) c.if-rest-eq1.false
+pub returns-then-not-are_digits : goal.returns-then-not-are_digits
+returns-then-not-are_digits c = pairs_not c.args.digits.now (sym c.are_digits.ensures ∙ c.if-not-are_digits.true)
