@@ -1,6 +1,6 @@
 -- The entries that have gone at a front that is reached are a run.
-use Rattle.std.proofs.Common.{◌≡◌, ◌≢◌, ℕ, zero, suc, ◌+◌, ◌<◌, ◌≤◌, List, [], ◌∷◌, length, take, Option, Some, None}
-use Rattle.std.proofs.Common.{refl, sym, ap, ◌∙◌, subst, inl, inr, arith, slice_get, slice_index, Contains, IsSomeAnd}
+use Rattle.std.proofs.Common.{◌≡◌, ℕ, zero, suc, ◌+◌, ◌<◌, ◌≤◌, List, [], ◌∷◌, length, take, Option, Some, None}
+use Rattle.std.proofs.Common.{refl, sym, ap, ◌∙◌, subst, inl, inr, arith, slice_get, slice_index, Contains}
 use Rattle.std.proofs.lemmas.List.{take-take, set_past, length-set, length-map}
 use Rattle.std.proofs.lemmas.Bool.{cases_lt, cases_eq}
 use Rattle.std.proofs.lemmas.Option.{slice_get_within}
@@ -8,7 +8,7 @@ use Rattle.machine.specs.declared.entry.Entry.{Entry}
 use Rattle.machine.specs.Replay.{Steps, replayed, sent_in}
 use Rattle.machine.specs.Fronts.{Node, replay, start, full, advance, WasSent, CanGet, CanGo, GoesOn, Reaches, IsRun}
 use Rattle.gasnet_trace.specs.Cut.{cut, cut_one}
-use Rattle.gasnet_trace.proofs.FrontLemmas.{Within, some_from, some_at, advance_same, advance_other, goes_length}
+use Rattle.gasnet_trace.proofs.FrontLemmas.{Within, some_from, some_at, advance_same, advance_other}
 use Rattle.gasnet_trace.proofs.FrontLemmas.{reached_length, start_at}
 
 -- the node at a place

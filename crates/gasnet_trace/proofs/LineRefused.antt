@@ -1,22 +1,20 @@
 -- A text of lines that isn't read, line by line: what a refusal means, and that it means no other.
-use Rattle.std.proofs.Common.{◌≡◌, ◌⊎◌, inl, inr, ℕ, zero, suc, ◌+◌, ◌<◌, List, [], ◌∷◌, ◌++◌, length, Bool, true, false}
-use Rattle.std.proofs.Common.{not, ◌&&◌, eqb, ltb, cond, Result, Ok, Err, refl, sym, ap, subst, ◌∙◌, append_assoc}
+use Rattle.std.proofs.Common.{◌≡◌, ◌⊎◌, inl, inr, ℕ, suc, List, [], ◌∷◌, ◌++◌, length, Bool, true, false}
+use Rattle.std.proofs.Common.{eqb, cond, Result, Ok, Err, refl, sym, ap, subst, ◌∙◌, append_assoc}
 use Rattle.std.proofs.Common.{append-nil, arith}
-use Rattle.std.specs.List.{AllByRecursion, onto_first, list_all, before_first}
-use Rattle.std.proofs.lemmas.Bool.{and_parts, ltb-true, eqb-true, eqb-false}
+use Rattle.std.specs.List.{AllByRecursion}
+use Rattle.std.proofs.lemmas.Bool.{eqb-true, eqb-false}
 use Rattle.std.proofs.lemmas.List.Concat.{flat_map-append}
 use Rattle.gasnet_trace.specs.declared.fault.TraceFault.{TraceFault}
 use Rattle.gasnet_trace.specs.declared.fault.TraceFault.TheVariants as faults
 use Rattle.text_lines.specs.declared.why.LineWhy.{LineWhy}
 use Rattle.text_lines.specs.declared.why.LineWhy.TheVariants.{Size, Early, Text, Form, Value, Entry, Count, After}
-use Rattle.text_lines.specs.Lines.{Word}
-use Rattle.text_lines.specs.LineTexts.{Line, IsPlain, IsWord, IsLine, joined, line_text, spell}
+use Rattle.text_lines.specs.LineTexts.{Line, IsLine, joined, line_text, spell}
 use Rattle.text_lines.specs.Chains.{◌>>=◌}
-use Rattle.gasnet_trace.specs.TraceReading.{BadLine, at_line, is_plain, is_word, line_at, read_line, words_of}
-use Rattle.gasnet_trace.specs.TraceRead.{FailsAt}
+use Rattle.gasnet_trace.specs.TraceReading.{BadLine, at_line, line_at, read_line, words_of}
 use Rattle.gasnet_trace.specs.LineRefusals.{Before, EndsEarly, HasNoText, IsAtFault, IsFront, IsMeant, IsNoFront, IsNoMemory}
 use Rattle.gasnet_trace.specs.LineRefusals.{IsWrong, Means, TextKind}
-use Rattle.gasnet_trace.proofs.LineLaws.{guard_err, guard_ok, line_again, line_takes, ok_is, split_joined}
+use Rattle.gasnet_trace.proofs.LineLaws.{line_again, line_takes, ok_is, split_joined}
 use Rattle.lists.proofs.Members.{all_append}
 
 -- ---- results
@@ -51,50 +49,6 @@ line_at_err : (bytes : List ℕ) (why : LineWhy) → line_at bytes ≡ Err why
 unfolding line_at
 line_at_err bytes why h = line_at_by bytes (eqb (length bytes) 0) _ _ why refl h
 
--- words of plain bytes
-plain_of : (word : Word) → list_all is_plain word ≡ true → AllByRecursion IsPlain word
-plain_of [] h = tt
-plain_of (b ∷ word) h =
-    let parts = and_parts (ltb 32 b && ltb b 127) (list_all is_plain word) h in
-    let test = and_parts (ltb 32 b) (ltb b 127) parts.0 in
-    ((ltb-true 32 b test.0, ltb-true b 127 test.1), plain_of word parts.1)
-
-word_by : (word : Word) (none : Bool) → eqb (length word) 0 ≡ none → (not none && list_all is_plain word) ≡ true
-    → IsWord word
-word_by [] true e h = absurd (cc)
-word_by [] false e h = absurd (cc)
-word_by (b ∷ word) none e h = record { some = omega arith; plain = plain_of (b ∷ word) (and_parts (not none) _ h).1 }
-
-pub words_of_test : (words : Line) → list_all is_word words ≡ true → AllByRecursion IsWord words
-words_of_test [] h = tt
-words_of_test (word ∷ words) h =
-    let parts = and_parts (is_word word) (list_all is_word words) h in
-    (word_by word (eqb (length word) 0) refl parts.0, words_of_test words parts.1)
-
--- there is always a word
-cut_some : (t : Bool) (b : ℕ) (words : Line) → cond t ([] ∷ words) (onto_first b words) ≡ [] → ⊥
-cut_some true b words h = cc
-cut_some false b [] h = cc
-cut_some false b (word ∷ words) h = cc
-
-some_words : (line : List ℕ) → words_of line ≡ [] → ⊥
-some_words [] h = cc
-some_words (b ∷ line) h = cut_some (eqb b 32) b (words_of line) h
-
-line_of : (words : Line) → (words ≡ [] → ⊥) → AllByRecursion IsWord words → IsLine words
-line_of [] some are = absurd (some refl)
-line_of (word ∷ words) some are = are
-
--- the words of a line that was read
-words_read : (bytes : List ℕ) (x : List ℕ × List ℕ) → line_at bytes ≡ Ok x → IsLine (words_of x.0)
-unfolding line_at
-words_read bytes x h =
-    let some = guard_err _ _ _ x h in
-    let test = guard_ok _ _ _ x some.1 in
-    let front = before_first (λ b. eqb b 10) bytes in
-    subst (λ (y : List ℕ × List ℕ). IsLine (words_of y.0)) (ok_is _ x test.1)
-    (line_of (words_of front) (some_words front) (words_of_test (words_of front) (and_parts _ _ test.0).1))
-
 -- how the reading of a line fails
 pub data LineFails {A : Type 0} (read : Line → Result A LineWhy) (line : ℕ) (bytes : List ℕ) (bad : BadLine)
     : Type 0 where
@@ -126,7 +80,8 @@ by_words : {A : Type 0} (read : Line → Result A LineWhy) (line : ℕ) (bytes :
     → (read (words_of x.0) ≡ Err why) ⊎ ((a : A) × ((read (words_of x.0) ≡ Ok a)
     × (◌≡◌ {A = Result (A × List ℕ) LineWhy} (Ok (a, x.1)) (Err why)))) → LineFails read line bytes bad
 by_words read line bytes bad why x h e (inl r) =
-    Refused (words_of x.0) x.1 why (words_read bytes x h) (line_takes bytes x h) r e
+    let is = line_takes bytes x h in
+    Refused (words_of x.0) x.1 why is.are is.text r e
 by_words read line bytes bad why x h e (inr a) = absurd (ok_err refl a.1.1)
 
 -- what the words of a line say, and the bytes after it

@@ -1,12 +1,11 @@
 -- An output that isn't read, line by line.
-use Rattle.std.proofs.Common.{◌≡◌, ◌⊎◌, inl, inr, ℕ, zero, suc, ◌+◌, ◌<◌, ◌^◌, List, [], ◌∷◌, ◌++◌, length, map, Bool, cond}
+use Rattle.std.proofs.Common.{◌≡◌, ◌⊎◌, inl, inr, ℕ, suc, ◌+◌, ◌<◌, ◌^◌, List, [], ◌∷◌, ◌++◌, length, map, Bool, cond}
 use Rattle.std.proofs.Common.{Result, Ok, Err, refl, sym, ap, subst, ◌∙◌, append-nil, append_assoc, arith, codes, false, true}
 use Rattle.std.proofs.Common.{decimal, length-append}
 use Rattle.std.proofs.lemmas.List.{length-map}
 use Rattle.std.specs.List.{AllByRecursion}
 use Rattle.std.specs.Str.{bytes_eq}
 use Rattle.std.proofs.lemmas.List.Concat.{flat_map-append}
-use Rattle.std.proofs.lemmas.List.Splits.{join_with_byte-slice_split}
 use Rattle.machine.specs.declared.entry.Entry.{Entry}
 use Rattle.gasnet_trace.specs.declared.fault.TraceFault.{TraceFault}
 use Rattle.gasnet_trace.specs.declared.fault.TraceFault.TheVariants as faults
@@ -16,11 +15,11 @@ use Rattle.gasnet_trace.specs.declared.output.NodeStatus.{NodeStatus}
 use Rattle.gasnet_trace.specs.declared.output.NodeStatus.TheVariants as status
 use Rattle.gasnet_trace.specs.declared.output.Output.{Output}
 use Rattle.gasnet_trace.specs.declared.output.Wanted.{Wanted}
-use Rattle.text_lines.specs.LineTexts.{Line, IsLine, IsWord, joined, line_text, spell}
+use Rattle.text_lines.specs.LineTexts.{Line, IsLine, joined, line_text, spell}
 use Rattle.gasnet_trace.specs.LineRefusals.{IsMeant, Means, TextKind}
 use Rattle.gasnet_trace.specs.OutputReading.{output_at, status_at, status_of}
-use Rattle.gasnet_trace.specs.OutputRefusals.{AtEntries, AtStatus, HasForm, IsStatus, MayStand, OutputPlace, output_kind}
-use Rattle.gasnet_trace.specs.OutputRefusals.{AtVersion, AtJob, AtRank, is_end, place_among, place_behind, status_line}
+use Rattle.gasnet_trace.specs.OutputRefusals.{AtEntries, AtStatus, HasForm, MayStand, OutputPlace, output_kind}
+use Rattle.gasnet_trace.specs.OutputRefusals.{AtVersion, AtJob, AtRank, place_among, place_behind, status_line}
 use Rattle.gasnet_trace.specs.OutputText.{IsOutput, output_text, status_text}
 use Rattle.gasnet_trace.specs.TraceRead.{FailsAt}
 use Rattle.text_lines.specs.Chains.{◌>>=◌}
@@ -28,14 +27,14 @@ use Rattle.gasnet_trace.specs.TraceReading.{BadLine, at_line, entries_at, line_a
 use Rattle.gasnet_trace.specs.TraceReading.{words_of}
 use Rattle.gasnet_trace.specs.TraceRefusals as traces
 use Rattle.gasnet_trace.specs.TraceText.{IsEntry, end_line, entry_line, entry_lines, line_of_number, trace_lines}
-use Rattle.gasnet_trace.proofs.LineLaws.{joined-join, ok_is}
-use Rattle.gasnet_trace.proofs.LineRefused.{HasLines, NoForm, Reached, Refuses, Walked, Wrongly, bind_err, err_is}
-use Rattle.gasnet_trace.proofs.LineRefused.{fails_behind, line_err, ok_err, reach_on, words_of_test}
+use Rattle.gasnet_trace.proofs.LineLaws.{ok_is, words_joined}
+use Rattle.gasnet_trace.proofs.LineRefused.{HasLines, NoForm, Reached, Refuses, Walked, bind_err, err_is}
+use Rattle.gasnet_trace.proofs.LineRefused.{fails_behind, line_err, ok_err, reach_on}
 use Rattle.gasnet_trace.proofs.OutputLaws.{after_entries, after_job, after_rank, after_version, output_again}
-use Rattle.gasnet_trace.proofs.OutputLaws.{same_number, status_again, with_entries}
+use Rattle.gasnet_trace.proofs.OutputLaws.{same_number, status_again, status_is, with_entries}
 use Rattle.gasnet_trace.proofs.Refused.{HasEntries, entries_mean, entry_wrong, first_same, form_of, head_are, head_of}
 use Rattle.gasnet_trace.proofs.Refused.{lines_are, mapped_lines, no_lines, one_number, rest_same}
-use Rattle.gasnet_trace.proofs.TraceLaws.{entries_take, setting_line, job_word, rank_word, trace_word}
+use Rattle.gasnet_trace.proofs.TraceLaws.{entries_take, setting_line, job_word, trace_word}
 use Rattle.gasnet_trace.proofs.WordLaws.{end_is_line, number_is_line}
 use Rattle.lists.proofs.Members.{all_append}
 
@@ -65,7 +64,7 @@ same_status : (line : ℕ) (r : Result (List ℕ × List ℕ) LineWhy)
 same_status line (Err why) = refl
 same_status line (Ok cut) =
     ap (λ (bytes : List ℕ). at_line {A = Said} line (before (status_of bytes) cut.1))
-    (sym (joined-join (words_of cut.0) ∙ join_with_byte-slice_split 32 cut.0))
+    (sym (words_joined cut.0))
 
 by_words : (line : ℕ) (bytes : List ℕ) → status_at line bytes ≡ read_line line said_by bytes
 by_words line bytes = same_status line (line_at bytes)
@@ -91,12 +90,15 @@ status_wrong wanted words why e =
     NoForm (form_alone (joined words) why e)
     (λ is. ok_err (ap said_by is.1 ∙ ap status_of (words_text is.0) ∙ status_again is.0) e)
 
+words_split : (ended : NodeStatus) → words_of (status_text ended) ≡ status_line ended
+words_split status.Ok = refl
+words_split status.Violations = refl
+words_split status.LinkFault = refl
+words_split status.Stuck = refl
+words_split status.JournalFull = refl
+
 status_is_line : (ended : NodeStatus) → IsLine (status_line ended)
-status_is_line status.Ok = words_of_test (status_line status.Ok) refl
-status_is_line status.Violations = words_of_test (status_line status.Violations) refl
-status_is_line status.LinkFault = words_of_test (status_line status.LinkFault) refl
-status_is_line status.Stuck = words_of_test (status_line status.Stuck) refl
-status_is_line status.JournalFull = words_of_test (status_line status.JournalFull) refl
+status_is_line ended = subst IsLine (words_split ended) (status_is ended)
 
 -- ---- the lines of an output
 

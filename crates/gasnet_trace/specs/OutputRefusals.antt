@@ -1,5 +1,5 @@
 -- Which lines may stand where in what a node writes, so that a refusal of one has its meaning.
-use Rattle.std.specs.Prelude.{◌≡◌, ℕ, Bool, false, if◌then◌else◌, List, [], ◌∷◌, codes}
+use Rattle.std.specs.Prelude.{◌≡◌, Bool, false, if◌then◌else◌, List, [], ◌∷◌, codes}
 use Rattle.std.specs.Str.{bytes_eq}
 use Rattle.gasnet_trace.specs.declared.output.NodeStatus.{NodeStatus}
 use Rattle.gasnet_trace.specs.declared.output.NodeStatus.TheVariants as status
