@@ -1,6 +1,7 @@
 //! The environment that the system tells.
 
 ghost use Rattle.std.specs.Prelude.{◌≡◌, []};
+ghost use Rattle.real_outside.specs.HostTexts.{NamesHosts};
 
 use real_outside::Hosts;
 use run_report::{Environment, KeyFile, Refusal, set_value};
@@ -11,7 +12,7 @@ use std::io::Read;
 use std::os::unix::fs::MetadataExt;
 use std::rt::{Env, Files};
 
-/// The environment that the system tells. What it tells isn't known.
+/// The environment that the system tells. What its variables and files have isn't known. Hosts are those of their text.
 #[derive(Drop)]
 pub struct SystemEnvironment<'a, R> {
     rt: &'a R,
@@ -33,7 +34,7 @@ impl<R: Env + Files + AllocGlobal> Environment for SystemEnvironment<'_, R> {
 
     ghost guards = { λ _ _ _. Unit {0} };
 
-    ghost names = { λ _ _. Unit {0} };
+    ghost names = { NamesHosts };
 
     ghost local = { λ hosts. hosts.addresses.items ≡ [] };
 
