@@ -7,8 +7,8 @@ use Rattle.am_core.specs.declared.asking.Payload.{Payload}
 use Rattle.am_core.specs.declared.asking.Payload.TheVariants as payloads
 use Rattle.am_core.specs.declared.asking.Category.{Category as CodeCategory}
 use Rattle.am_core.specs.declared.asking.Category.TheVariants as categories
-use Rattle.am_core.specs.declared.library.Library.{Library}
-use Rattle.am_core.specs.declared.library.Library.TheVariants as library
+use Rattle.am_core.specs.declared.library.LibraryRequest.{LibraryRequest}
+use Rattle.am_core.specs.declared.library.LibraryRequest.TheVariants as library
 use Rattle.am_core.specs.Library.{Work, Put, Get, Memset, Note}
 use Rattle.am_core.specs.ClientRules.{asks_of, content_by, said_in}
 
@@ -46,7 +46,7 @@ abbrev pub content_asked : (segment : List ℕ) → Asking → Content
 content_asked segment asking = said_in segment (asking_of asking)
 
 -- what the library asks
-abbrev pub work_of : Library → Work
+abbrev pub work_of : LibraryRequest → Work
 work_of (library.Put local remote len) = Put local remote len
 work_of (library.Get local remote len) = Get local remote len
 work_of (library.Memset remote len byte) = Memset remote len byte

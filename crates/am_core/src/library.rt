@@ -34,7 +34,7 @@ pub(crate) const LAST_OWN: u8 = 127;
 /// What the library asks of another node (GASNet 1.8.1, extended API): a chunk of a transfer, 1 to 8,192 bytes
 /// (profile), or a note of the barrier.
 #[derive(Clone, Copy)]
-pub enum Library {
+pub enum LibraryRequest {
     /// Bytes of the local segment go to the other's.
     Put {
         /// Their first byte here.

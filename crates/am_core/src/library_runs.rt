@@ -20,7 +20,7 @@ use crate::arguments::arguments;
 use crate::asking::{Asking, Category, Payload};
 use crate::landing::land;
 use crate::library::{
-    GET, GET_REPLY, Library, MEMSET, NOTE, PUT, fetch_arguments, fill_arguments, read_fetch,
+    GET, GET_REPLY, LibraryRequest, MEMSET, NOTE, PUT, fetch_arguments, fill_arguments, read_fetch,
     read_fill,
 };
 use crate::node::Core;
@@ -178,7 +178,7 @@ impl Core {
     }
 
     /// A request of the library to another node.
-    pub(crate) fn claim_work(&mut self, now: u64, to: u16, work: &Library) -> Asked
+    pub(crate) fn claim_work(&mut self, now: u64, to: u16, work: &LibraryRequest) -> Asked
         requires node { to < self.old.settings.nodes }
         requires other { to ≢ self.old.me }
         requires segment { HasSegment self.old }
@@ -196,7 +196,7 @@ impl Core {
             self.new }
     {
         match *work {
-            Library::Put { local, remote, len } => {
+            LibraryRequest::Put { local, remote, len } => {
                 let put = Asking {
                     thread: 0,
                     to,
@@ -208,13 +208,13 @@ impl Core {
                 };
                 self.claim_own(now, &put, local, len)
             }
-            Library::Get { local, remote, len } => {
+            LibraryRequest::Get { local, remote, len } => {
                 self.claim_short(now, to, GET, &fetch_arguments(local, remote, len))
             }
-            Library::Memset { remote, len, byte } => {
+            LibraryRequest::Memset { remote, len, byte } => {
                 self.claim_short(now, to, MEMSET, &fill_arguments(remote, len, byte))
             }
-            Library::Note(note) => {
+            LibraryRequest::Note(note) => {
                 let mut args = [0; 12];
                 let count = note_args(&note, self.settings.version(), &mut args);
                 self.claim_short(now, to, NOTE, &args[..count])

@@ -24,7 +24,7 @@ ghost use Rattle.am_core.specs.CoreContracts.{AsksOwn, ForItsRecord, retransmits
 
 use crate::answer::{Asked, Delivered, Side, SlotRef, Why};
 use crate::asking::{Asking, Payload};
-use crate::library::Library;
+use crate::library::LibraryRequest;
 use crate::slots::{free_replies, free_requests, slots_of};
 use credit_slots::CreditSlots;
 use datagram_grammar::{Settings, view};
@@ -175,7 +175,7 @@ impl Core {
     ///
     /// Ranges are of 1 to 8,192 bytes inside the segments, a note's mask is within the nodes and its flags 0 to 3, and
     /// the local segment is as long as the settings say.
-    pub fn ask(&mut self, now: u64, to: u16, work: &Library) -> Asked
+    pub fn ask(&mut self, now: u64, to: u16, work: &LibraryRequest) -> Asked
         requires node { to < self.old.settings.nodes }
         requires other { to ≢ self.old.me }
         requires segment { HasSegment self.old }

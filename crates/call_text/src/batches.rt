@@ -42,7 +42,7 @@ fn ops_at(alloc: Global, bytes: &[u8]) -> Result<(Vec<WordOp>, &[u8]), Miss>
 
 /// Whom a batch is for, and where its answer goes.
 #[derive(Clone, Copy)]
-struct Asked {
+struct BatchAddress {
     to: u16,
     local: u64,
     tag: u64,
@@ -52,16 +52,16 @@ struct Asked {
 fn batch_text(
     alloc: Global,
     scope: &Scope,
-    asked: Asked,
+    address: BatchAddress,
     ops: Vec<WordOp>,
 ) -> Result<BatchText, Miss>
     ensures { Reads (λ b. b) result
-        (batch_in scope.now (batch asked.to asked.local asked.tag ops.items)) }
+        (batch_in scope.now (batch address.to address.local address.tag ops.items)) }
 {
     if !scope.atomics {
         return Err(Miss::Unlike);
     }
-    let (to, local, tag) = (asked.to, asked.local, asked.tag);
+    let (to, local, tag) = (address.to, address.local, address.tag);
     let Ok(made) = Batch::new(&scope.settings, to, local, tag, &ops) else {
         return Err(Miss::Unlike);
     };
@@ -91,7 +91,7 @@ pub(crate) fn batch_at<'a>(
     let (local, rest) = number_at(rest, 0, u64::MAX)?;
     let (tag, rest) = number_at(rest, 0, u64::MAX)?;
     let (ops, rest) = ops_at(alloc, rest)?;
-    let text = batch_text(alloc, scope, Asked { to, local, tag }, ops)?;
+    let text = batch_text(alloc, scope, BatchAddress { to, local, tag }, ops)?;
     let inside = Box::new(alloc, text)?;
     let batch = BoxedBatch { inside };
     Ok((ScheduledCall::Atomic { batch }, rest))

@@ -8,7 +8,7 @@ use handler_rules::CallKind;
 use line_forms::{Operand, Operands, Payload, Registers};
 use put_get::{ImplicitKinds, Transfer};
 use std::marker::Model;
-use text_lines::Bytes;
+use text_lines::LineBytes;
 
 /// A Medium request of a schedule.
 #[derive(Drop)]

@@ -9,7 +9,7 @@ use Rattle.std.proofs.lemmas.List.{map-set}
 use Rattle.std.proofs.Math.Seq.{map-set_same}
 use Rattle.lists.proofs.Indexes.{get-set_same, get-set_other}
 use Rattle.credit_slots.specs.declared.order.Due.{Due}
-use Rattle.credit_slots.specs.declared.order.Entry.{Entry}
+use Rattle.credit_slots.specs.declared.order.DueEntry.{DueEntry}
 use Rattle.credit_slots.specs.Ring.{put, IsOn, IsBefore, IsRing}
 use Rattle.lists.proofs.Put.{put_other}
 use Rattle.std.proofs.Math.Path.{fun_ext}
@@ -18,15 +18,15 @@ use Rattle.credit_slots.specs.Order.{IsSpot}
 use Rattle.credit_slots.proofs.Ring.{put-same, same?, ring-without, ring-with, ring-first}
 
 -- a field of each entry
-abbrev field : {X : Type 0} → (Entry → X) → X → List Entry → ℕ → X
+abbrev field : {X : Type 0} → (DueEntry → X) → X → List DueEntry → ℕ → X
 field field_of blank entries index = elim (slice_get entries index) [ Some entry ↦ field_of entry | None ↦ blank ]
 
-field-at : {X : Type 0} (field_of : Entry → X) (blank : X) (entries : List Entry) (index : ℕ) (entry : Entry)
+field-at : {X : Type 0} (field_of : DueEntry → X) (blank : X) (entries : List DueEntry) (index : ℕ) (entry : DueEntry)
     → slice_get entries index ≡ Some entry → field field_of blank entries index ≡ field_of entry
 field-at {X = X} field_of blank entries index entry at =
-    ap (λ (found : Option Entry). elim found as (λ _. X) [ Some each ↦ field_of each | None ↦ blank ]) at
+    ap (λ (found : Option DueEntry). elim found as (λ _. X) [ Some each ↦ field_of each | None ↦ blank ]) at
 
-field-set : {X : Type 0} (field_of : Entry → X) (blank : X) (entries : List Entry) (index : ℕ) (entry : Entry)
+field-set : {X : Type 0} (field_of : DueEntry → X) (blank : X) (entries : List DueEntry) (index : ℕ) (entry : DueEntry)
     → index < length entries
     → field field_of blank (slice_set entries index entry) ≡ put (field field_of blank entries) index (field_of entry)
 field-set {X = X} field_of blank entries index entry inside = fun_ext (λ other. elim (same? other index) [
@@ -36,7 +36,7 @@ field-set {X = X} field_of blank entries index entry inside = fun_ext (λ other.
       (get-set_same entries index entry inside)
       ∙ sym (put-same (field field_of blank entries) index (field_of entry) other same))
   | inr apart ↦
-      ap (λ (found : Option Entry). elim found as (λ _. X) [ Some each ↦ field_of each | None ↦ blank ])
+      ap (λ (found : Option DueEntry). elim found as (λ _. X) [ Some each ↦ field_of each | None ↦ blank ])
       (get-set_other entries index entry other apart)
       ∙ sym (put_other (field field_of blank entries) index (field_of entry) other apart)
 ])
@@ -49,18 +49,18 @@ put-self values index value is = fun_ext (λ other. elim (same? other index) [
 ])
 
 -- what is read of the entries
-pub record Reads (entries : List Entry) (next previous time : ℕ → ℕ) (listed : ℕ → Bool) : Type 0 where
+pub record Reads (entries : List DueEntry) (next previous time : ℕ → ℕ) (listed : ℕ → Bool) : Type 0 where
   pub next_is : next_at entries ≡ next
   pub previous_is : previous_at entries ≡ previous
   pub time_is : time_at entries ≡ time
   pub listed_is : listed_at entries ≡ listed
 
-pub reads : (entries : List Entry)
+pub reads : (entries : List DueEntry)
     → Reads entries (next_at entries) (previous_at entries) (time_at entries) (listed_at entries)
 reads entries = record { next_is = refl; previous_is = refl; time_is = refl; listed_is = refl }
 
 -- an entry is written whole
-pub reads-entry : (entries : List Entry) (place : ℕ) (entry : Entry) (next previous time : ℕ → ℕ) (listed : ℕ → Bool)
+pub reads-entry : (entries : List DueEntry) (place : ℕ) (entry : DueEntry) (next previous time : ℕ → ℕ) (listed : ℕ → Bool)
     → place < length entries → Reads entries next previous time listed
     → Reads (slice_set entries place entry) (put next place entry.next) (put previous place entry.previous)
     (put time place entry.time) (put listed place entry.listed)
@@ -80,14 +80,14 @@ reads-entry entries place entry next previous time listed inside before = record
 }
 
 -- a field that an entry keeps
-kept : {X : Type 0} (field_of : Entry → X) (blank : X) (entries : List Entry) (index : ℕ) (old : Entry) (values : ℕ → X)
+kept : {X : Type 0} (field_of : DueEntry → X) (blank : X) (entries : List DueEntry) (index : ℕ) (old : DueEntry) (values : ℕ → X)
     → slice_get entries index ≡ Some old → field field_of blank entries ≡ values
     → put values index (field_of old) ≡ values
 kept {X = X} field_of blank entries index old values at is = put-self values index (field_of old)
     (ap (λ (each : ℕ → X). each index) (sym is) ∙ field-at field_of blank entries index old at)
 
 -- one field of an entry is written
-pub reads-next : (entries : List Entry) (place value : ℕ) (old : Entry) (next previous time : ℕ → ℕ)
+pub reads-next : (entries : List DueEntry) (place value : ℕ) (old : DueEntry) (next previous time : ℕ → ℕ)
     (listed : ℕ → Bool) → slice_get entries place ≡ Some old → Reads entries next previous time listed → Reads
     (slice_set entries place (record old { next = value })) (put next place value) previous time listed
 reads-next entries place value old next previous time listed at before =
@@ -101,7 +101,7 @@ reads-next entries place value old next previous time listed at before =
       listed_is = known.listed_is ∙ kept (λ each. each.listed) false entries place old listed at before.listed_is;
     }
 
-pub reads-previous : (entries : List Entry) (place value : ℕ) (old : Entry) (next previous time : ℕ → ℕ)
+pub reads-previous : (entries : List DueEntry) (place value : ℕ) (old : DueEntry) (next previous time : ℕ → ℕ)
     (listed : ℕ → Bool) → slice_get entries place ≡ Some old → Reads entries next previous time listed → Reads
     (slice_set entries place (record old { previous = value })) next (put previous place value) time listed
 reads-previous entries place value old next previous time listed at before =
@@ -115,7 +115,7 @@ reads-previous entries place value old next previous time listed at before =
       listed_is = known.listed_is ∙ kept (λ each. each.listed) false entries place old listed at before.listed_is;
     }
 
-pub reads-unlisted : (entries : List Entry) (place : ℕ) (old : Entry) (next previous time : ℕ → ℕ)
+pub reads-unlisted : (entries : List DueEntry) (place : ℕ) (old : DueEntry) (next previous time : ℕ → ℕ)
     (listed : ℕ → Bool) → slice_get entries place ≡ Some old → Reads entries next previous time listed → Reads
     (slice_set entries place (record old { listed = false })) next previous time (put listed place false)
 reads-unlisted entries place old next previous time listed at before =
@@ -130,26 +130,26 @@ reads-unlisted entries place old next previous time listed at before =
     }
 
 -- a write that keeps what is due at a place
-pub view-kept : (entries : List Entry) (place : ℕ) (old new : Entry) → slice_get entries place ≡ Some old
+pub view-kept : (entries : List DueEntry) (place : ℕ) (old new : DueEntry) → slice_get entries place ≡ Some old
     → due_view new ≡ due_view old → map due_view (slice_set entries place new) ≡ map due_view entries
 view-kept entries place old new at same =
     map-set_same due_view entries place new old (same
     ∙ ap due_view (sym (get_or_from_slice_get entries place old old at)))
 
 -- a place of the ring is an entry
-pub on-inside : (entries : List Entry) (index : ℕ) → IsOrder entries → IsOn (head_of entries) (listed_at entries) index
+pub on-inside : (entries : List DueEntry) (index : ℕ) → IsOrder entries → IsOn (head_of entries) (listed_at entries) index
     → index < length entries
 on-inside entries index order (inl same) = omega (arith, order.some, same)
 on-inside entries index order (inr on) = omega (arith, order.some, order.ring.below index on)
 
-pub next-inside : (entries : List Entry) (index : ℕ) (entry : Entry) → IsOrder entries
+pub next-inside : (entries : List DueEntry) (index : ℕ) (entry : DueEntry) → IsOrder entries
     → IsOn (head_of entries) (listed_at entries) index → slice_get entries index ≡ Some entry
     → entry.next < length entries
 next-inside entries index entry order on at =
     subst (λ (next_of : ℕ). next_of < length entries) (field-at (λ each. each.next) 0 entries index entry at)
     (on-inside entries (next_at entries index) order (order.ring.next_on index on))
 
-pub previous-inside : (entries : List Entry) (index : ℕ) (entry : Entry) → IsOrder entries
+pub previous-inside : (entries : List DueEntry) (index : ℕ) (entry : DueEntry) → IsOrder entries
     → IsOn (head_of entries) (listed_at entries) index → slice_get entries index ≡ Some entry
     → entry.previous < length entries
 previous-inside entries index entry order on at =
@@ -157,7 +157,7 @@ previous-inside entries index entry order on at =
     (on-inside entries (previous_at entries index) order (order.ring.previous_on index on))
 
 -- the entries are in order, by what is read of them
-pub order-by : (entries new : List Entry) (next previous time : ℕ → ℕ) (listed : ℕ → Bool) → IsOrder entries
+pub order-by : (entries new : List DueEntry) (next previous time : ℕ → ℕ) (listed : ℕ → Bool) → IsOrder entries
     → length new ≡ length entries → Reads new next previous time listed
     → IsRing (head_of entries) next previous time listed → IsOrder new
 order-by entries new next previous time listed order long r ring = record {
@@ -175,8 +175,8 @@ order-by entries new next previous time listed order long r ring = record {
 }
 
 -- a place is taken out by three writes
-pub unlinked : (entries : List Entry) (place : ℕ) (entry first_read second_read third_read : Entry)
-    (first_written second_written : List Entry) → IsOrder entries → listed_at entries place ≡ true
+pub unlinked : (entries : List DueEntry) (place : ℕ) (entry first_read second_read third_read : DueEntry)
+    (first_written second_written : List DueEntry) → IsOrder entries → listed_at entries place ≡ true
     → slice_get entries place ≡ Some entry → slice_get entries entry.previous ≡ Some first_read
     → first_written ≡ slice_set entries entry.previous (record first_read { next = entry.next })
     → slice_get first_written entry.next ≡ Some second_read
@@ -194,10 +194,10 @@ unlinked entries place entry first_read second_read third_read first_written sec
     let time_of : ℕ → ℕ = time_at entries in
     let listed_of : ℕ → Bool = listed_at entries in
     let r₁ : Reads first_written (put next_of left right) previous_of time_of listed_of =
-    subst (λ (xs : List Entry). Reads xs (put next_of left right) previous_of time_of listed_of) (sym is₁)
+    subst (λ (xs : List DueEntry). Reads xs (put next_of left right) previous_of time_of listed_of) (sym is₁)
     (reads-next entries left right first_read next_of previous_of time_of listed_of at₁ (reads entries)) in
     let r₂ : Reads second_written (put next_of left right) (put previous_of right left) time_of listed_of =
-    subst (λ (xs : List Entry). Reads xs (put next_of left right) (put previous_of right left) time_of listed_of)
+    subst (λ (xs : List DueEntry). Reads xs (put next_of left right) (put previous_of right left) time_of listed_of)
     (sym is₂) (reads-previous first_written right left second_read (put next_of left right) previous_of time_of
     listed_of at₂ r₁) in
     let r₃ =
@@ -229,8 +229,8 @@ unlinked entries place entry first_read second_read third_read first_written sec
     )
 
 -- a place is listed by three writes
-pub linked : (entries : List Entry) (place at right : ℕ) (entry second_read third_read : Entry)
-    (first_written second_written : List Entry) → IsOrder entries → place + 1 < length entries
+pub linked : (entries : List DueEntry) (place at right : ℕ) (entry second_read third_read : DueEntry)
+    (first_written second_written : List DueEntry) → IsOrder entries → place + 1 < length entries
     → listed_at entries place ≡ false → IsSpot entries place entry.time at → right ≡ next_at entries at
     → entry.previous ≡ at → entry.next ≡ right → entry.listed ≡ true
     → first_written ≡ slice_set entries place entry → slice_get first_written at ≡ Some second_read
@@ -249,7 +249,7 @@ linked entries place at right entry second_read third_read first_written second_
     let new_listed : ℕ → Bool = put listed_of place true in
     let r₀ = reads-entry entries place entry next_of previous_of time_of listed_of (omega arith) (reads entries) in
     let r₁ : Reads first_written (put next_of place right) (put previous_of place at) new_time new_listed =
-    subst (λ (xs : List Entry). Reads xs (put next_of place right) (put previous_of place at) new_time new_listed)
+    subst (λ (xs : List DueEntry). Reads xs (put next_of place right) (put previous_of place at) new_time new_listed)
     (sym is₁)
     (subst (λ (index : ℕ). Reads (slice_set entries place entry) (put next_of place index) (put previous_of place at)
     new_time new_listed) is_next
@@ -259,7 +259,7 @@ linked entries place at right entry second_read third_read first_written second_
     (put previous_of place entry.previous) new_time (put listed_of place b)) is_listed r₀))) in
     let r₂ : Reads second_written (put (put next_of place right) at place)
     (put previous_of place at) new_time new_listed =
-    subst (λ (xs : List Entry). Reads xs (put (put next_of place right) at place) (put previous_of place at)
+    subst (λ (xs : List DueEntry). Reads xs (put (put next_of place right) at place) (put previous_of place at)
     new_time new_listed) (sym is₂)
     (reads-next first_written at place second_read (put next_of place right)
     (put previous_of place at) new_time new_listed at₂ r₁) in
@@ -289,31 +289,31 @@ linked entries place at right entry second_read third_read first_written second_
       view-kept second_written right third_read (record third_read { previous = place }) at₃ refl ∙ view₂,
     )
 
-pub read-next : (entries : List Entry) (index : ℕ) (entry : Entry) → slice_get entries index ≡ Some entry
+pub read-next : (entries : List DueEntry) (index : ℕ) (entry : DueEntry) → slice_get entries index ≡ Some entry
     → next_at entries index ≡ entry.next
 read-next entries index entry at = field-at (λ each. each.next) 0 entries index entry at
 
-pub read-previous : (entries : List Entry) (index : ℕ) (entry : Entry) → slice_get entries index ≡ Some entry
+pub read-previous : (entries : List DueEntry) (index : ℕ) (entry : DueEntry) → slice_get entries index ≡ Some entry
     → previous_at entries index ≡ entry.previous
 read-previous entries index entry at = field-at (λ each. each.previous) 0 entries index entry at
 
-pub read-time : (entries : List Entry) (index : ℕ) (entry : Entry) → slice_get entries index ≡ Some entry
+pub read-time : (entries : List DueEntry) (index : ℕ) (entry : DueEntry) → slice_get entries index ≡ Some entry
     → time_at entries index ≡ entry.time
 read-time entries index entry at = field-at (λ each. each.time) 0 entries index entry at
 
 -- a place of the ring, where what is behind it comes after a place with this time
-pub record IsBehind (entries : List Entry) (place time at : ℕ) : Type 0 where
+pub record IsBehind (entries : List DueEntry) (place time at : ℕ) : Type 0 where
   pub on : IsOn (head_of entries) (listed_at entries) at
   pub after : next_at entries at ≢ head_of entries
       → IsBefore time place (time_at entries (next_at entries at)) (next_at entries at)
 
 -- what is listed, by the order's value
-pub listed-view : (entries : List Entry) (index : ℕ) (due : Due)
+pub listed-view : (entries : List DueEntry) (index : ℕ) (due : Due)
     → slice_get (map due_view entries) index ≡ Some (Some due)
     → (listed_at entries index ≡ true)
-    × ((entry : Entry) × (slice_get entries index ≡ Some entry) × ((due_of entry) ≡ due))
+    × ((entry : DueEntry) × (slice_get entries index ≡ Some entry) × ((due_of entry) ≡ due))
 listed-view entries index due at = found (slice_get entries index) refl where
-  tells : (entry : Entry) (b : Bool) → entry.listed ≡ b → due_view entry ≡ Some due
+  tells : (entry : DueEntry) (b : Bool) → entry.listed ≡ b → due_view entry ≡ Some due
       → (entry.listed ≡ true) × ((due_of entry) ≡ due)
   tells entry true is seen =
       let shown : due_view entry ≡ Some (due_of entry) =
@@ -322,9 +322,9 @@ listed-view entries index due at = found (slice_get entries index) refl where
   tells entry false is seen =
       let shown : due_view entry ≡ None = ap (λ (flag : Bool). cond flag (Some (due_of entry)) None) is in absurd cc
 
-  found : (o : Option Entry) → slice_get entries index ≡ o
+  found : (o : Option DueEntry) → slice_get entries index ≡ o
       → (listed_at entries index ≡ true)
-      × ((entry : Entry) × (slice_get entries index ≡ Some entry) × ((due_of entry) ≡ due))
+      × ((entry : DueEntry) × (slice_get entries index ≡ Some entry) × ((due_of entry) ≡ due))
   found None is =
       let none : slice_get (map due_view entries) index ≡ None =
       slice_get-map due_view entries index ∙ ap (option_map due_view) is in
@@ -336,18 +336,18 @@ listed-view entries index due at = found (slice_get entries index) refl where
       let known = tells entry entry.listed refl shown in
       (field-at (λ each. each.listed) false entries index entry is ∙ known.0, (entry, is, known.1))
 
-pub unlisted-view : (entries : List Entry) (index : ℕ) → slice_get (map due_view entries) index ≡ Some None
+pub unlisted-view : (entries : List DueEntry) (index : ℕ) → slice_get (map due_view entries) index ≡ Some None
     → listed_at entries index ≡ false
 unlisted-view entries index at = found (slice_get entries index) refl where
-  tells : (entry : Entry) (b : Bool) → entry.listed ≡ b → due_view entry ≡ None → entry.listed ≡ false
+  tells : (entry : DueEntry) (b : Bool) → entry.listed ≡ b → due_view entry ≡ None → entry.listed ≡ false
   tells entry true is seen =
       let shown : due_view entry ≡ Some (due_of entry) =
       ap (λ (flag : Bool). cond flag (Some (due_of entry)) None) is in
       absurd cc
   tells entry false is seen = is
 
-  found : (o : Option Entry) → slice_get entries index ≡ o → listed_at entries index ≡ false
-  found None is = ap (λ (o : Option Entry). elim o as (λ _. Bool) [ Some each ↦ each.listed | None ↦ false ]) is
+  found : (o : Option DueEntry) → slice_get entries index ≡ o → listed_at entries index ≡ false
+  found None is = ap (λ (o : Option DueEntry). elim o as (λ _. Bool) [ Some each ↦ each.listed | None ↦ false ]) is
   found (Some entry) is =
       let some : slice_get (map due_view entries) index ≡ Some (due_view entry) =
       slice_get-map due_view entries index ∙ ap (option_map due_view) is in
@@ -355,7 +355,7 @@ unlisted-view entries index at = found (slice_get entries index) refl where
       field-at (λ each. each.listed) false entries index entry is ∙ tells entry entry.listed refl shown
 
 -- the order's value at an entry that is listed
-pub view-listed : (entries : List Entry) (index : ℕ) (entry : Entry) → slice_get entries index ≡ Some entry
+pub view-listed : (entries : List DueEntry) (index : ℕ) (entry : DueEntry) → slice_get entries index ≡ Some entry
     → listed_at entries index ≡ true → slice_get (map due_view entries) index ≡ Some (Some (due_of entry))
 view-listed entries index entry at on =
     slice_get-map due_view entries index
@@ -364,7 +364,7 @@ view-listed entries index entry at on =
     (sym (field-at (λ each. each.listed) false entries index entry at) ∙ on))
 
 -- the first listed place, by what the head has behind it
-pub first-view : (entries : List Entry) (entry : Entry) → IsOrder entries → entry.next ≢ head_of entries
+pub first-view : (entries : List DueEntry) (entry : DueEntry) → IsOrder entries → entry.next ≢ head_of entries
     → slice_get entries (head_of entries) ≡ Some entry
     → (listed_at entries entry.next ≡ true) × (entry.next + 1 < length entries)
     × ((index : ℕ) (due : Due) → slice_get (map due_view entries) index ≡ Some (Some due)
@@ -395,7 +395,7 @@ first-view entries entry order ne at =
     )
 
 -- nothing is listed where the head is behind itself
-pub none-view : (entries : List Entry) (entry : Entry) → IsOrder entries → entry.next ≡ head_of entries
+pub none-view : (entries : List DueEntry) (entry : DueEntry) → IsOrder entries → entry.next ≡ head_of entries
     → slice_get entries (head_of entries) ≡ Some entry → (index : ℕ) (due : Due)
     → slice_get (map due_view entries) index ≢ Some (Some due)
 none-view entries entry order same at index due is =
@@ -409,7 +409,7 @@ none-view entries entry order same at index due is =
     let off : listed_at entries (head_of entries) ≡ false = order.ring.apart in
     absurd cc
 
-pub view-new : (entry : Entry) (count : ℕ)
+pub view-new : (entry : DueEntry) (count : ℕ)
     → map due_view (replicate count entry) ≡ replicate count (due_view entry)
 view-new entry zero = refl
 view-new entry (suc count) = ap (λ (dues : List (Option Due)). due_view entry ∷ dues) (view-new entry count)

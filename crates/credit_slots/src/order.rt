@@ -21,7 +21,7 @@ pub(crate) struct Due {
 
 // A place, and the places before and behind it where it is listed.
 #[derive(Clone, Copy, Drop)]
-struct Entry {
+struct DueEntry {
     time: u64,
     node: u16,
     slot: u16,
@@ -40,7 +40,7 @@ fn is_after(other: u64, at: usize, time: u64, place: usize) -> bool
 }
 
 // Behind which place one with this time goes. Most times are the latest, and then it is the last place.
-fn seek(entries: &Vec<Entry>, place: usize, time: u64) -> usize
+fn seek(entries: &Vec<DueEntry>, place: usize, time: u64) -> usize
     requires order { IsOrder entries.now.items }
     requires inside { place < length entries.now.items }
     requires unlisted { listed_at entries.now.items place ≡ false }
@@ -60,7 +60,7 @@ fn seek(entries: &Vec<Entry>, place: usize, time: u64) -> usize
 }
 
 // Lists a place behind another.
-fn link(entries: &mut Vec<Entry>, place: usize, at: usize, due: Due)
+fn link(entries: &mut Vec<DueEntry>, place: usize, at: usize, due: Due)
     requires order { IsOrder entries.old.items }
     requires inside { place + 1 < length entries.old.items }
     requires unlisted { listed_at entries.old.items place ≡ false }
@@ -70,7 +70,7 @@ fn link(entries: &mut Vec<Entry>, place: usize, at: usize, due: Due)
         ≡ slice_set (map due_view entries.old.items) place (Some due) }
 {
     let next = entries[at].next;
-    entries[place] = Entry {
+    entries[place] = DueEntry {
         time: due.time,
         node: due.node,
         slot: due.slot,
@@ -83,7 +83,7 @@ fn link(entries: &mut Vec<Entry>, place: usize, at: usize, due: Due)
 }
 
 // Takes a place out.
-fn unlink(entries: &mut Vec<Entry>, place: usize)
+fn unlink(entries: &mut Vec<DueEntry>, place: usize)
     requires order { IsOrder entries.old.items }
     requires listed { listed_at entries.old.items place ≡ true }
     ensures order { IsOrder entries.new.items }
@@ -101,7 +101,7 @@ fn unlink(entries: &mut Vec<Entry>, place: usize)
 #[derive(Drop)]
 pub(crate) struct Order {
     // The last entry is no place: there the ring begins and ends.
-    entries: Vec<Entry>,
+    entries: Vec<DueEntry>,
 }
 
 impl Model for Order {
@@ -129,7 +129,7 @@ impl Order {
             node: 0,
             slot: 0,
         };
-        let head = Entry {
+        let head = DueEntry {
             time: due.time,
             node: due.node,
             slot: due.slot,

@@ -16,13 +16,13 @@ ghost use Rattle.gas_endpoint.specs.EndpointState.{ForItsRecord, job_here};
 ghost use Rattle.gas_endpoint.specs.Parts.{IsWhole, CanSend, PartSends, endpoint_of};
 
 use crate::extended::Extended;
-use am_core::{Asked, Core, Library, Side, SlotRef};
+use am_core::{Asked, Core, LibraryRequest, Side, SlotRef};
 use datagram_grammar::BarrierNote;
 use endpoint_rules::Ticked;
 use put_get::{Next, Transfer};
 
 /// What a chunk asks of its target.
-fn chunk_work(next: &Next) -> Library
+fn chunk_work(next: &Next) -> LibraryRequest
     requires { (settings : Parameters) × AreInRange settings
         × WorkFits settings (chunk_work next.now) }
     ensures { work_of result ≡ chunk_work next.now }
@@ -30,17 +30,17 @@ fn chunk_work(next: &Next) -> Library
     let start = next.start;
     let len = next.len;
     match next.transfer {
-        Transfer::Put { remote, local, .. } => Library::Put {
+        Transfer::Put { remote, local, .. } => LibraryRequest::Put {
             local: local + start,
             remote: remote + start,
             len,
         },
-        Transfer::Get { remote, local, .. } => Library::Get {
+        Transfer::Get { remote, local, .. } => LibraryRequest::Get {
             local: local + start,
             remote: remote + start,
             len,
         },
-        Transfer::Memset { remote, byte, .. } => Library::Memset {
+        Transfer::Memset { remote, byte, .. } => LibraryRequest::Memset {
             remote: remote + start,
             len,
             byte,
@@ -105,7 +105,7 @@ impl Extended {
             (record { now = now; to = to; work = Note note.now }) result
             (record { core = core.new; extended = self.new }) }
     {
-        let Asked::Accepted { slot, .. } = core.ask(now, to, &Library::Note(*note)) else {
+        let Asked::Accepted { slot, .. } = core.ask(now, to, &LibraryRequest::Note(*note)) else {
             unreachable!()
         };
         self.barrier.sent(to);

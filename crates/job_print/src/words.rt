@@ -12,7 +12,7 @@ use gas_outside::{BufferedSink, Sink, Wrote};
 use handler_rules::{CallKind, Role};
 use line_forms::{HasName, Operand, Payload};
 use put_get::ImplicitKinds;
-use text_lines::{Bytes, write_bytes, write_integer, write_number};
+use text_lines::{LineBytes, write_bytes, write_integer, write_number};
 
 /// A word of a line behind its name, by what it says.
 #[derive(Clone, Copy)]
@@ -40,7 +40,7 @@ pub(crate) enum Word<'a> {
     /// A kind of collective.
     Collective(CollectiveKind),
     /// Bytes.
-    Bytes(&'a Bytes),
+    Bytes(&'a LineBytes),
     /// A payload.
     Payload(&'a Payload),
 }

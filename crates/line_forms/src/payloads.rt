@@ -8,12 +8,18 @@ ghost use Rattle.line_forms.specs.Forms.{part_at};
 ghost use Rattle.text_lines.specs.Found.{Finds, Reads};
 
 use crate::values::Payload;
+use datagram_grammar::MAX_PAYLOAD;
 use std::alloc::Global;
-use text_lines::{Bytes, Miss, Other, bytes_of, is_name, name_of, number_of, spaced, starts};
+use text_lines::{
+    LineBytes, MAX_WORD_BYTES, Miss, Other, bytes_of, is_name, name_of, number_of, spaced, starts,
+};
+
+// One byte more than a payload may have: a job can have a payload that is too long.
+const _: () = prove!(MAX_WORD_BYTES == MAX_PAYLOAD + 1);
 
 /// Bytes behind a space.
 #[tactic(auto, unfolding(crate::specs::Forms::part_at, crate::specs::Forms::word_at))]
-pub fn bytes_at(alloc: Global, bytes: &[u8]) -> Result<(Bytes, &[u8]), Miss>
+pub fn bytes_at(alloc: Global, bytes: &[u8]) -> Result<(LineBytes, &[u8]), Miss>
     ensures { Reads (λ x. (x.0, x.1.now)) result (part_at BytesPart bytes.now) }
 {
     let bytes = spaced(bytes)?;

@@ -3,7 +3,7 @@
 ghost use Rattle.std.specs.Prelude.{◌≡◌, ◌≤◌, length};
 
 use std::marker::Model;
-use text_lines::Bytes;
+use text_lines::LineBytes;
 
 /// A number as an action has it.
 #[derive(Clone, Copy)]
@@ -37,7 +37,7 @@ impl Model for Operands {
 #[derive(Drop)]
 pub enum Payload {
     /// These bytes.
-    Bytes { bytes: Bytes },
+    Bytes { bytes: LineBytes },
     /// A range of the local segment, in bytes.
     Range { offset: u64, len: u64 },
     /// The payload of the message that a handler runs for, and of a Long its place; in a handler's body alone.

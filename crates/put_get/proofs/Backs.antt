@@ -5,7 +5,7 @@ use Rattle.std.specs.List.{slice_get, list_any}
 use Rattle.std.proofs.lemmas.Bool.{cases_Bool}
 use Rattle.std.proofs.lemmas.Option.{same_Some, slice_get_within}
 use Rattle.lists.proofs.Numbered.{numbered_at}
-use Rattle.put_get.specs.declared.table.Standing.{Standing}
+use Rattle.put_get.specs.declared.table.OperationRecord.{OperationRecord}
 use Rattle.put_get.specs.declared.slots.Waiting.{Waiting}
 use Rattle.put_get.specs.declared.transfers.Transfers.{Transfers}
 use Rattle.put_get.specs.Operation.{Operation, target, returned_of, has_out, come_back}
@@ -61,10 +61,10 @@ there_is table operations to slot waiting S at blank =
     let it = said table operations to slot waiting S at in
     apart it.0 (sym blank ∙ it.1)
   where
-    apart : (there : Standing) → ◌≡◌ {A = Option (Option Standing)} (Some None) (Some (Some there)) → ⊥
+    apart : (there : OperationRecord) → ◌≡◌ {A = Option (Option OperationRecord)} (Some None) (Some (Some there)) → ⊥
     apart there is = cc
 
-pub unreturned : (table : Transfers) (operations : List Operation) (to slot : ℕ) (waiting : Waiting) (there : Standing)
+pub unreturned : (table : Transfers) (operations : List Operation) (to slot : ℕ) (waiting : Waiting) (there : OperationRecord)
     → Stands table operations → entry_at table.slots to slot ≡ Some waiting
     → slice_get table.table waiting.place ≡ Some (Some there) → there.returned < there.issued
 unreturned table operations to slot waiting there S entry at =
@@ -76,7 +76,7 @@ unreturned table operations to slot waiting there S entry at =
     let o = S.keeps.each waiting.place it.0 it.1 in
     let less : returned_of o.0.sent < length o.0.sent =
     less_of o.0 (ap (requests_of to slot) (same_Some _ _ (sym o.1 ∙ here)) ∙ one.one) in
-    subst (λ (z : Standing). z.returned < z.issued) (sym o.3 ∙ is) less
+    subst (λ (z : OperationRecord). z.returned < z.issued) (sym o.3 ∙ is) less
   where
     less_of : (operation : Operation) → requests_of to slot operation ≡ waiting.request ∷ []
         → returned_of operation.sent < length operation.sent

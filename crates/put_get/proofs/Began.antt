@@ -12,9 +12,9 @@ use Rattle.lists.proofs.Places.{slice_get_last}
 use Rattle.lists.proofs.Numbered.{numbered_nil, numbered_push, numbered_kept, numbered_in}
 use Rattle.put_get.specs.declared.operation.Transfer.{Transfer}
 use Rattle.put_get.specs.declared.operation.Mode.{Mode}
-use Rattle.put_get.specs.declared.table.Standing.{Standing}
+use Rattle.put_get.specs.declared.table.OperationRecord.{OperationRecord}
 use Rattle.put_get.specs.declared.transfers.Transfers.{Transfers}
-use Rattle.put_get.specs.Operation.{Operation, standing, is_full, after_begin, fresh}
+use Rattle.put_get.specs.Operation.{Operation, unsynced, is_full, after_begin, fresh}
 use Rattle.put_get.specs.Table.{taken}
 use Rattle.put_get.specs.SlotsState.{SlotsState, entry_at}
 use Rattle.put_get.specs.Outs.{outs}
@@ -41,7 +41,7 @@ taken_less (None ∷ xs) p e = let l = taken_le xs in omega arith
 taken_less (Some x ∷ xs) zero e = absurd (cc)
 taken_less (Some x ∷ xs) (suc p) e = let ih = taken_less xs p e in omega arith
 
-pub keeps_begun : (places : List (Option Standing)) (operations : List Operation) (place : ℕ) (operation : Operation)
+pub keeps_begun : (places : List (Option OperationRecord)) (operations : List Operation) (place : ℕ) (operation : Operation)
     → slice_get places place ≡ Some None
     → operation.synced ≡ false → Keeps places operations
     → Keeps (set places place (Some (kept (suc (length operations)) operation))) (operations ++ operation ∷ [])
@@ -54,29 +54,29 @@ keeps_begun places operations place operation blank fresh K =
       count = count_from (set places place (Some new)) (operations ++ operation ∷ []) each all once;
     }
   where
-    new : Standing
+    new : OperationRecord
     new = kept (suc (length operations)) operation
 
-    apart : (there : Standing) → ◌≡◌ {A = Option (Option Standing)} (Some None) (Some (Some there)) → ⊥
+    apart : (there : OperationRecord) → ◌≡◌ {A = Option (Option OperationRecord)} (Some None) (Some (Some there)) → ⊥
     apart there is = cc
 
-    old : (other : ℕ) (there : Standing) → slice_get places other ≡ Some (Some there)
+    old : (other : ℕ) (there : OperationRecord) → slice_get places other ≡ Some (Some there)
         → there.number ≢ suc (length operations)
     old other there at same = let was = K.each other there at in
         let in_list = numbered_in operations there.number was.0 was.1 in omega (arith, same, in_list)
 
-    each : (other : ℕ) (there : Standing) → slice_get (set places place (Some new)) other ≡ Some (Some there)
+    each : (other : ℕ) (there : OperationRecord) → slice_get (set places place (Some new)) other ≡ Some (Some there)
         → (o : Operation) × (numbered (operations ++ operation ∷ []) there.number ≡ Some o) × (o.synced ≡ false)
         × (there ≡ kept there.number o)
     each other there at = elim (get_set places place (Some new) other (Some there) at) [
       | inl here ↦ (
           let is : new ≡ there = same_Some _ _ here.1 in (
             operation,
-            ap (numbered (operations ++ operation ∷ [])) (ap (λ (z : Standing). z.number) (sym is))
+            ap (numbered (operations ++ operation ∷ [])) (ap (λ (z : OperationRecord). z.number) (sym is))
                 ∙ slice_get_last operations operation,
             fresh,
             sym is
-                ∙ ap (λ n. kept n operation) (ap (λ (z : Standing). z.number) is),
+                ∙ ap (λ n. kept n operation) (ap (λ (z : OperationRecord). z.number) is),
           ))
       | inr apart_from ↦
           (let was = K.each other there apart_from.1 in
@@ -94,11 +94,11 @@ keeps_begun places operations place operation blank fresh K =
       | inr it ↦ (
         place,
         get-set_same places place (Some new) (slice_get_within places place None blank)
-            ∙ ap (λ (y : Standing). Some (Some y)) (ap (λ n. kept n operation) (sym it.0) ∙ ap (kept number) it.1),
+            ∙ ap (λ (y : OperationRecord). Some (Some y)) (ap (λ n. kept n operation) (sym it.0) ∙ ap (kept number) it.1),
       )
     ]
 
-    once : (one other : ℕ) (first second : Standing) → slice_get (set places place (Some new)) one ≡ Some (Some first)
+    once : (one other : ℕ) (first second : OperationRecord) → slice_get (set places place (Some new)) one ≡ Some (Some first)
         → slice_get (set places place (Some new)) other ≡ Some (Some second) → first.number ≡ second.number
         → one ≡ other
     once one other first second at there same = elim (get_set places place (Some new) one (Some first) at) [
@@ -106,34 +106,34 @@ keeps_begun places operations place operation blank fresh K =
         | inl too ↦ here.0 ∙ sym too.0
         | inr isnt ↦
             absurd (old other second isnt.1
-            (sym same ∙ ap (λ (z : Standing). z.number) (sym (same_Some new first here.1))))
+            (sym same ∙ ap (λ (z : OperationRecord). z.number) (sym (same_Some new first here.1))))
       ]
       | inr isnt ↦ elim (get_set places place (Some new) other (Some second) there) [
         | inl too ↦ absurd
-            (old one first isnt.1 (same ∙ ap (λ (z : Standing). z.number) (sym (same_Some new second too.1))))
+            (old one first isnt.1 (same ∙ ap (λ (z : OperationRecord). z.number) (sym (same_Some new second too.1))))
         | inr neither ↦ K.once one other first second isnt.1 neither.1 same
       ]
     ]
 
 -- whether an operation may begin
-pub full_by_places : (operations : List Operation) → standing operations ≡ 256 → is_full operations ≡ true
+pub full_by_places : (operations : List Operation) → unsynced operations ≡ 256 → is_full operations ≡ true
 full_by_places operations many = rw many refl
 
 pub full_by_numbers : (operations : List Operation) → length operations ≡ 18446744073709551615
     → is_full operations ≡ true
-full_by_numbers operations many = elim (cases_Bool (nat_le 256 (standing operations))) [
+full_by_numbers operations many = elim (cases_Bool (nat_le 256 (unsynced operations))) [
   | inl is ↦ rw is refl
   | inr isnt ↦ rw (isnt, many) refl
 ]
 
-pub not_full : (operations : List Operation) → standing operations < 256 → length operations < 18446744073709551615
+pub not_full : (operations : List Operation) → unsynced operations < 256 → length operations < 18446744073709551615
     → is_full operations ≡ false
 not_full operations room left =
-    rw (lt-leb 256 (standing operations) room, lt-leb 18446744073709551615 (length operations) left) refl
+    rw (lt-leb 256 (unsynced operations) room, lt-leb 18446744073709551615 (length operations) left) refl
 
 -- ---- the table
 
-pub stands_none : (places : List (Option Standing)) (slots : SlotsState) → places ≡ replicate 256 None
+pub stands_none : (places : List (Option OperationRecord)) (slots : SlotsState) → places ≡ replicate 256 None
     → ((to slot : ℕ) → entry_at slots to slot ≡ None)
     → Stands (record { given = 0; table = places; slots = slots }) []
 stands_none places slots is none = record {
@@ -149,7 +149,7 @@ stands_none places slots is none = record {
   settled = λ number operation at. absurd (numbered_nil number operation at);
 }
   where
-    blank : (place : ℕ) (there : Standing) → slice_get (replicate 256 None) place ≡ Some (Some there) → ⊥
+    blank : (place : ℕ) (there : OperationRecord) → slice_get (replicate 256 None) place ≡ Some (Some there) → ⊥
     blank place there at = let is_none : Some there ≡ None = replicate-is 256 place None (Some there) at in cc
 
 pub stands_begun : (table : Transfers) (operations : List Operation) (place : ℕ) (thread : ℕ) (transfer : Transfer)

@@ -9,7 +9,7 @@ use Rattle.lists.specs.Numbered.{numbered, change}
 use Rattle.lists.specs.Update.{update}
 use Rattle.lists.proofs.Indexes.{get-set_same, get-set_other}
 use Rattle.lists.proofs.Numbered.{numbered-change, numbered-changed, numbered-change_here, length-change, numbered_at}
-use Rattle.put_get.specs.declared.table.Standing.{Standing}
+use Rattle.put_get.specs.declared.table.OperationRecord.{OperationRecord}
 use Rattle.put_get.specs.declared.slots.Waiting.{Waiting}
 use Rattle.put_get.specs.declared.transfers.Transfers.{Transfers}
 use Rattle.put_get.specs.Operation.{Operation, Sent, target, returned_of, is_complete, with_sent, as_back, with_back}
@@ -35,8 +35,8 @@ numbered_other f operations number other operation apart at =
       | inr is ↦ absurd (apart is.0)
     ]
 
-pub keeps_changed : (f : Operation → Operation) (places : List (Option Standing)) (operations : List Operation)
-    (place : ℕ) (there : Standing) (operation : Operation)
+pub keeps_changed : (f : Operation → Operation) (places : List (Option OperationRecord)) (operations : List Operation)
+    (place : ℕ) (there : OperationRecord) (operation : Operation)
     → Keeps places operations
     → slice_get places place ≡ Some (Some there) → numbered operations there.number ≡ Some operation
     → operation.synced ≡ false → (f operation).synced ≡ false
@@ -50,20 +50,20 @@ keeps_changed f places operations place there operation K at is stands stays =
       count = count_from (set places place (Some new)) (change f operations there.number) each all once;
     }
   where
-    new : Standing
+    new : OperationRecord
     new = kept there.number (f operation)
 
-    own : (other : ℕ) (second : Standing) → slice_get places other ≡ Some (Some second) → second.number ≡ there.number
+    own : (other : ℕ) (second : OperationRecord) → slice_get places other ≡ Some (Some second) → second.number ≡ there.number
         → other ≡ place
     own other second also same = K.once other place second there also at same
 
-    each : (other : ℕ) (second : Standing) → slice_get (set places place (Some new)) other ≡ Some (Some second)
+    each : (other : ℕ) (second : OperationRecord) → slice_get (set places place (Some new)) other ≡ Some (Some second)
         → (o : Operation) × (numbered (change f operations there.number) second.number ≡ Some o) × (o.synced ≡ false)
         × (second ≡ kept second.number o)
     each other second also = elim (get_set places place (Some new) other (Some second) also) [
       | inl here ↦ (
           let same : new ≡ second = same_Some _ _ here.1 in
-          let number : there.number ≡ second.number = ap (λ (z : Standing). z.number) same in (
+          let number : there.number ≡ second.number = ap (λ (z : OperationRecord). z.number) same in (
             f operation,
             ap (numbered (change f operations there.number)) (sym number)
                 ∙ numbered-change_here f operations there.number operation is,
@@ -90,7 +90,7 @@ keeps_changed f places operations place there operation K at is stands stays =
               let found = K.all number was.0 was.1 (ap (λ (z : Operation). z.synced) (sym it.1) ∙ open_now) in
               let numbers : found.0 ≢ place =
               λ same. it.0
-              (ap (λ (y : Standing). y.number)
+              (ap (λ (y : OperationRecord). y.number)
               (same_Some (kept number was.0) there
               (same_Some (Some (kept number was.0)) (Some there) (sym found.1 ∙ (ap (slice_get places) same ∙ at))))) in (
                 found.0,
@@ -101,11 +101,11 @@ keeps_changed f places operations place there operation K at is stands stays =
               let same : was.0 ≡ operation = same_Some _ _ (sym was.1 ∙ (ap (numbered operations) it.0 ∙ is)) in (
                 place,
                 get-set_same places place (Some new) (slice_get_within places place (Some there) at)
-                    ∙ ap (λ (y : Standing). Some (Some y)) (ap₂ kept (sym it.0) (ap f (sym same) ∙ sym it.1)),
+                    ∙ ap (λ (y : OperationRecord). Some (Some y)) (ap₂ kept (sym it.0) (ap f (sym same) ∙ sym it.1)),
               ))
         ]
 
-    once : (one other : ℕ) (first second : Standing) → slice_get (set places place (Some new)) one ≡ Some (Some first)
+    once : (one other : ℕ) (first second : OperationRecord) → slice_get (set places place (Some new)) one ≡ Some (Some first)
         → slice_get (set places place (Some new)) other ≡ Some (Some second) → first.number ≡ second.number
         → one ≡ other
     once one other first second here also same = elim (get_set places place (Some new) one (Some first) here) [
@@ -113,11 +113,11 @@ keeps_changed f places operations place there operation K at is stands stays =
         | inl too ↦ it.0 ∙ sym too.0
         | inr isnt ↦
             absurd (isnt.0
-            (own other second isnt.1 (sym same ∙ ap (λ (z : Standing). z.number) (sym (same_Some new first it.1)))))
+            (own other second isnt.1 (sym same ∙ ap (λ (z : OperationRecord). z.number) (sym (same_Some new first it.1)))))
       ]
       | inr isnt ↦ elim (get_set places place (Some new) other (Some second) also) [
         | inl too ↦ absurd
-            (isnt.0 (own one first isnt.1 (same ∙ ap (λ (z : Standing). z.number) (sym (same_Some new second too.1)))))
+            (isnt.0 (own one first isnt.1 (same ∙ ap (λ (z : OperationRecord). z.number) (sym (same_Some new second too.1)))))
         | inr neither ↦ K.once one other first second isnt.1 neither.1 same
       ]
     ]
@@ -125,7 +125,7 @@ keeps_changed f places operations place there operation K at is stands stays =
 -- ---- the whole table
 
 pub stands_changed : (f : Operation → Operation) (table : Transfers) (operations : List Operation) (place : ℕ)
-    (there new : Standing) (slots : SlotsState)
+    (there new : OperationRecord) (slots : SlotsState)
     → Stands table operations → slice_get table.table place ≡ Some (Some there)
     → ((o : Operation) → (f o).synced ≡ o.synced)
     → ((o : Operation) → numbered operations there.number ≡ Some o → there ≡ kept there.number o
@@ -173,7 +173,7 @@ kept_noted number slot request bytes operation =
       returned = returned;
     }) (length-append operation.sent (new ∷ [])) (returned_push operation.sent new refl)
 
-pub stands_noted : (table : Transfers) (operations : List Operation) (place : ℕ) (there : Standing)
+pub stands_noted : (table : Transfers) (operations : List Operation) (place : ℕ) (there : OperationRecord)
     (to slot request : ℕ)
     (bytes : List ℕ) (slots : SlotsState)
     → Stands table operations → slice_get table.table place ≡ Some (Some there) → target there.transfer ≡ to
@@ -189,16 +189,16 @@ pub stands_noted : (table : Transfers) (operations : List Operation) (place : �
 stands_noted table operations place there to slot request bytes slots S at is free H =
     stands_changed f table operations place there new slots S at (λ any. refl)
     (λ any here same. kept_noted there.number slot request bytes any
-    ∙ ap (λ (z : Standing). record z { issued = z.issued + 1 }) (sym same))
+    ∙ ap (λ (z : OperationRecord). record z { issued = z.issued + 1 }) (sym same))
     says
   where
     f : Operation → Operation
     f = with_sent slot request bytes
 
-    new : Standing
+    new : OperationRecord
     new = record there { issued = there.issued + 1 }
 
-    places : List (Option Standing)
+    places : List (Option OperationRecord)
     places = set table.table place (Some new)
 
     says : (node other : ℕ)
@@ -207,7 +207,7 @@ stands_noted table operations place there to slot request bytes slots S at is fr
         let o = S.keeps.each place there at in
         let a = number_at operations there.number o.0 o.1 in
         let one : there.number ≡ suc a.0 = omega (arith, a.1) in
-        let to_is : target o.0.transfer ≡ to = ap (λ (z : Standing). target z.transfer) (sym o.3) ∙ is in
+        let to_is : target o.0.transfer ≡ to = ap (λ (z : OperationRecord). target z.transfer) (sym o.3) ∙ is in
         let changed : change f operations there.number ≡ update operations a.0 f = ap (change f operations) one in
         let elsewhere : (node ≡ to → other ≡ slot → ⊥)
         → Says places (entry_at slots node other) (outs node other 1 (change f operations there.number)) = λ apart. (
@@ -262,7 +262,7 @@ kept_returned number to slot request operation one =
     none : ◌≡◌ {A = List ℕ} [] (request ∷ []) → ⊥
     none is = cc
 
-pub stands_returned : (table : Transfers) (operations : List Operation) (there : Standing) (to slot : ℕ)
+pub stands_returned : (table : Transfers) (operations : List Operation) (there : OperationRecord) (to slot : ℕ)
     (waiting : Waiting) (slots : SlotsState)
     → Stands table operations → entry_at table.slots to slot ≡ Some waiting
     → slice_get table.table waiting.place ≡ Some (Some there) → HasSet table.slots to slot None slots
@@ -277,16 +277,16 @@ stands_returned table operations there to slot waiting slots S entry at H =
     (λ any. ap (λ (z : Operation). z.synced) (with_back_keeps to slot waiting.request any))
     (λ any here same. kept_returned there.number to slot waiting.request any
     (ap (requests_of to slot) (same_Some _ _ (sym here ∙ here_is)) ∙ one.one)
-    ∙ ap (λ (z : Standing). record z { returned = z.returned + 1 }) (sym same))
+    ∙ ap (λ (z : OperationRecord). record z { returned = z.returned + 1 }) (sym same))
     says)
   where
     f : Operation → Operation
     f = with_back to slot waiting.request
 
-    new : Standing
+    new : OperationRecord
     new = record there { returned = there.returned + 1 }
 
-    places : List (Option Standing)
+    places : List (Option OperationRecord)
     places = set table.table waiting.place (Some new)
 
     out : Out
@@ -295,7 +295,7 @@ stands_returned table operations there to slot waiting slots S entry at H =
     outs_are : outs to slot 1 operations ≡ out ∷ []
     outs_are =
         let it = said table operations to slot waiting S entry in
-        it.2 ∙ ap (λ (z : Standing). record {
+        it.2 ∙ ap (λ (z : OperationRecord). record {
           operation = z.number;
           request = waiting.request;
         } ∷ []) (same_Some _ _ (same_Some _ _ (sym it.1 ∙ at)))

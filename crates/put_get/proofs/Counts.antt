@@ -7,13 +7,13 @@ use Rattle.std.proofs.lemmas.Bool.{cases_Bool, cases_eq, eqb-true}
 use Rattle.std.proofs.lemmas.Map.Made.{length-from_same_keys}
 use Rattle.std.proofs.lemmas.Option.{same_Some}
 use Rattle.lists.specs.Numbered.{numbered}
-use Rattle.put_get.specs.declared.table.Standing.{Standing}
-use Rattle.put_get.specs.Operation.{Operation, standing}
+use Rattle.put_get.specs.declared.table.OperationRecord.{OperationRecord}
+use Rattle.put_get.specs.Operation.{Operation, unsynced}
 use Rattle.put_get.specs.Table.{taken}
 use Rattle.put_get.specs.Stands.{kept}
 use Rattle.put_get.proofs.Tests.{same_test}
 
-abbrev serials : List (Option Standing) → List ℕ
+abbrev serials : List (Option OperationRecord) → List ℕ
 serials [] = []
 serials (None ∷ places) = serials places
 serials (Some r ∷ places) = r.number ∷ serials places
@@ -22,18 +22,18 @@ abbrev numbers : ℕ → List Operation → List ℕ
 numbers k [] = []
 numbers k (o ∷ operations) = if o.synced then numbers (suc k) operations else k ∷ numbers (suc k) operations
 
-length-serials : (places : List (Option Standing)) → length (serials places) ≡ taken places
+length-serials : (places : List (Option OperationRecord)) → length (serials places) ≡ taken places
 length-serials [] = refl
 length-serials (None ∷ places) = length-serials places
 length-serials (Some r ∷ places) = ap suc (length-serials places)
 
-length-numbers : (k : ℕ) (operations : List Operation) → length (numbers k operations) ≡ standing operations
+length-numbers : (k : ℕ) (operations : List Operation) → length (numbers k operations) ≡ unsynced operations
 length-numbers k [] = refl
 length-numbers k (o ∷ operations) = let ih = length-numbers (suc k) operations in
     elim (cases_Bool o.synced) [ inl t ↦ rw t ih | inr f ↦ rw f (ap suc ih) ]
 
-serials_at : (places : List (Option Standing)) (q : ℕ) → list_any (eqb q) (serials places) ≡ true
-    → (p : ℕ) × (r : Standing) × (slice_get places p ≡ Some (Some r)) × (r.number ≡ q)
+serials_at : (places : List (Option OperationRecord)) (q : ℕ) → list_any (eqb q) (serials places) ≡ true
+    → (p : ℕ) × (r : OperationRecord) × (slice_get places p ≡ Some (Some r)) × (r.number ≡ q)
 serials_at [] q e = absurd (true≢false (sym e))
 serials_at (None ∷ places) q e = let h = serials_at places q e in (suc h.0, h.1, h.2, h.3)
 serials_at (Some r ∷ places) q e = elim (cases_eq q r.number) [
@@ -41,13 +41,13 @@ serials_at (Some r ∷ places) q e = elim (cases_eq q r.number) [
   | inr n ↦ (let h = serials_at places q (rw (ne_eqb q r.number n) at e) in (suc h.0, h.1, h.2, h.3))
 ]
 
-serials_from : (places : List (Option Standing)) (p : ℕ) (r : Standing) → slice_get places p ≡ Some (Some r)
+serials_from : (places : List (Option OperationRecord)) (p : ℕ) (r : OperationRecord) → slice_get places p ≡ Some (Some r)
     → list_any (eqb r.number) (serials places) ≡ true
 serials_from [] p r e = absurd (cc)
 serials_from (None ∷ places) zero r e = absurd (cc)
 serials_from (None ∷ places) (suc p) r e = serials_from places p r e
 serials_from (Some v ∷ places) zero r e = let same : v ≡ r = same_Some v r (same_Some (Some v) (Some r) e) in
-    rw (eq-eqb r.number v.number (ap (λ (z : Standing). z.number) (sym same))) refl
+    rw (eq-eqb r.number v.number (ap (λ (z : OperationRecord). z.number) (sym same))) refl
 serials_from (Some v ∷ places) (suc p) r e = let ih = serials_from places p r e in
     elim (cases_Bool (eqb r.number v.number)) [ inl t ↦ rw t refl | inr f ↦ rw f ih ]
 
@@ -91,8 +91,8 @@ none_same q (x ∷ xs) n = (
   none_same q xs (λ h. n (elim (cases_Bool (eqb q x)) [ inl t ↦ rw t refl | inr f ↦ rw f h ])),
 )
 
-distinct_serials : (places : List (Option Standing))
-    → ((p q : ℕ) (r v : Standing) → slice_get places p ≡ Some (Some r) → slice_get places q ≡ Some (Some v)
+distinct_serials : (places : List (Option OperationRecord))
+    → ((p q : ℕ) (r v : OperationRecord) → slice_get places p ≡ Some (Some r) → slice_get places q ≡ Some (Some v)
     → r.number ≡ v.number → p ≡ q)
     → IsDistinct eqb (serials places)
 unfolding IsDistinct
@@ -136,14 +136,14 @@ number_at operations zero o e = absurd (cc)
 number_at operations (suc a) o e = (a, omega arith, e)
 
 -- the count follows from the rest
-pub count_from : (places : List (Option Standing)) (operations : List Operation)
-    → ((p : ℕ) (r : Standing) → slice_get places p ≡ Some (Some r)
+pub count_from : (places : List (Option OperationRecord)) (operations : List Operation)
+    → ((p : ℕ) (r : OperationRecord) → slice_get places p ≡ Some (Some r)
     → (o : Operation) × (numbered operations r.number ≡ Some o) × (o.synced ≡ false) × (r ≡ kept r.number o))
     → ((h : ℕ) (o : Operation) → numbered operations h ≡ Some o → o.synced ≡ false
     → (p : ℕ) × (slice_get places p ≡ Some (Some (kept h o))))
-    → ((p q : ℕ) (r v : Standing) → slice_get places p ≡ Some (Some r) → slice_get places q ≡ Some (Some v)
+    → ((p q : ℕ) (r v : OperationRecord) → slice_get places p ≡ Some (Some r) → slice_get places q ≡ Some (Some v)
     → r.number ≡ v.number → p ≡ q)
-    → taken places ≡ standing operations
+    → taken places ≡ unsynced operations
 count_from places operations each all once =
     sym (length-serials places)
     ∙ (length-from_same_keys eqb_laws (serials places) (numbers 1 operations) (distinct_serials places once)

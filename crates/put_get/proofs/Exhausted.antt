@@ -3,7 +3,7 @@ use Rattle.std.proofs.Common.{◌≡◌, inl, inr, ℕ, ◌≤◌, ◌==◌, Boo
 use Rattle.std.proofs.Common.{Option, None, Some, refl, sym, ap, ◌∙◌, subst, arith, eq-eqb}
 use Rattle.std.specs.List.{list_any}
 use Rattle.std.proofs.lemmas.Bool.{cases_Bool, cases_lt, and_parts, and_from, eqb-true}
-use Rattle.put_get.specs.declared.table.Standing.{Standing}
+use Rattle.put_get.specs.declared.table.OperationRecord.{OperationRecord}
 use Rattle.put_get.specs.Operation.{Operation, target, has_next}
 use Rattle.put_get.specs.Syncs.{Choice, chosen, exhausted_of, less}
 use Rattle.put_get.specs.Stands.{Keeps, Agrees, IsFirstExhausted}
@@ -98,8 +98,8 @@ smallest_is exhausted (operation ∷ later) = elim (cases_Bool (exhausted (targe
 ]
 
 -- the first node that was found is the smallest one
-pub exhausted_is : (exhausted : ℕ → Bool) (places : List (Option Standing)) (operations : List Operation) (choice : Choice)
-    (test : Standing → Bool) (found : Option ℕ)
+pub exhausted_is : (exhausted : ℕ → Bool) (places : List (Option OperationRecord)) (operations : List Operation) (choice : Choice)
+    (test : OperationRecord → Bool) (found : Option ℕ)
     → Keeps places operations → Agrees choice test
     → IsFirstExhausted exhausted test places found → found ≡ exhausted_of exhausted (chosen choice 1 operations)
 exhausted_is exhausted places operations choice test found K A first =

@@ -3,7 +3,7 @@ use Rattle.std.proofs.Common.{◌≡◌, ◌≢◌, Bool, inl, inr, ℕ, suc, �
 use Rattle.std.proofs.Common.{zero, refl, sym, ap, ◌∙◌, arith, replicate}
 use Rattle.std.specs.Prelude.{is_some, slice_set}
 use Rattle.std.specs.List.{slice_get}
-use Rattle.put_get.specs.declared.table.Standing.{Standing}
+use Rattle.put_get.specs.declared.table.OperationRecord.{OperationRecord}
 use Rattle.put_get.specs.declared.extent.Extent.{Extent}
 use Rattle.std.specs.List.{list_any}
 use Rattle.std.proofs.lemmas.Bool.{cases_lt}
@@ -12,14 +12,14 @@ use Rattle.put_get.specs.Extent.{IsExtent}
 use Rattle.put_get.proofs.Tests.{get_set, none_picked}
 
 -- what the new bounds owe where a place was written
-pub record Widens (old : Extent) (place : ℕ) (there : Option Standing) (new : Extent) : Type 0 where
+pub record Widens (old : Extent) (place : ℕ) (there : Option OperationRecord) (new : Extent) : Type 0 where
   pub below : (other : ℕ) → other < new.low → other ≢ place → other < old.low
   pub here : place < new.low → is_some there ≡ true
   pub above : is_some there ≡ true → place < new.end
   pub rest : old.end ≤ new.end
   pub within : new.end ≤ 256
 
-pub extent_set : (old new : Extent) (places : List (Option Standing)) (place : ℕ) (there : Option Standing)
+pub extent_set : (old new : Extent) (places : List (Option OperationRecord)) (place : ℕ) (there : Option OperationRecord)
     → IsExtent old places → Widens old place there new → IsExtent new (slice_set places place there)
 extent_set old new places place there E W = record {
   low = λ other less at. elim (get_set places place there other None at) [
@@ -35,17 +35,17 @@ extent_set old new places place there E W = record {
 }
 
 -- a place beyond is blank
-pub flat_beyond : (extent : Extent) (places : List (Option Standing)) (place : ℕ) → IsExtent extent places
+pub flat_beyond : (extent : Extent) (places : List (Option OperationRecord)) (place : ℕ) → IsExtent extent places
     → extent.end ≤ place → flat (slice_get places place) ≡ None
 flat_beyond extent places place E far = by (slice_get places place) (λ there at. E.end place there at)
   where
-    by : (found : Option (Option Standing)) → ((there : Standing) → found ≡ Some (Some there) → place < extent.end)
+    by : (found : Option (Option OperationRecord)) → ((there : OperationRecord) → found ≡ Some (Some there) → place < extent.end)
         → flat found ≡ None
     by None less = refl
     by (Some None) less = refl
     by (Some (Some there)) less = (let low = less there refl in absurd (omega (arith, low, far)))
 
-pub blank_beyond : (extent : Extent) (places : List (Option Standing)) (place : ℕ) (there : Option Standing)
+pub blank_beyond : (extent : Extent) (places : List (Option OperationRecord)) (place : ℕ) (there : Option OperationRecord)
     → IsExtent extent places → extent.end ≤ place → slice_get places place ≡ Some there → there ≡ None
 blank_beyond extent places place there E far at =
     sym (ap flat at) ∙ flat_beyond extent places place E far
@@ -58,14 +58,14 @@ extent_blank many = record {
   within = omega arith;
 }
   where
-    none_there : (many place : ℕ) (there : Standing) → slice_get (replicate many None) place ≡ Some (Some there) → ⊥
+    none_there : (many place : ℕ) (there : OperationRecord) → slice_get (replicate many None) place ≡ Some (Some there) → ⊥
     none_there zero place there at = cc
     none_there (suc many) zero there at = cc
     none_there (suc many) (suc place) there at = none_there many place there at
 
 -- where no place of the extent passes, none does
-pub none_within : (test : Standing → Bool) (extent : Extent) (places : List (Option Standing)) → IsExtent extent places
-    → ((place : ℕ) (there : Option Standing) → place < extent.end → slice_get places place ≡ Some there
+pub none_within : (test : OperationRecord → Bool) (extent : Extent) (places : List (Option OperationRecord)) → IsExtent extent places
+    → ((place : ℕ) (there : Option OperationRecord) → place < extent.end → slice_get places place ≡ Some there
     → on_place test there ≡ false)
     → list_any (on_place test) places ≡ false
 none_within test extent places E none = none_picked (on_place test) places (λ place there at.
@@ -75,15 +75,15 @@ none_within test extent places E none = none_picked (on_place test) places (λ p
     ])
 
 -- a blank place stays blank, whatever is dropped
-pub dropped_beyond : (test : Standing → Bool) (extent : Extent) (places : List (Option Standing)) (place : ℕ)
-    (there : Option Standing)
+pub dropped_beyond : (test : OperationRecord → Bool) (extent : Extent) (places : List (Option OperationRecord)) (place : ℕ)
+    (there : Option OperationRecord)
     → IsExtent extent places → extent.end ≤ place → slice_get places place ≡ Some there → there ≡ dropped test there
 dropped_beyond test extent places place there E far at =
     let blank = blank_beyond extent places place there E far at in
     blank ∙ sym (ap (dropped test) blank)
 
 -- and has no mark
-pub marks_beyond : (test other : Standing → Bool) (extent : Extent) (places : List (Option Standing)) (place : ℕ)
+pub marks_beyond : (test other : OperationRecord → Bool) (extent : Extent) (places : List (Option OperationRecord)) (place : ℕ)
     → IsExtent extent places → extent.end ≤ place
     → on_place test (flat (slice_get places place)) ≡ on_place other (flat (slice_get places place))
 marks_beyond test other extent places place E far =

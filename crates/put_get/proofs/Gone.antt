@@ -6,7 +6,7 @@ use Rattle.std.proofs.lemmas.Bool.{cases_Bool, and_parts}
 use Rattle.std.proofs.lemmas.Option.{same_Some, slice_get_within}
 use Rattle.lists.specs.Numbered.{numbered}
 use Rattle.lists.proofs.Places.{slice_get_there}
-use Rattle.put_get.specs.declared.table.Standing.{Standing}
+use Rattle.put_get.specs.declared.table.OperationRecord.{OperationRecord}
 use Rattle.put_get.specs.declared.transfers.Transfers.{Transfers}
 use Rattle.put_get.specs.Operation.{Operation, is_complete}
 use Rattle.put_get.specs.Syncs.{Choice, go, chosen}
@@ -84,7 +84,7 @@ chosen_complete choice number (first ∷ operations) (suc place) operation all a
           (ap (λ n. choice n operation) (omega arith) ∙ is)
     ]
 
-not_dropped : (test : Standing → Bool) (place : Option Standing) (there : Standing) → dropped test place ≡ Some there
+not_dropped : (test : OperationRecord → Bool) (place : Option OperationRecord) (there : OperationRecord) → dropped test place ≡ Some there
     → (place ≡ Some there) × (test there ≡ false)
 not_dropped test None there is = absurd (cc)
 not_dropped test (Some was) there is = elim (cases_Bool (test was)) [
@@ -93,10 +93,10 @@ not_dropped test (Some was) there is = elim (cases_Bool (test was)) [
       (let same : was ≡ there = same_Some was there (rw fails at is) in (ap Some same, ap test (sym same) ∙ fails))
 ]
   where
-    none : ◌≡◌ {A = Option Standing} None (Some there) → ⊥
+    none : ◌≡◌ {A = Option OperationRecord} None (Some there) → ⊥
     none none_is = cc
 
-keeps_gone : (old new : List (Option Standing)) (operations : List Operation) (choice : Choice) (test : Standing → Bool)
+keeps_gone : (old new : List (Option OperationRecord)) (operations : List Operation) (choice : Choice) (test : OperationRecord → Bool)
     → Agrees choice test → AreDropped test old new → Keeps old operations → Keeps new (go choice 1 operations)
 keeps_gone old new operations choice test A D K =
     record {
@@ -107,7 +107,7 @@ keeps_gone old new operations choice test A D K =
       count = count_from new (go choice 1 operations) each all once;
     }
   where
-    was : (place : ℕ) (there : Standing) → slice_get new place ≡ Some (Some there)
+    was : (place : ℕ) (there : OperationRecord) → slice_get new place ≡ Some (Some there)
         → (slice_get old place ≡ Some (Some there)) × (test there ≡ false)
     was place there at =
         let within = slice_get_within new place (Some there) at in
@@ -116,7 +116,7 @@ keeps_gone old new operations choice test A D K =
         let stays = not_dropped test o.0 there (same_Some _ _ (sym (D.each place o.0 o.1) ∙ at)) in
         (o.1 ∙ ap Some stays.0, stays.1)
 
-    each : (place : ℕ) (there : Standing) → slice_get new place ≡ Some (Some there)
+    each : (place : ℕ) (there : OperationRecord) → slice_get new place ≡ Some (Some there)
         → (o : Operation) × (numbered (go choice 1 operations) there.number ≡ Some o) × (o.synced ≡ false)
         × (there ≡ kept there.number o)
     each place there at =
@@ -142,19 +142,19 @@ keeps_gone old new operations choice test A D K =
               ∙ (ap (λ m. choice m o.0) (sym one ∙ a.1) ∙ it.0) in (
                 p.0,
                 D.each p.0 (Some (kept (suc a.0) o.0)) p.1
-                    ∙ rw free (ap (λ (y : Standing). Some (Some y)) (ap₂ kept (sym one) (sym it.1))),
+                    ∙ rw free (ap (λ (y : OperationRecord). Some (Some y)) (ap₂ kept (sym one) (sym it.1))),
               ))
           | inr it ↦ absurd (true≢false (sym (ap (λ (y : Operation). y.synced) it.1) ∙ stands))
         ]
 
-    once : (place other : ℕ) (first second : Standing) → slice_get new place ≡ Some (Some first)
+    once : (place other : ℕ) (first second : OperationRecord) → slice_get new place ≡ Some (Some first)
         → slice_get new other ≡ Some (Some second) → first.number ≡ second.number → place ≡ other
     once place other first second at also same =
         K.once place other first second (was place first at).0 (was other second also).0 same
 
 -- those chosen go, where all are complete
-pub stands_gone : (table : Transfers) (new : List (Option Standing)) (operations : List Operation) (choice : Choice)
-    (test : Standing → Bool)
+pub stands_gone : (table : Transfers) (new : List (Option OperationRecord)) (operations : List Operation) (choice : Choice)
+    (test : OperationRecord → Bool)
     → Stands table operations → Agrees choice test → AreDropped test table.table new
     → list_all is_complete (chosen choice 1 operations) ≡ true
     → Stands (record table { table = new }) (go choice 1 operations)
@@ -178,7 +178,7 @@ stands_gone table new operations choice test S A D all = record {
     none : (request : ℕ) → ◌≡◌ {A = List ℕ} [] (request ∷ []) → ⊥
     none request is = cc
 
-    stays : (to slot : ℕ) (place : ℕ) (there : Standing) (request : ℕ) → slice_get table.table place ≡ Some (Some there)
+    stays : (to slot : ℕ) (place : ℕ) (there : OperationRecord) (request : ℕ) → slice_get table.table place ≡ Some (Some there)
         → outs to slot 1 operations ≡ record { operation = there.number; request = request } ∷ [] → test there ≡ false
     stays to slot place there request at out = elim (cases_Bool (test there)) [
       | inr isnt ↦ isnt

@@ -3,11 +3,10 @@ use Rattle.std.proofs.Common.{◌≡◌, ◌⊎◌, inl, inr, ℕ, zero, suc, �
 use Rattle.std.proofs.Common.{[], ◌∷◌, Some, length, refl, sym, ap, ◌∙◌, arith, eq-eqb}
 use Rattle.std.specs.List.{slice_get}
 use Rattle.std.proofs.lemmas.Bool.{cases_Bool, and_parts, and_from, eqb-true}
-use Rattle.std.proofs.lemmas.List.{length-map}
 use Rattle.std.proofs.lemmas.Option.{same_Some}
 use Rattle.lists.specs.Numbered.{numbered, change}
 use Rattle.lists.specs.Update.{update}
-use Rattle.lists.proofs.Numbered.{numbered_map, numbered_mapped}
+use Rattle.lists.proofs.Numbered.{numbered_mapped}
 use Rattle.lists.proofs.Update.{update-on}
 use Rattle.put_get.specs.declared.operation.Next.{Next}
 use Rattle.put_get.specs.Operation.{Operation, target, has_next, chunk_of, next_chunk, with_sent, issue, with_back}

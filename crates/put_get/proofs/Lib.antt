@@ -1,4 +1,3 @@
-pub mod Places
 pub mod Edits
 pub mod Entries
 pub mod Outs

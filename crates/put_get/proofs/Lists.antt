@@ -5,7 +5,7 @@ use Rattle.std.proofs.Common.{arith}
 use Rattle.std.specs.List.{slice_get, list_any}
 use Rattle.std.proofs.lemmas.Bool.{cases_Bool, and_parts}
 use Rattle.std.proofs.lemmas.Option.{same_Some}
-use Rattle.put_get.specs.declared.table.Standing.{Standing}
+use Rattle.put_get.specs.declared.table.OperationRecord.{OperationRecord}
 use Rattle.put_get.specs.declared.operation.Handle.{Handle}
 use Rattle.put_get.specs.Operation.{Operation}
 use Rattle.std.specs.Option.{option_or}
@@ -36,7 +36,7 @@ pub or_assoc : (one two three : Bool) → ((one || two) || three) ≡ (one || (t
 or_assoc true two three = refl
 or_assoc false two three = refl
 
-pub any_agrees : (places : List (Option Standing)) (operations : List Operation) (handles : List Handle)
+pub any_agrees : (places : List (Option OperationRecord)) (operations : List Operation) (handles : List Handle)
     → Keeps places operations → Agrees (members_of handles operations) (member_of_any places handles)
 any_agrees places operations handles K = record { chosen = chosen_so handles; open_only = open_so handles }
   where

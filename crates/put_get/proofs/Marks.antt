@@ -3,68 +3,68 @@ use Rattle.std.proofs.Common.{◌≡◌, ℕ, zero, suc, ◌<◌, Bool, true, fa
 use Rattle.std.proofs.Common.{None, Some, length, unwrap_or, replicate, refl, sym, ap, ◌∙◌, arith}
 use Rattle.std.specs.List.{slice_get, list_any}
 use Rattle.lists.proofs.Places.{slice_get-replicate}
-use Rattle.put_get.specs.declared.table.Standing.{Standing}
+use Rattle.put_get.specs.declared.table.OperationRecord.{OperationRecord}
 use Rattle.put_get.specs.declared.table.Check.{Check}
 use Rattle.put_get.specs.Table.{flat}
 use Rattle.put_get.specs.Syncs.{flag_at}
 use Rattle.put_get.specs.Table.{on_place, picks, passes, also, AreMarks, unless_marked, dropped}
 
-pub mark_is : (test : Standing → Bool) (places : List (Option Standing)) (marks : List Bool) (place : ℕ)
-    (there : Option Standing)
+pub mark_is : (test : OperationRecord → Bool) (places : List (Option OperationRecord)) (marks : List Bool) (place : ℕ)
+    (there : Option OperationRecord)
     → AreMarks test places marks → place < 256 → slice_get places place ≡ Some there
     → flag_at marks place ≡ on_place test there
 mark_is test places marks place there M less at = ap (λ mark. unwrap_or mark false) (M.each place less)
     ∙ ap (λ found. on_place test (flat found)) at
 
-picks_test : (test : Standing → Bool) (check : Check) (there : Option Standing)
+picks_test : (test : OperationRecord → Bool) (check : Check) (there : Option OperationRecord)
     → picks (on_place test there) check there ≡ on_place (λ r. test r && passes check r) there
 picks_test test check None = refl
 picks_test test check (Some there) = refl
 
-pub picks_is : (test : Standing → Bool) (check : Check) (places : List (Option Standing)) (marks : List Bool)
-    (place : ℕ) (there : Option Standing)
+pub picks_is : (test : OperationRecord → Bool) (check : Check) (places : List (Option OperationRecord)) (marks : List Bool)
+    (place : ℕ) (there : Option OperationRecord)
     → AreMarks test places marks → place < 256 → slice_get places place ≡ Some there
     → picks (flag_at marks place) check there ≡ on_place (λ r. test r && passes check r) there
 picks_is test check places marks place there M less at =
     ap (λ mark. picks mark check there) (mark_is test places marks place there M less at) ∙ picks_test test check there
 
-dropped_test : (test : Standing → Bool) (there : Option Standing)
+dropped_test : (test : OperationRecord → Bool) (there : Option OperationRecord)
     → unless_marked (on_place test there) there ≡ dropped test there
 dropped_test test None = refl
 dropped_test test (Some there) = refl
 
-pub dropped_is : (test : Standing → Bool) (places : List (Option Standing)) (marks : List Bool) (place : ℕ)
-    (there : Option Standing)
+pub dropped_is : (test : OperationRecord → Bool) (places : List (Option OperationRecord)) (marks : List Bool) (place : ℕ)
+    (there : Option OperationRecord)
     → AreMarks test places marks → place < 256 → slice_get places place ≡ Some there
     → unless_marked (flag_at marks place) there ≡ dropped test there
 dropped_is test places marks place there M less at =
     ap (λ mark. unless_marked mark there) (mark_is test places marks place there M less at) ∙ dropped_test test there
 
-pub also_is : (test other : Standing → Bool) (there : Option Standing)
+pub also_is : (test other : OperationRecord → Bool) (there : Option OperationRecord)
     → (on_place test there || on_place other there) ≡ on_place (also test other) there
 also_is test other None = refl
 also_is test other (Some there) = refl
 
 -- nothing is marked
-pub no_marks : (places : List (Option Standing)) → AreMarks (λ there. false) places (replicate 256 false)
+pub no_marks : (places : List (Option OperationRecord)) → AreMarks (λ there. false) places (replicate 256 false)
 no_marks places = record {
   many = refl;
   each = λ place less. slice_get-replicate 256 place false less ∙ ap Some (sym (never (flat (slice_get places place))));
 }
   where
-    never : (there : Option Standing) → on_place (λ r. false) there ≡ false
+    never : (there : Option OperationRecord) → on_place (λ r. false) there ≡ false
     never None = refl
     never (Some there) = refl
 
 -- a test in the place of an equal one
-pub marks_by : (test other : Standing → Bool) (places : List (Option Standing)) (marks : List Bool)
-    → ((there : Standing) → test there ≡ other there) → AreMarks test places marks → AreMarks other places marks
+pub marks_by : (test other : OperationRecord → Bool) (places : List (Option OperationRecord)) (marks : List Bool)
+    → ((there : OperationRecord) → test there ≡ other there) → AreMarks test places marks → AreMarks other places marks
 marks_by test other places marks same M = record {
   many = M.many;
   each = λ place less. M.each place less ∙ ap Some (on (flat (slice_get places place)));
 }
   where
-    on : (there : Option Standing) → on_place test there ≡ on_place other there
+    on : (there : Option OperationRecord) → on_place test there ≡ on_place other there
     on None = refl
     on (Some there) = same there
 
@@ -82,6 +82,6 @@ no_flag (false ∷ flags) none zero = refl
 no_flag (false ∷ flags) none (suc node) = no_flag flags none node
 
 -- where nothing else was marked
-pub only : (test : Standing → Bool) (places : List (Option Standing)) (marks : List Bool)
+pub only : (test : OperationRecord → Bool) (places : List (Option OperationRecord)) (marks : List Bool)
     → AreMarks (also (λ there. false) test) places marks → AreMarks test places marks
 only test places marks M = marks_by (also (λ there. false) test) test places marks (λ there. refl) M

@@ -5,7 +5,7 @@ use Rattle.std.proofs.Common.{nat_lt, lt-ltb, le-ltb}
 use Rattle.std.specs.List.{slice_get, list_any, list_all}
 use Rattle.std.proofs.lemmas.Bool.{cases_Bool, cases_lt, and_parts, and_from, not-true}
 use Rattle.std.proofs.lemmas.Option.{same_Some}
-use Rattle.put_get.specs.declared.table.Standing.{Standing}
+use Rattle.put_get.specs.declared.table.OperationRecord.{OperationRecord}
 use Rattle.put_get.specs.declared.table.Pick.TheVariants as pick
 use Rattle.put_get.specs.declared.table.Check.TheVariants.{Any, Others, Unissued, UnissuedTo, Unfinished}
 use Rattle.put_get.specs.declared.operation.ImplicitKinds.{ImplicitKinds}
@@ -55,15 +55,15 @@ chosen_from choice test number (first ∷ operations) (suc place) operation at i
     ]
 
 -- a test of the operations chosen, and a test of the records picked
-pub any_is : (places : List (Option Standing)) (operations : List Operation) (choice : Choice) (pick : Standing → Bool)
-    (test : Operation → Bool) (check : Standing → Bool)
+pub any_is : (places : List (Option OperationRecord)) (operations : List Operation) (choice : Choice) (pick : OperationRecord → Bool)
+    (test : Operation → Bool) (check : OperationRecord → Bool)
     → Keeps places operations → Agrees choice pick
     → ((number : ℕ) (operation : Operation) → test operation ≡ check (kept number operation))
     → list_any (on_place (λ there. pick there && check there)) places ≡ list_any test (chosen choice 1 operations)
 any_is places operations choice pick test check K A alike = same_test _ _ forth back
   where
-    in_place : (there : Option Standing) → on_place (λ r. pick r && check r) there ≡ true
-        → (r : Standing) × (there ≡ Some r) × (pick r ≡ true) × (check r ≡ true)
+    in_place : (there : Option OperationRecord) → on_place (λ r. pick r && check r) there ≡ true
+        → (r : OperationRecord) × (there ≡ Some r) × (pick r ≡ true) × (check r ≡ true)
     in_place None is = absurd (true≢false (sym is))
     in_place (Some r) is = let both = and_parts (pick r) (check r) is in (r, refl, both.0, both.1)
 
@@ -104,8 +104,8 @@ flipped [] = refl
 flipped (operation ∷ operations) = refl
 
 -- whether some record is picked at all
-pub any_there : (places : List (Option Standing)) (operations : List Operation) (choice : Choice)
-    (test : Standing → Bool)
+pub any_there : (places : List (Option OperationRecord)) (operations : List Operation) (choice : Choice)
+    (test : OperationRecord → Bool)
     → Keeps places operations → Agrees choice test
     → has_passing test Any places ≡ not (is_empty (chosen choice 1 operations))
 any_there places operations choice test K A =
@@ -116,20 +116,20 @@ and_true : (test : Bool) → (test && true) ≡ test
 and_true true = refl
 and_true false = refl
 
-any_plain : (test : Standing → Bool) (places : List (Option Standing))
+any_plain : (test : OperationRecord → Bool) (places : List (Option OperationRecord))
     → list_any (on_place (λ there. test there && true)) places ≡ list_any (on_place test) places
 any_plain test [] = refl
 any_plain test (None ∷ places) = any_plain test places
 any_plain test (Some there ∷ places) =
     ap₂ (λ first later. first || later) (and_true (test there)) (any_plain test places)
 
-region_is : (places : List (Option Standing)) (operations : List Operation) (handle : ℕ) → Keeps places operations
+region_is : (places : List (Option OperationRecord)) (operations : List Operation) (handle : ℕ) → Keeps places operations
     → list_any (on_place (picked (pick.Region handle))) places ≡ not (is_empty (chosen (in_region handle) 1 operations))
 region_is places operations handle K =
     sym (any_plain (picked (pick.Region handle)) places)
     ∙ any_there places operations (in_region handle) (picked (pick.Region handle)) K (region_agrees handle)
 
-pub members_agree : (places : List (Option Standing)) (operations : List Operation) (handle : ℕ)
+pub members_agree : (places : List (Option OperationRecord)) (operations : List Operation) (handle : ℕ)
     → Keeps places operations → Agrees (members handle operations) (member_in places handle)
 members_agree places operations handle K = elim (cases_Bool (is_empty (chosen (in_region handle) 1 operations))) [
   | inl none ↦ record {
@@ -186,15 +186,15 @@ all_not_any (operation ∷ operations) = let later = all_not_any operations in
     elim (cases_Bool (is_complete operation)) [ inl is ↦ rw is later | inr isnt ↦ rw isnt refl ]
 
 -- the looks of a sync
-pub others_is : (places : List (Option Standing)) (operations : List Operation) (choice : Choice)
-    (test : Standing → Bool) (thread : ℕ)
+pub others_is : (places : List (Option OperationRecord)) (operations : List Operation) (choice : Choice)
+    (test : OperationRecord → Bool) (thread : ℕ)
     → Keeps places operations → Agrees choice test
     → has_passing test (Others thread) places ≡ list_any (is_other thread) (chosen choice 1 operations)
 others_is places operations choice test thread K A =
     any_is places operations choice test (is_other thread) (passes (Others thread)) K A (λ number operation. refl)
 
-pub complete_is : (places : List (Option Standing)) (operations : List Operation) (choice : Choice)
-    (test : Standing → Bool)
+pub complete_is : (places : List (Option OperationRecord)) (operations : List Operation) (choice : Choice)
+    (test : OperationRecord → Bool)
     → Keeps places operations → Agrees choice test
     → list_all is_complete (chosen choice 1 operations) ≡ not (has_passing test Unfinished places)
 complete_is places operations choice test K A =
@@ -203,14 +203,14 @@ complete_is places operations choice test K A =
     (any_is places operations choice test (λ operation. not (is_complete operation))
     (passes Unfinished) K A unfinished_is))
 
-pub unissued_is : (places : List (Option Standing)) (operations : List Operation) (choice : Choice)
-    (test : Standing → Bool)
+pub unissued_is : (places : List (Option OperationRecord)) (operations : List Operation) (choice : Choice)
+    (test : OperationRecord → Bool)
     → Keeps places operations → Agrees choice test
     → has_passing test Unissued places ≡ list_any has_next (chosen choice 1 operations)
 unissued_is places operations choice test K A =
     any_is places operations choice test has_next (passes Unissued) K A (λ number operation. refl)
 
-pub to_is : (places : List (Option Standing)) (operations : List Operation) (choice : Choice) (test : Standing → Bool)
+pub to_is : (places : List (Option OperationRecord)) (operations : List Operation) (choice : Choice) (test : OperationRecord → Bool)
     (node : ℕ)
     → Keeps places operations → Agrees choice test
     → has_passing test (UnissuedTo node) places

@@ -7,7 +7,7 @@ use Rattle.std.proofs.lemmas.Bool.{cases_Bool, and_parts, not-true}
 use Rattle.std.proofs.lemmas.Option.{same_Some}
 use Rattle.put_get.specs.declared.operation.Next.{Next}
 use Rattle.put_get.specs.declared.transfers.Transfers.{Transfers}
-use Rattle.put_get.specs.declared.table.Standing.{Standing}
+use Rattle.put_get.specs.declared.table.OperationRecord.{OperationRecord}
 use Rattle.lists.specs.Numbered.{numbered}
 use Rattle.put_get.specs.declared.table.Check.TheVariants.{Unissued}
 use Rattle.put_get.specs.Operation.{Operation, Sent, target, has_next, has_next_in, has_unissued, next_chunk, chunk_of}
@@ -54,11 +54,11 @@ stands_ready can table operations place operation S at is = elim (cases_Bool ope
   | inr stands ↦ S.keeps.all (suc place) operation at stands
 ]
 
-abbrev pub answer : Option Standing → Option Next
+abbrev pub answer : Option OperationRecord → Option Next
 answer None = None
 answer (Some best) = Some (next_of best)
 
-pub oldest_is : (can : ℕ → Bool) (table : Transfers) (operations : List Operation) (best : Option Standing)
+pub oldest_is : (can : ℕ → Bool) (table : Transfers) (operations : List Operation) (best : Option OperationRecord)
     → Stands table operations → IsLeast can table.table best → answer best ≡ next_chunk can 1 operations
 oldest_is can table operations None S least =
     sym (none_is can 1 operations
@@ -83,11 +83,11 @@ oldest_is can table operations (Some best) S least =
     ]) ∙ ap Some (ap (λ n. chunk_of n o.0) (sym a.1) ∙ ap next_of (sym o.3)))
 
 -- what was found is unissued, and stands
-pub unissued_of : (can : ℕ → Bool) (places : List (Option Standing)) (best : Standing)
+pub unissued_of : (can : ℕ → Bool) (places : List (Option OperationRecord)) (best : OperationRecord)
     → IsLeast can places (Some best) → is_unissued best ≡ true
 unissued_of can places best least = (and_parts (is_unissued best) (can (target best.transfer)) least.0.2).0
 
-pub note_of : (can : ℕ → Bool) (table : Transfers) (best : Standing) → IsLeast can table.table (Some best)
+pub note_of : (can : ℕ → Bool) (table : Transfers) (best : OperationRecord) → IsLeast can table.table (Some best)
     → CanNote table best.number
 note_of can table best least = (least.0.0, (best, least.0.1, refl, unissued_of can table.table best least))
 
@@ -105,8 +105,8 @@ pub idle_is : (table : Transfers) (operations : List Operation) → Stands table
     → list_any (on_place is_unissued) table.table ≡ list_any has_next operations
 idle_is table operations S = same_test _ _ forth back
   where
-    in_place : (there : Option Standing) → on_place is_unissued there ≡ true
-        → (r : Standing) × (there ≡ Some r) × (is_unissued r ≡ true)
+    in_place : (there : Option OperationRecord) → on_place is_unissued there ≡ true
+        → (r : OperationRecord) × (there ≡ Some r) × (is_unissued r ≡ true)
     in_place None is = absurd (true≢false (sym is))
     in_place (Some r) is = (r, refl, is)
 

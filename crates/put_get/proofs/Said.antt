@@ -1,20 +1,20 @@
 -- What an entry says stays so, as records are written elsewhere or go.
-use Rattle.std.proofs.Common.{◌≡◌, inl, inr, ℕ, ◌<◌, ◌&&◌, Bool, false, nat_lt, List, [], ◌∷◌, Option, None, Some, set}
+use Rattle.std.proofs.Common.{◌≡◌, inl, inr, ℕ, Bool, false, List, [], ◌∷◌, Option, None, Some, set}
 use Rattle.std.proofs.Common.{refl, sym, ap, ◌∙◌, subst}
 use Rattle.std.specs.List.{slice_get}
-use Rattle.std.proofs.lemmas.Bool.{cases_Bool, cases_eq, and_parts, ltb-true}
+use Rattle.std.proofs.lemmas.Bool.{cases_eq}
 use Rattle.std.proofs.lemmas.Option.{same_Some, slice_get_within}
 use Rattle.lists.proofs.Indexes.{get-set_same, get-set_other}
-use Rattle.put_get.specs.declared.table.Standing.{Standing}
+use Rattle.put_get.specs.declared.table.OperationRecord.{OperationRecord}
 use Rattle.put_get.specs.declared.slots.Waiting.{Waiting}
 use Rattle.put_get.specs.declared.transfers.Transfers.{Transfers}
 use Rattle.put_get.specs.Operation.{Operation}
-use Rattle.put_get.specs.SlotsState.{SlotsState, entry_at}
+use Rattle.put_get.specs.SlotsState.{entry_at}
 use Rattle.put_get.specs.Outs.{Out, outs}
 use Rattle.put_get.specs.Table.{AreDropped}
 use Rattle.put_get.specs.Stands.{Says, Stands}
 
-pub says_blank : (places : List (Option Standing)) (place : ℕ) (new : Standing) (entry : Option Waiting)
+pub says_blank : (places : List (Option OperationRecord)) (place : ℕ) (new : OperationRecord) (entry : Option Waiting)
     (out : List Out)
     → slice_get places place ≡ Some None → Says places entry out → Says (set places place (Some new)) entry out
 says_blank places place new None out blank says = says
@@ -25,11 +25,11 @@ says_blank places place new (Some waiting) out blank says = (
   says.2,
 )
   where
-    apart : (there : Standing) → ◌≡◌ {A = Option (Option Standing)} (Some None) (Some (Some there)) → ⊥
+    apart : (there : OperationRecord) → ◌≡◌ {A = Option (Option OperationRecord)} (Some None) (Some (Some there)) → ⊥
     apart there is = cc
 
 -- a record with the same number in the place of another
-pub says_rewritten : (places : List (Option Standing)) (place : ℕ) (there new : Standing) (entry : Option Waiting)
+pub says_rewritten : (places : List (Option OperationRecord)) (place : ℕ) (there new : OperationRecord) (entry : Option Waiting)
     (out : List Out)
     → slice_get places place ≡ Some (Some there) → there.number ≡ new.number → Says places entry out
     → Says (set places place (Some new)) entry out
@@ -43,15 +43,15 @@ says_rewritten places place there new (Some waiting) out at number says = elim (
         says.2 ∙ ap (λ n. record {
           operation = n;
           request = waiting.request;
-        } ∷ []) (ap (λ (z : Standing). z.number) is ∙ number),
+        } ∷ []) (ap (λ (z : OperationRecord). z.number) is ∙ number),
       ))
   | inr apart ↦ (says.0, get-set_other places place (Some new) waiting.place apart ∙ says.1, says.2)
 ]
 
 -- records that go, where none of which a chunk is out does
-pub says_dropped : (old new : List (Option Standing)) (test : Standing → Bool) (entry : Option Waiting) (out : List Out)
+pub says_dropped : (old new : List (Option OperationRecord)) (test : OperationRecord → Bool) (entry : Option Waiting) (out : List Out)
     → AreDropped test old new
-    → ((place : ℕ) (there : Standing) (request : ℕ) → slice_get old place ≡ Some (Some there) → out ≡ record {
+    → ((place : ℕ) (there : OperationRecord) (request : ℕ) → slice_get old place ≡ Some (Some there) → out ≡ record {
       operation = there.number;
       request = request;
     } ∷ [] → test there ≡ false)

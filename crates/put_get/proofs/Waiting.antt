@@ -6,7 +6,7 @@ use Rattle.std.proofs.Math.Dec.{eqb-suc-zero}
 use Rattle.std.proofs.lemmas.Bool.{cases_Bool, cases_eq, cases_lt, and_parts}
 use Rattle.std.proofs.lemmas.Option.{same_Some, slice_get_within}
 use Rattle.lists.proofs.Indexes.{get-set_same, get-set_other}
-use Rattle.put_get.specs.declared.table.Standing.{Standing}
+use Rattle.put_get.specs.declared.table.OperationRecord.{OperationRecord}
 use Rattle.put_get.specs.declared.table.Check.TheVariants.{Unissued}
 use Rattle.put_get.specs.declared.queue.Queued.{Queued}
 use Rattle.put_get.specs.Operation.{target}
@@ -20,11 +20,11 @@ never : (number : ℕ) → ◌≡◌ {A = Option ℕ} None (Some number) → ⊥
 never number is = cc
 
 -- the record that it waits for
-pub waiting_there : (places : List (Option Standing)) (place number : ℕ) → waits_at places place ≡ Some number
+pub waiting_there : (places : List (Option OperationRecord)) (place number : ℕ) → waits_at places place ≡ Some number
     → IsPlaceOf places number Unissued place
 waiting_there places place number waits = by (slice_get places place) refl waits
   where
-    by : (found : Option (Option Standing)) → slice_get places place ≡ found → waits_by (flat found) ≡ Some number
+    by : (found : Option (Option OperationRecord)) → slice_get places place ≡ found → waits_by (flat found) ≡ Some number
         → IsPlaceOf places number Unissued place
     by None at is = absurd (never number is)
     by (Some None) at is = absurd (never number is)
@@ -33,16 +33,16 @@ waiting_there places place number waits = by (slice_get places place) refl waits
       | inr issued ↦ absurd (never number (rw issued at is))
     ]
 
-pub waits_there : (places : List (Option Standing)) (place : ℕ) (there : Standing)
+pub waits_there : (places : List (Option OperationRecord)) (place : ℕ) (there : OperationRecord)
     → slice_get places place ≡ Some (Some there) → is_unissued there ≡ true → waits_at places place ≡ Some there.number
 waits_there places place there at unissued = ap (λ found. waits_by (flat found)) at ∙ rw unissued refl
 
 -- after a write
-pub waits_written : (places : List (Option Standing)) (place : ℕ) (there : Option Standing) → place < length places
+pub waits_written : (places : List (Option OperationRecord)) (place : ℕ) (there : Option OperationRecord) → place < length places
     → waits_at (set places place there) place ≡ waits_by there
 waits_written places place there less = ap (λ found. waits_by (flat found)) (get-set_same places place there less)
 
-pub waits_elsewhere : (places : List (Option Standing)) (place : ℕ) (there : Option Standing) (other : ℕ)
+pub waits_elsewhere : (places : List (Option OperationRecord)) (place : ℕ) (there : Option OperationRecord) (other : ℕ)
     → (other ≡ place → ⊥) → waits_at (set places place there) other ≡ waits_at places other
 waits_elsewhere places place there other apart =
     ap (λ found. waits_by (flat found)) (get-set_other places place there other apart)
@@ -50,11 +50,11 @@ waits_elsewhere places place there other apart =
 -- ---- the queue of the places
 
 -- the queue is empty exactly where no record has an unissued chunk
-pub queue_idle : (places : List (Option Standing)) (queue : List Queued) → Queues (waits_at places) queue
+pub queue_idle : (places : List (Option OperationRecord)) (queue : List Queued) → Queues (waits_at places) queue
     → (length queue == 0) ≡ not (list_any (on_place is_unissued) places)
 queue_idle places [] Q = sym (ap not (none_picked (on_place is_unissued) places issued))
   where
-    issued : (place : ℕ) (there : Option Standing) → slice_get places place ≡ Some there
+    issued : (place : ℕ) (there : Option OperationRecord) → slice_get places place ≡ Some there
         → on_place is_unissued there ≡ false
     issued place None at = refl
     issued place (Some there) at = elim (cases_Bool (is_unissued there)) [
@@ -67,7 +67,7 @@ queue_idle places (entry ∷ queue) Q =
     ∙ sym (ap not (any_from (on_place is_unissued) places entry.place (Some there.0) there.1 there.3))
 
 -- what was found in the queue by its number
-pub place_found : (places : List (Option Standing)) (queue : List Queued) (number : ℕ) (place : Option ℕ)
+pub place_found : (places : List (Option OperationRecord)) (queue : List Queued) (number : ℕ) (place : Option ℕ)
     → Queues (waits_at places) queue
     → IfSome place (λ p. (index : ℕ) × (slice_get queue index ≡ Some (record { number = number; place = p })))
     → IfSome place (λ p. IsPlaceOf places number Unissued p)
@@ -75,13 +75,13 @@ place_found places queue number None Q found = found
 place_found places queue number (Some place) Q found =
     waiting_there places place number (Q.each found.0 (record { number = number; place = place }) found.1)
 
-pub place_within : (places : List (Option Standing)) (number : ℕ) (place : Option ℕ) → length places ≡ 256
+pub place_within : (places : List (Option OperationRecord)) (number : ℕ) (place : Option ℕ) → length places ≡ 256
     → IfSome place (λ p. IsPlaceOf places number Unissued p) → IfSome place (λ p. p < 256)
 place_within places number None many found = found
 place_within places number (Some place) many found =
     let within = slice_get_within places place (Some found.0) found.1 in omega (arith, within, many)
 
-pub place_missed : (places : List (Option Standing)) (queue : List Queued) (number : ℕ) (place : Option ℕ)
+pub place_missed : (places : List (Option OperationRecord)) (queue : List Queued) (number : ℕ) (place : Option ℕ)
     → Queues (waits_at places) queue
     → IfNone place ((index : ℕ) (entry : Queued) → slice_get queue index ≡ Some entry → entry.number ≡ number → ⊥)
     → IfNone place ((p : ℕ) → IsPlaceOf places number Unissued p → ⊥)
@@ -93,25 +93,25 @@ place_missed places queue number None Q none = λ place it.
 -- ---- the first record that is ready
 
 -- no record of the places below an index of the queue is ready
-abbrev pub NoneReady : (ℕ → Bool) → List (Option Standing) → List Queued → (end : ℕ) → Type 0
+abbrev pub NoneReady : (ℕ → Bool) → List (Option OperationRecord) → List Queued → (end : ℕ) → Type 0
 NoneReady can places queue end =
-    (index : ℕ) (entry : Queued) (there : Standing) → index < end → slice_get queue index ≡ Some entry
+    (index : ℕ) (entry : Queued) (there : OperationRecord) → index < end → slice_get queue index ≡ Some entry
     → slice_get places entry.place ≡ Some (Some there) → is_ready can there ≡ false
 
-pub ready_some : (can : ℕ → Bool) (place : Option Standing) (best : Standing) → ready can place ≡ Some best
+pub ready_some : (can : ℕ → Bool) (place : Option OperationRecord) (best : OperationRecord) → ready can place ≡ Some best
     → (place ≡ Some best) × (is_ready can best ≡ true)
 ready_some can None best is = absurd (cc)
 ready_some can (Some there) best is = elim (cases_Bool (is_ready can there)) [
   | inl holds ↦
       (let same : there ≡ best = same_Some there best (rw holds at is) in
-      (ap (λ (z : Standing). Some z) same, ap (is_ready can) (sym same) ∙ holds))
+      (ap (λ (z : OperationRecord). Some z) same, ap (is_ready can) (sym same) ∙ holds))
   | inr fails ↦ absurd (none (rw fails at is))
 ]
   where
-    none : ◌≡◌ {A = Option Standing} None (Some best) → ⊥
+    none : ◌≡◌ {A = Option OperationRecord} None (Some best) → ⊥
     none same = cc
 
-ready_none : (can : ℕ → Bool) (place : Option Standing) (there : Standing) → ready can place ≡ None
+ready_none : (can : ℕ → Bool) (place : Option OperationRecord) (there : OperationRecord) → ready can place ≡ None
     → place ≡ Some there → is_ready can there ≡ false
 ready_none can None there is here = absurd (cc)
 ready_none can (Some other) there is here = elim (cases_Bool (is_ready can other)) [
@@ -119,14 +119,14 @@ ready_none can (Some other) there is here = elim (cases_Bool (is_ready can other
   | inr fails ↦ ap (is_ready can) (sym (same_Some other there here)) ∙ fails
 ]
   where
-    none : ◌≡◌ {A = Option Standing} None (Some other) → ⊥
+    none : ◌≡◌ {A = Option OperationRecord} None (Some other) → ⊥
     none same = cc
 
 -- one more place isn't ready
-pub ready_more : (can : ℕ → Bool) (places : List (Option Standing)) (queue : List Queued) (end : ℕ) (entry : Queued)
-    (place : Option Standing)
+pub ready_more : (can : ℕ → Bool) (places : List (Option OperationRecord)) (queue : List Queued) (end : ℕ) (entry : Queued)
+    (place : Option OperationRecord)
     → slice_get queue end ≡ Some entry → slice_get places entry.place ≡ Some place → ready can place ≡ None
-    → NoneReady can places queue end → (index : ℕ) (other : Queued) (there : Standing) → index < end + 1
+    → NoneReady can places queue end → (index : ℕ) (other : Queued) (there : OperationRecord) → index < end + 1
     → slice_get queue index ≡ Some other → slice_get places other.place ≡ Some (Some there)
     → is_ready can there ≡ false
 ready_more can places queue end entry place at here idle known index other there less at_other here_other =
@@ -139,7 +139,7 @@ ready_more can places queue end entry place at here idle known index other there
       | inr apart ↦ known index other there (omega (arith, less, apart)) at_other here_other
     ]
 
-pub least_none : (can : ℕ → Bool) (places : List (Option Standing)) (queue : List Queued) (end : ℕ)
+pub least_none : (can : ℕ → Bool) (places : List (Option OperationRecord)) (queue : List Queued) (end : ℕ)
     → Queues (waits_at places) queue → length queue ≤ end → NoneReady can places queue end → IsLeast can places None
 least_none can places queue end Q past none = λ place there at. elim (cases_Bool (is_unissued there)) [
   | inr issued ↦ rw issued refl
@@ -151,8 +151,8 @@ least_none can places queue end Q past none = λ place there at. elim (cases_Boo
 ]
 
 -- the first that is ready began first of all that are
-pub least_some : (can : ℕ → Bool) (places : List (Option Standing)) (queue : List Queued) (end : ℕ) (entry : Queued)
-    (best : Standing)
+pub least_some : (can : ℕ → Bool) (places : List (Option OperationRecord)) (queue : List Queued) (end : ℕ) (entry : Queued)
+    (best : OperationRecord)
     → Queues (waits_at places) queue → IsQueue queue → slice_get queue end ≡ Some entry
     → slice_get places entry.place ≡ Some (Some best) → is_ready can best ≡ true → NoneReady can places queue end
     → IsLeast can places (Some best)
@@ -162,7 +162,7 @@ least_some can places queue end entry best Q order at here is none = ((entry.pla
     number = same_Some entry.number best.number (sym (Q.each end entry at)
         ∙ waits_there places entry.place best here (and_parts (is_unissued best) (can (target best.transfer)) is).0)
 
-    least : (place : ℕ) (there : Standing) → slice_get places place ≡ Some (Some there) → is_ready can there ≡ true
+    least : (place : ℕ) (there : OperationRecord) → slice_get places place ≡ Some (Some there) → is_ready can there ≡ true
         → best.number ≤ there.number
     least place there stands ready_there =
         let unissued = (and_parts (is_unissued there) (can (target there.transfer)) ready_there).0 in

@@ -3,7 +3,7 @@ use Rattle.std.proofs.Common.{◌≡◌, inl, inr, ℕ, ◌+◌, ◌==◌, true,
 use Rattle.std.proofs.Common.{Option, Some, refl, sym, ap, ap₂, ◌∙◌}
 use Rattle.std.specs.List.{slice_get, list_any, list_all}
 use Rattle.std.proofs.lemmas.Bool.{cases_Bool, and_parts, not-true}
-use Rattle.put_get.specs.declared.table.Standing.{Standing}
+use Rattle.put_get.specs.declared.table.OperationRecord.{OperationRecord}
 use Rattle.put_get.specs.declared.operation.Handle.{Handle}
 use Rattle.put_get.specs.Operation.{Operation, is_complete}
 use Rattle.put_get.specs.Syncs.{chosen, members, is_whole, whole_of}
@@ -11,20 +11,20 @@ use Rattle.put_get.specs.Stands.{kept, Keeps, Agrees, member_in, is_whole_in, wh
 use Rattle.put_get.proofs.Members.{members_agree, complete_is, all_not_any, chosen_at}
 use Rattle.put_get.proofs.Gone.{chosen_complete}
 
-pub whole_is : (places : List (Option Standing)) (operations : List Operation) (handle : Handle)
+pub whole_is : (places : List (Option OperationRecord)) (operations : List Operation) (handle : Handle)
     → Keeps places operations → is_whole operations handle ≡ is_whole_in places handle
 whole_is places operations handle K =
     ap (λ all. not (handle.serial == 0) && all)
     (complete_is places operations (members handle.serial operations) (member_in places handle.serial) K
     (members_agree places operations handle.serial K))
 
-pub any_whole_is : (places : List (Option Standing)) (operations : List Operation) (handles : List Handle)
+pub any_whole_is : (places : List (Option OperationRecord)) (operations : List Operation) (handles : List Handle)
     → Keeps places operations → list_any (is_whole operations) handles ≡ list_any (is_whole_in places) handles
 any_whole_is places operations [] K = refl
 any_whole_is places operations (handle ∷ handles) K =
     ap₂ (λ here later. here || later) (whole_is places operations handle K) (any_whole_is places operations handles K)
 
-pub whole_agrees : (places : List (Option Standing)) (operations : List Operation) (handles : List Handle)
+pub whole_agrees : (places : List (Option OperationRecord)) (operations : List Operation) (handles : List Handle)
     → Keeps places operations → Agrees (whole_of handles operations) (whole_in places handles)
 whole_agrees places operations handles K = record { chosen = chosen_so handles; open_only = open_so handles }
   where

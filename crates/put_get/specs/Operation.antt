@@ -90,13 +90,13 @@ region_of number (InRegion None) = Some number
 region_of number (InRegion (Some name)) = Some name
 
 -- how many aren't yet synchronised
-abbrev pub standing : List Operation → ℕ
-standing [] = 0
-standing (operation ∷ later) = if operation.synced then standing later else suc (standing later)
+abbrev pub unsynced : List Operation → ℕ
+unsynced [] = 0
+unsynced (operation ∷ later) = if operation.synced then unsynced later else suc (unsynced later)
 
 -- 256 records stand, or number 2^64 - 1 was given
 abbrev pub is_full : List Operation → Bool
-is_full operations = nat_le 256 (standing operations) || nat_le 18446744073709551615 (length operations)
+is_full operations = nat_le 256 (unsynced operations) || nat_le 18446744073709551615 (length operations)
 
 abbrev pub begin_answer : List Operation → Result Handle TooMany
 begin_answer operations =

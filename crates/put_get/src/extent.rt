@@ -1,7 +1,7 @@
 //! How far the places are taken, so that no search goes over all of them.
 
 ghost use Rattle.std.specs.Prelude.{◌≡◌, ◌<◌, List, Option, is_some, slice_set};
-ghost use Rattle.put_get.specs.declared.table.Standing.{Standing};
+ghost use Rattle.put_get.specs.declared.table.OperationRecord.{OperationRecord};
 ghost use Rattle.put_get.specs.Extent.{IsExtent};
 
 /// How far the places are taken.
@@ -17,7 +17,7 @@ impl Extent {
     /// The extent once a place was taken, or left blank.
     pub fn after_write(self, place: usize, is_taken: bool) -> Extent
         requires { place < 256 }
-        ensures { (places : List (Option Standing)) (there : Option Standing) → IsExtent self places
+        ensures { (places : List (Option OperationRecord)) (there : Option OperationRecord) → IsExtent self places
             → is_taken ≡ is_some there → IsExtent result (slice_set places place there) }
     {
         if !is_taken {

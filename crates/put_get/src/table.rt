@@ -10,13 +10,12 @@ ghost use Rattle.std.specs.List.{list_any};
 use crate::extent::Extent;
 use crate::operation::{ImplicitKinds, Transfer};
 use crate::queue::Queue;
-use slab::Slab;
 use std::alloc::{AllocError, Global};
 use std::marker::Model;
 
 /// The record of an operation that isn't yet synchronised.
 #[derive(Clone, Copy)]
-pub(crate) struct Standing {
+pub(crate) struct OperationRecord {
     pub number: u64,
     pub thread: u16,
     pub transfer: Transfer,
@@ -57,7 +56,7 @@ fn is_kind(which: ImplicitKinds, transfer: Transfer) -> bool
     }
 }
 
-impl Standing {
+impl OperationRecord {
     /// Whether a chunk of it is unissued.
     pub fn is_unissued(&self) -> bool
         ensures { result ≡ is_unissued self.now }
@@ -93,27 +92,27 @@ impl Standing {
 }
 
 /// Whether a record that is meant stands there.
-fn is_picked(place: Option<Standing>, pick: Pick) -> bool
+fn is_picked(place: Option<OperationRecord>, pick: Pick) -> bool
     ensures { result ≡ on_place (picked pick) place }
 {
     match place {
-        Some(standing) => standing.is_picked(pick),
+        Some(operation) => operation.is_picked(pick),
         None => false,
     }
 }
 
 /// Whether a record stands there, is marked, and passes.
-fn picks(place: Option<Standing>, mark: bool, check: Check) -> bool
+fn picks(place: Option<OperationRecord>, mark: bool, check: Check) -> bool
     ensures { result ≡ picks mark check place }
 {
     match place {
-        Some(standing) => mark && standing.passes(check),
+        Some(operation) => mark && operation.passes(check),
         None => false,
     }
 }
 
 /// What stays there where what is marked goes.
-fn unless_marked(place: Option<Standing>, mark: bool) -> Option<Standing>
+fn unless_marked(place: Option<OperationRecord>, mark: bool) -> Option<OperationRecord>
     ensures { result ≡ unless_marked mark place }
 {
     if mark { None } else { place }
@@ -148,62 +147,59 @@ pub(crate) fn either(mark: bool, other: bool) -> bool
 }
 
 /// The number by which a place waits in the queue: its operation's, if a record with an unissued chunk stands there.
-fn waits_by(place: Option<Standing>) -> Option<u64>
+fn waits_by(place: Option<OperationRecord>) -> Option<u64>
     ensures { result ≡ waits_by place }
 {
     match place {
-        Some(standing) if standing.is_unissued() => Some(standing.number),
+        Some(operation) if operation.is_unissued() => Some(operation.number),
         _ => None,
     }
 }
 
 /// The record there, if a chunk of it may be issued; `can` has a flag for each node.
-fn ready(place: Option<Standing>, can: &[bool]) -> Option<Standing>
+fn ready(place: Option<OperationRecord>, can: &[bool]) -> Option<OperationRecord>
     ensures { result ≡ ready (flag_at can.now) place }
 {
-    if let Some(standing) = place {
-        if standing.is_unissued() && flag_at(can, standing.transfer.target() as usize) {
-            return Some(standing);
+    if let Some(operation) = place {
+        if operation.is_unissued() && flag_at(can, operation.transfer.target() as usize) {
+            return Some(operation);
         }
     }
     None
 }
 
 /// Whether a record stands there that is meant, and passes.
-fn is_match(place: Option<Standing>, pick: Pick, check: Check) -> bool
+fn is_match(place: Option<OperationRecord>, pick: Pick, check: Check) -> bool
     ensures { result ≡ on_place (λ there. picked pick there && passes check there) place }
 {
     match place {
-        Some(standing) => standing.is_picked(pick) && standing.passes(check),
+        Some(operation) => operation.is_picked(pick) && operation.passes(check),
         None => false,
     }
 }
 
-/// 256 places, whose records a slab keeps. Those of the records with an unissued chunk wait in the queue. The extent
-/// bounds each search to the places that are taken.
+/// 256 places. Those of the records with an unissued chunk wait in the queue. The extent bounds each search to the
+/// places that are taken.
 #[derive(Drop)]
 pub(crate) struct Table {
-    keys: Vec<usize>,
-    records: Slab<Option<Standing>>,
+    places: Vec<Option<OperationRecord>>,
     queue: Queue,
     extent: Extent,
 }
 
 impl Model for Table {
     ghost use Rattle.std.specs.Prelude.{List, Option, ◌≡◌, length};
-    ghost use Rattle.put_get.specs.Table.{places_of, IsKeyed, waits_at};
+    ghost use Rattle.put_get.specs.Table.{waits_at};
     ghost use Rattle.put_get.specs.Queue.{Queues};
     ghost use Rattle.put_get.specs.Extent.{IsExtent};
-    ghost use Rattle.put_get.specs.declared.table.Standing.{Standing};
+    ghost use Rattle.put_get.specs.declared.table.OperationRecord.{OperationRecord};
 
-    ghost Value = { List (Option Standing) };
+    ghost Value = { List (Option OperationRecord) };
 
-    ghost view = { λ t. places_of t.keys.items t.records };
+    ghost view = { λ t. t.places.items };
 
-    ghost invariant = { λ t.
-        (length t.keys.items ≡ 256) × IsKeyed t.keys.items t.records
-        × Queues (waits_at (places_of t.keys.items t.records)) t.queue
-        × IsExtent t.extent (places_of t.keys.items t.records) };
+    ghost invariant = { λ t. (length t.places.items ≡ 256)
+        × Queues (waits_at t.places.items) t.queue × IsExtent t.extent t.places.items };
 }
 
 impl Table {
@@ -211,37 +207,30 @@ impl Table {
     pub fn new(alloc: Global) -> Result<Table, AllocError>
         ensures { IfOk result (λ table. table ≡ replicate 256 None) }
     {
-        let mut records = Slab::with_capacity(alloc, 256)?;
-        let mut keys = Vec::with_capacity(alloc, 256)?;
-        for _ in 0usize..256 {
-            keys.push(records.insert_reserved(None))?;
-        }
         Ok(Table {
-            keys,
-            records,
+            places: vec![in alloc; None; 256]?,
             queue: Queue::new(alloc)?,
             extent: Extent { low: 0, end: 0 },
         })
     }
 
     /// What stands in a place.
-    pub fn at(&self, place: usize) -> Option<Standing>
+    pub fn at(&self, place: usize) -> Option<OperationRecord>
         requires { place < 256 }
         ensures { slice_get self.now place ≡ Some result }
     {
-        self.records[self.keys[place]]
+        self.places[place]
     }
 
     /// Puts this into a place.
-    pub fn set(&mut self, place: usize, standing: Option<Standing>)
+    pub fn set(&mut self, place: usize, operation: Option<OperationRecord>)
         requires { place < 256 }
-        ensures { self.new ≡ slice_set self.old place standing }
+        ensures { self.new ≡ slice_set self.old place operation }
     {
-        let key = self.keys[place];
         self.queue
-            .change(place, waits_by(self.records[key]), waits_by(standing));
-        self.records[key] = standing;
-        self.extent = self.extent.after_write(place, standing.is_some());
+            .change(place, waits_by(self.places[place]), waits_by(operation));
+        self.places[place] = operation;
+        self.extent = self.extent.after_write(place, operation.is_some());
     }
 
     /// Whether no record has an unissued chunk.
@@ -254,7 +243,7 @@ impl Table {
     /// The oldest record of which a chunk may be issued; `can` has a flag for each node. It looks only at the records
     /// with an unissued chunk, from the oldest one on, and at none behind the one that it finds; at none at all where no
     /// flag is set.
-    pub fn oldest(&self, can: &[bool]) -> Option<Standing>
+    pub fn oldest(&self, can: &[bool]) -> Option<OperationRecord>
         ensures { IsLeast (flag_at can.now) self.now result }
     {
         if !has_flag(can) {
@@ -262,8 +251,8 @@ impl Table {
         }
         for index in 0..self.queue.len() {
             let place = self.queue.at(index).place;
-            if let Some(standing) = ready(self.at(place), can) {
-                return Some(standing);
+            if let Some(operation) = ready(self.at(place), can) {
+                return Some(operation);
             }
         }
         None
@@ -313,7 +302,7 @@ impl Table {
 
     /// Marks the places of the records that are meant.
     pub fn mark(&self, pick: Pick, marks: &mut [bool; 256])
-        ensures { (test : Standing → Bool) → AreMarks test self.now marks.old
+        ensures { (test : OperationRecord → Bool) → AreMarks test self.now marks.old
             → AreMarks (also test (picked pick)) self.now marks.new }
     {
         for place in 0..self.extent.end {
@@ -323,7 +312,7 @@ impl Table {
 
     /// Whether some record that is marked passes.
     pub fn has(&self, marks: &[bool; 256], check: Check) -> bool
-        ensures { (test : Standing → Bool) → AreMarks test self.now marks.now
+        ensures { (test : OperationRecord → Bool) → AreMarks test self.now marks.now
             → result ≡ has_passing test check self.now }
     {
         for place in 0..self.extent.end {
@@ -347,7 +336,7 @@ impl Table {
     /// One more than the greatest place that is taken, or 0.
     fn taken_end(&self) -> usize
         ensures within { result ≤ 256 }
-        ensures end { (place : ℕ) (there : Standing)
+        ensures end { (place : ℕ) (there : OperationRecord)
             → slice_get self.now place ≡ Some (Some there) → place < result }
     {
         for place in (0..self.extent.end).rev() {
@@ -367,7 +356,7 @@ impl Table {
 
     /// The records that are marked go.
     pub fn drop_marked(&mut self, marks: &[bool; 256])
-        ensures { (test : Standing → Bool) → AreMarks test self.old marks.now
+        ensures { (test : OperationRecord → Bool) → AreMarks test self.old marks.now
             → AreDropped test self.old self.new }
     {
         for place in 0..self.extent.end {

@@ -2,7 +2,7 @@
 
 ghost use Rattle.std.specs.Prelude.{◌≡◌, ◌<◌, ◌≤◌, length, ℕ, List, [], Option, None, Some, Bool, true, false, not};
 ghost use Rattle.std.specs.Prelude.{IfOk, IfSome, IfNone};
-ghost use Rattle.put_get.specs.declared.table.Standing.{Standing};
+ghost use Rattle.put_get.specs.declared.table.OperationRecord.{OperationRecord};
 ghost use Rattle.std.specs.List.{list_any, list_all};
 ghost use Rattle.put_get.specs.declared.operation.Handle.{Handle};
 ghost use Rattle.std.specs.Prelude.{◌==◌};
@@ -19,7 +19,7 @@ ghost use Rattle.put_get.specs.declared.operation.TheConstants.{MAX_NODES};
 
 use crate::operation::{Handle, ImplicitKinds, MAX_CHUNK, Mode, Next, Synced, TooMany, Transfer};
 use crate::slots::{Slots, Waiting};
-use crate::table::{Check, Pick, Standing, Table, either, flag_at};
+use crate::table::{Check, OperationRecord, Pick, Table, either, flag_at};
 use std::alloc::{AllocError, Global};
 
 /// The operations of a node: a record for each one that isn't yet synchronised, at most 256.
@@ -31,15 +31,15 @@ pub struct Transfers {
 }
 
 /// The next chunk of an operation that has one.
-fn next_of(standing: Standing) -> Next
-    requires { is_unissued standing ≡ true }
-    ensures { result ≡ next_of standing }
+fn next_of(operation: OperationRecord) -> Next
+    requires { is_unissued operation ≡ true }
+    ensures { result ≡ next_of operation }
 {
-    let start = standing.issued * MAX_CHUNK;
-    let len = (standing.transfer.size() - start).min(MAX_CHUNK);
+    let start = operation.issued * MAX_CHUNK;
+    let len = (operation.transfer.size() - start).min(MAX_CHUNK);
     Next {
-        number: standing.number,
-        transfer: standing.transfer,
+        number: operation.number,
+        transfer: operation.transfer,
         start,
         len,
     }
@@ -100,7 +100,7 @@ impl Transfers {
         self.given = number;
         self.table.set(
             place,
-            Some(Standing {
+            Some(OperationRecord {
                 number,
                 thread,
                 transfer,
@@ -122,7 +122,7 @@ impl Transfers {
         ensures can_note { IfSome result (λ next. CanNote self.now next.number) }
     {
         match self.table.oldest(can) {
-            Some(standing) => Some(next_of(standing)),
+            Some(operation) => Some(next_of(operation)),
             None => None,
         }
     }
@@ -152,11 +152,11 @@ impl Transfers {
         let Some(place) = self.table.place_of(next.number) else {
             unreachable!();
         };
-        let Some(mut standing) = self.table.at(place) else {
+        let Some(mut operation) = self.table.at(place) else {
             unreachable!();
         };
-        standing.issued += 1;
-        self.table.set(place, Some(standing));
+        operation.issued += 1;
+        self.table.set(place, Some(operation));
         let waiting = Waiting { request, place };
         self.slots.set(next.transfer.target(), slot, Some(waiting));
     }
@@ -177,11 +177,11 @@ impl Transfers {
         if waiting.request != number {
             return false;
         }
-        let Some(mut standing) = self.table.at(waiting.place) else {
+        let Some(mut operation) = self.table.at(waiting.place) else {
             unreachable!();
         };
-        standing.returned += 1;
-        self.table.set(waiting.place, Some(standing));
+        operation.returned += 1;
+        self.table.set(waiting.place, Some(operation));
         self.slots.set(to, slot, None);
         true
     }
@@ -190,7 +190,7 @@ impl Transfers {
 impl Transfers {
     /// Marks the members of a handle other than the invalid one.
     fn mark_members(&self, handle: u64, marks: &mut [bool; 256])
-        ensures { (test : Standing → Bool) → AreMarks test self.now.table marks.old
+        ensures { (test : OperationRecord → Bool) → AreMarks test self.now.table marks.old
             → AreMarks (also test (member_in self.now.table handle)) self.now.table marks.new }
     {
         if self.table.any(Pick::Region(handle)) {
@@ -231,7 +231,7 @@ impl Transfers {
     /// The smallest node that is exhausted and has an unissued chunk of what is marked.
     fn first_exhausted(&self, exhausted: &[bool], marks: &[bool; 256]) -> Option<u16>
         requires { length exhausted.now ≤ MAX_NODES }
-        ensures { (test : Standing → Bool) → AreMarks test self.now.table marks.now
+        ensures { (test : OperationRecord → Bool) → AreMarks test self.now.table marks.now
             → IsFirstExhausted (flag_at exhausted.now) test self.now.table result }
     {
         for node in 0..exhausted.len() {
@@ -246,11 +246,11 @@ impl Transfers {
     fn sync_marked(&mut self, exhausted: &[bool], marks: &[bool; 256]) -> Synced
         requires { length exhausted.now ≤ MAX_NODES }
         ensures answer { ForItsOperations self.old (λ operations.
-            (choice : Choice) (test : Standing → Bool)
+            (choice : Choice) (test : OperationRecord → Bool)
             → AreMarks test self.old.table marks.now → Agrees choice test
             → result ≡ sync_answer (flag_at exhausted.now) (chosen choice 1 operations)) }
         ensures stands { ForItsOperations self.old (λ operations.
-            (choice : Choice) (test : Standing → Bool)
+            (choice : Choice) (test : OperationRecord → Bool)
             → AreMarks test self.old.table marks.now → Agrees choice test
             → Stands self.new (left_by result choice operations)) }
         ensures room { room_of self.new ≡ room_of self.old }
@@ -308,7 +308,7 @@ impl Transfers {
     /// another thread's has.
     fn fault(&self, thread: u16, marks: &[bool; 256]) -> Option<Synced>
         ensures { ForItsOperations self.now (λ operations.
-            (choice : Choice) (test : Standing → Bool)
+            (choice : Choice) (test : OperationRecord → Bool)
             → AreMarks test self.now.table marks.now → Agrees choice test
             → result ≡ fault_here thread (chosen choice 1 operations)) }
     {
@@ -393,7 +393,7 @@ impl Transfers {
 
     /// Marks the members of a handle; the invalid one has none.
     fn mark_handle(&self, handle: Handle, marks: &mut [bool; 256])
-        ensures { (test : Standing → Bool) → AreMarks test self.now.table marks.old
+        ensures { (test : OperationRecord → Bool) → AreMarks test self.now.table marks.old
             → AreMarks (also test (member_of self.now.table handle)) self.now.table marks.new }
     {
         if handle.serial != 0 {
@@ -403,7 +403,7 @@ impl Transfers {
 
     /// Marks the members of these handles.
     fn mark_all(&self, handles: &[Handle], marks: &mut [bool; 256])
-        ensures { (test : Standing → Bool) → AreMarks test self.now.table marks.old
+        ensures { (test : OperationRecord → Bool) → AreMarks test self.now.table marks.old
             → AreMarks (also test (member_of_any self.now.table handles.now)) self.now.table
             marks.new }
     {
@@ -481,7 +481,7 @@ impl Transfers {
 
     /// Marks the members of a handle that is complete.
     fn mark_if_whole(&self, handle: Handle, marks: &mut [bool; 256])
-        ensures { (test : Standing → Bool) → AreMarks test self.now.table marks.old
+        ensures { (test : OperationRecord → Bool) → AreMarks test self.now.table marks.old
             → AreMarks (also test (whole_here self.now.table handle)) self.now.table marks.new }
     {
         if self.is_whole(handle) {
@@ -491,7 +491,7 @@ impl Transfers {
 
     /// Marks the members of those of these handles that are complete.
     fn mark_whole(&self, handles: &[Handle], marks: &mut [bool; 256])
-        ensures { (test : Standing → Bool) → AreMarks test self.now.table marks.old
+        ensures { (test : OperationRecord → Bool) → AreMarks test self.now.table marks.old
             → AreMarks (also test (whole_in self.now.table handles.now)) self.now.table marks.new }
     {
         for handle in handles {

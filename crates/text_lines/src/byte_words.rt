@@ -9,11 +9,11 @@ pub const MAX_WORD_BYTES: usize = 8_193;
 
 /// Bytes of a line, at most `MAX_WORD_BYTES`, in an allocation of their own.
 #[derive(Drop)]
-pub struct Bytes {
+pub struct LineBytes {
     pub(crate) inside: Box<Vec<u8>>,
 }
 
-impl Model for Bytes {
+impl Model for LineBytes {
     ghost use Rattle.std.specs.Prelude.{ℕ, List};
     ghost use Rattle.std.specs.Box.{box_value};
 
@@ -22,7 +22,7 @@ impl Model for Bytes {
     ghost view = { λ b. (box_value b.inside).items };
 }
 
-impl Bytes {
+impl LineBytes {
     /// The bytes, at most `MAX_WORD_BYTES` where the job was read.
     pub fn items(&self) -> &[u8]
         ensures { result.now ≡ self.now }

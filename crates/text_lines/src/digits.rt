@@ -5,7 +5,7 @@ ghost use Rattle.std.specs.List.{list_all};
 ghost use Rattle.text_lines.specs.HexBytes.{digit_value, is_digit, byte_of, pairs_of, bytes_of};
 ghost use Rattle.text_lines.specs.Found.{Reads};
 
-use crate::byte_words::{Bytes, MAX_WORD_BYTES};
+use crate::byte_words::{LineBytes, MAX_WORD_BYTES};
 use crate::miss::Miss;
 use std::alloc::Global;
 
@@ -76,7 +76,7 @@ pub fn pairs_of(alloc: Global, digits: &[u8]) -> Result<Vec<u8>, Miss>
 
 /// The bytes that a word is.
 #[tactic(auto, unfolding(crate::specs::HexBytes::bytes_of))]
-pub fn bytes_of(alloc: Global, word: &[u8]) -> Result<Bytes, Miss>
+pub fn bytes_of(alloc: Global, word: &[u8]) -> Result<LineBytes, Miss>
     ensures { Reads (λ b. b) result (bytes_of word.now) }
 {
     if word.is_empty() {
@@ -91,5 +91,5 @@ pub fn bytes_of(alloc: Global, word: &[u8]) -> Result<Bytes, Miss>
         return Err(Miss::Unlike);
     }
     let inside = Box::new(alloc, items)?;
-    Ok(Bytes { inside })
+    Ok(LineBytes { inside })
 }

@@ -22,7 +22,7 @@ mod signed;
 mod why;
 mod words;
 
-pub use byte_words::{Bytes, MAX_WORD_BYTES};
+pub use byte_words::{LineBytes, MAX_WORD_BYTES};
 pub use digit_writer::{write_bytes, write_digits};
 pub use digits::{bytes_of, pairs_of};
 pub use line_parts::{put_end, put_number, put_word};

@@ -53,7 +53,7 @@ fn node_of(event: &WorldEvent<'_>) -> u16
 
 /// Where a line of the output stands.
 #[derive(Clone, Copy)]
-struct Place {
+struct LinePlace {
     /// Its number, from 1.
     number: u64,
     /// The time of its events.
@@ -64,7 +64,7 @@ struct Place {
 fn run_event<K: Sink>(
     world: &mut World,
     script: &Script,
-    at: Place,
+    at: LinePlace,
     event: &WorldEvent<'_>,
     sink: &mut BufferedSink<K>,
 ) -> Said
@@ -127,7 +127,7 @@ fn begin_pieces<H: Handlers>(
 fn run_vis<K: Sink>(
     world: &mut World,
     script: &Script,
-    at: Place,
+    at: LinePlace,
     begin: &Beginning<'_>,
     sink: &mut BufferedSink<K>,
 ) -> Said
@@ -152,7 +152,7 @@ fn run_vis<K: Sink>(
 fn run_settle<K: Sink>(
     world: &mut World,
     script: &Script,
-    at: Place,
+    at: LinePlace,
     rounds: u32,
     sink: &mut BufferedSink<K>,
 ) -> Said
@@ -185,7 +185,7 @@ fn is_lacking(answer: CollectiveAnswer) -> bool
 fn run_collective<K: Sink>(
     nodes: &mut Nodes,
     script: &Script,
-    at: Place,
+    at: LinePlace,
     asked: &CollectiveCall,
     sink: &mut BufferedSink<K>,
 ) -> Said
@@ -234,7 +234,7 @@ fn run_line<K: Sink>(
             run_event(
                 &mut nodes.world,
                 script,
-                Place { number, now },
+                LinePlace { number, now },
                 &event,
                 sink,
             )
@@ -243,19 +243,19 @@ fn run_line<K: Sink>(
             run_vis(
                 &mut nodes.world,
                 script,
-                Place { number, now },
+                LinePlace { number, now },
                 &begin,
                 sink,
             )
         }
         Some(Line::Collective { now, asked }) => {
-            run_collective(nodes, script, Place { number, now }, &asked, sink)
+            run_collective(nodes, script, LinePlace { number, now }, &asked, sink)
         }
         Some(Line::Settle { now, rounds }) => {
             run_settle(
                 &mut nodes.world,
                 script,
-                Place { number, now },
+                LinePlace { number, now },
                 rounds,
                 sink,
             )

@@ -2,7 +2,7 @@ use Rattle.std.proofs.Common.{◌≡◌, Some, true, length}
 use Rattle.std.proofs.Common.{sym, ◌∙◌, refl, arith, length-set}
 use Rattle.std.specs.Prelude.{slice_get, slice_set}
 use Rattle.lists.proofs.Indexes.{read-at}
-use Rattle.credit_slots.specs.declared.order.Entry.{Entry}
+use Rattle.credit_slots.specs.declared.order.DueEntry.{DueEntry}
 use Rattle.credit_slots.proofs.Entries.{on-inside, next-inside, linked, read-next}
 use Rattle.credit_slots.proofs.order.link.Goals as goal
 
@@ -28,7 +28,7 @@ returns-clause-order c =
     read-at entries at found (on-inside entries at order on) c.index.ensures in
     let second_read = c.index_mut-2.result.now in
     let third_read = c.index_mut-3.result.now in
-    let entry : Entry = record {
+    let entry : DueEntry = record {
       time = c.args.due.time;
       node = c.args.due.node;
       slot = c.args.due.slot;
@@ -61,7 +61,7 @@ returns-clause-listed c =
     read-at entries at found (on-inside entries at order on) c.index.ensures in
     let second_read = c.index_mut-2.result.now in
     let third_read = c.index_mut-3.result.now in
-    let entry : Entry = record {
+    let entry : DueEntry = record {
       time = c.args.due.time;
       node = c.args.due.node;
       slot = c.args.due.slot;

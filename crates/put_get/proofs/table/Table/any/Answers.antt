@@ -25,7 +25,7 @@ loop-place-preserved c place there less at = elim (cases_eq place c.loop-place.p
 pub returns : goal.returns
 returns c =
     let extent = c.self.inside.extent in
-    let known = subst (IsExtent extent) c.self.view_is c.self.invariant.3 in
+    let known = subst (IsExtent extent) c.self.view_is c.self.invariant.2 in
     let past = c.loop-place-test.false in
     sym (none_within (picked c.args.pick) extent c.args.self.now known
     (λ place there less at. c.loop-place.invariant place there (omega (arith, less, past)) at))

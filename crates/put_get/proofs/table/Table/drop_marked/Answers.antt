@@ -1,12 +1,11 @@
 use Rattle.std.proofs.Common.{◌≡◌, ◌<◌, ◌≤◌, ◌+◌, ℕ, List, Option, Some, length, set, sym, ap, ◌∙◌, subst, arith, inl, inr}
 use Rattle.std.specs.List.{slice_get}
 use Rattle.std.proofs.lemmas.Option.{slice_get_within}
-use Rattle.put_get.specs.declared.table.Standing.{Standing}
+use Rattle.put_get.specs.declared.table.OperationRecord.{OperationRecord}
 use Rattle.put_get.specs.Syncs.{flag_at}
 use Rattle.std.proofs.lemmas.Bool.{cases_lt}
 use Rattle.put_get.specs.Extent.{IsExtent}
 use Rattle.put_get.specs.Table.{unless_marked, AreDropped}
-use Rattle.put_get.proofs.Places.{places_length}
 use Rattle.put_get.proofs.Tests.{rewrite_more}
 use Rattle.put_get.proofs.Marks.{dropped_is}
 use Rattle.put_get.proofs.Extents.{dropped_beyond}
@@ -14,14 +13,14 @@ use Rattle.put_get.proofs.table.Table.drop_marked.Goals as goal
 
 pub loop-place-preserved : goal.loop-place-preserved
 loop-place-preserved c =
-    let f : ℕ → Option Standing → Option Standing =
+    let f : ℕ → Option OperationRecord → Option OperationRecord =
     λ place there. unless_marked (flag_at c.args.marks.now place) there in
     let old = c.args.self.now in
     subst
-    (λ (new : List (Option Standing)). (length new ≡ length old)
-    × ((place : ℕ) (there : Option Standing) → place < c.loop-place.place + 1 → slice_get old place ≡ Some there
+    (λ (new : List (Option OperationRecord)). (length new ≡ length old)
+    × ((place : ℕ) (there : Option OperationRecord) → place < c.loop-place.place + 1 → slice_get old place ≡ Some there
     → slice_get new place ≡ Some (f place there))
-    × ((place : ℕ) (there : Option Standing) → c.loop-place.place + 1 ≤ place → slice_get old place ≡ Some there
+    × ((place : ℕ) (there : Option OperationRecord) → c.loop-place.place + 1 ≤ place → slice_get old place ≡ Some there
     → slice_get new place ≡ Some there))
     (sym (c.set.ensures
     ∙ ap (set c.loop-place.self c.loop-place.place) (c.unless_marked.ensures
@@ -30,9 +29,8 @@ loop-place-preserved c =
 
 pub returns : goal.returns
 returns c test M =
-    let many = ap length (sym c.self.view_is)
-    ∙ (places_length c.self.inside.keys.items c.self.inside.records ∙ c.self.invariant.0) in
-    let known = subst (IsExtent c.self.inside.extent) c.self.view_is c.self.invariant.3 in
+    let many = ap length (sym c.self.view_is) ∙ c.self.invariant.0 in
+    let known = subst (IsExtent c.self.inside.extent) c.self.view_is c.self.invariant.2 in
     let past = c.loop-place-test.false in
     subst (AreDropped test c.args.self.now) (sym c.lower_end.ensures)
     (record {

@@ -16,7 +16,7 @@ returns-then-picks c test M =
     sym (any_from (on_place (λ r. test r && passes c.args.check r)) c.args.self.now c.loop-place.place c.at.result
     c.at.ensures
     (sym (picks_is test c.args.check c.args.self.now c.args.marks.now c.loop-place.place c.at.result M
-    (omega (arith, end, c.self.invariant.3.within)) c.at.ensures)
+    (omega (arith, end, c.self.invariant.2.within)) c.at.ensures)
     ∙ (ap (λ mark. picks mark c.args.check c.at.result) (sym c.flag_at.ensures)
     ∙ (sym c.picks.ensures ∙ c.if-picks.true))))
 
@@ -34,7 +34,7 @@ loop-place-preserved c place there less at = elim (cases_eq place c.loop-place.p
 pub returns : goal.returns
 returns c test M =
     let extent = c.self.inside.extent in
-    let known = subst (IsExtent extent) c.self.view_is c.self.invariant.3 in
+    let known = subst (IsExtent extent) c.self.view_is c.self.invariant.2 in
     let past = c.loop-place-test.false in
     sym (none_within (λ r. test r && passes c.args.check r) extent c.args.self.now known (λ place there less at.
     sym (picks_is test c.args.check c.args.self.now c.args.marks.now place there M

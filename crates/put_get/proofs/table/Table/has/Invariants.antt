@@ -1,11 +1,11 @@
 use Rattle.std.proofs.Common.{◌≡◌, ◌<◌, ℕ, false, Option, Some}
 use Rattle.std.specs.List.{slice_get}
-use Rattle.put_get.specs.declared.table.Standing.{Standing}
+use Rattle.put_get.specs.declared.table.OperationRecord.{OperationRecord}
 use Rattle.put_get.specs.Syncs.{flag_at}
 use Rattle.put_get.specs.Table.{picks}
 use Rattle.put_get.proofs.table.Table.has.Given as goal
 
 abbrev pub invariant-loop-place : goal.invariant-loop-place
 invariant-loop-place l =
-    (place : ℕ) (there : Option Standing) → place < l.place → slice_get l.self place ≡ Some there
+    (place : ℕ) (there : Option OperationRecord) → place < l.place → slice_get l.self place ≡ Some there
     → picks (flag_at l.marks place) l.check there ≡ false

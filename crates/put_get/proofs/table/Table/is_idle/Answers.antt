@@ -1,10 +1,10 @@
 use Rattle.std.proofs.Common.{not, ap, ◌∙◌}
 use Rattle.std.specs.List.{list_any}
-use Rattle.put_get.specs.Table.{places_of, is_unissued, on_place}
+use Rattle.put_get.specs.Table.{is_unissued, on_place}
 use Rattle.put_get.proofs.Waiting.{queue_idle}
 use Rattle.put_get.proofs.table.Table.is_idle.Goals as goal
 
 pub returns : goal.returns
 returns c = c.is_empty.ensures
-    ∙ (queue_idle (places_of c.self.inside.keys.items c.self.inside.records) c.self.inside.queue c.self.invariant.2
+    ∙ (queue_idle c.self.inside.places.items c.self.inside.queue c.self.invariant.1
     ∙ ap (λ xs. not (list_any (on_place is_unissued) xs)) c.self.view_is)

@@ -12,7 +12,7 @@ pub returns : goal.returns
 returns c test M =
     let places = c.args.self.now in
     let extent = c.self.inside.extent in
-    let known = subst (IsExtent extent) c.self.view_is c.self.invariant.3 in
+    let known = subst (IsExtent extent) c.self.view_is c.self.invariant.2 in
     let past = c.loop-place-test.false in
     record {
       many = c.loop-place.invariant.0 ∙ M.many;

@@ -1,7 +1,6 @@
 use Rattle.std.proofs.Common.{length, sym, ap, ◌∙◌, subst}
 use Rattle.put_get.specs.Queue.{Queues}
 use Rattle.put_get.specs.Table.{waits_at}
-use Rattle.put_get.proofs.Places.{places_length}
 use Rattle.put_get.proofs.Waiting.{place_found, place_missed, place_within}
 use Rattle.put_get.proofs.table.Table.place_of.Goals as goal
 
@@ -9,10 +8,9 @@ pub returns : goal.returns
 returns c =
     let places = c.args.self.now in
     let queue = c.self.inside.queue in
-    let Q = subst (λ ps. Queues (waits_at ps) queue) c.self.view_is c.self.invariant.2 in
+    let Q = subst (λ ps. Queues (waits_at ps) queue) c.self.view_is c.self.invariant.1 in
     let found = place_found places queue c.args.number c.place_of.result Q c.place_of.ensures.found in
-    let many = ap length (sym c.self.view_is)
-    ∙ (places_length c.self.inside.keys.items c.self.inside.records ∙ c.self.invariant.0) in
+    let many = ap length (sym c.self.view_is) ∙ c.self.invariant.0 in
     record {
       found = found;
       none = place_missed places queue c.args.number c.place_of.result Q c.place_of.ensures.none;

@@ -35,9 +35,9 @@ set-requires c =
     place_within c.args.self.now c.requires.0 c.args.to c.args.slot c.in-Some.waiting c.requires.1
     (sym c.at.ensures ∙ c.in-Some.is)
 
-pub overflow_add-standing : goal.overflow_add-standing
-overflow_add-standing c =
-    let less = unreturned c.args.self.now c.requires.0 c.args.to c.args.slot c.in-Some.waiting c.in-Some-at.standing
+pub overflow_add-operation : goal.overflow_add-operation
+overflow_add-operation c =
+    let less = unreturned c.args.self.now c.requires.0 c.args.to c.args.slot c.in-Some.waiting c.in-Some-at.operation
     c.requires.1 (sym c.at.ensures ∙ c.in-Some.is) c.in-Some-at.ensures in
     omega (arith, less)
 
@@ -55,8 +55,8 @@ returns-clause-stands c operations S =
     }) (come_back c.args.to c.args.slot c.args.number operations)) (sym c.set.ensures)
     (subst (λ number. Stands (record c.args.self.now {
       table = set c.args.self.now.table c.in-Some.waiting.place
-          (Some (record c.in-Some-at.standing { returned = c.in-Some-at.standing.returned + 1 }));
+          (Some (record c.in-Some-at.operation { returned = c.in-Some-at.operation.returned + 1 }));
       slots = c.set-2.new.self;
     }) (come_back c.args.to c.args.slot number operations)) c.if-waiting-number.false
-    (stands_returned c.args.self.now operations c.in-Some-at.standing c.args.to c.args.slot c.in-Some.waiting
+    (stands_returned c.args.self.now operations c.in-Some-at.operation c.args.to c.args.slot c.in-Some.waiting
     c.set-2.new.self S (sym c.at.ensures ∙ c.in-Some.is) c.in-Some-at.ensures c.set-2.ensures))

@@ -1,5 +1,5 @@
 use Rattle.std.proofs.Common.{◌≡◌, ◌+◌, Some, Ok, set, refl, sym, ap, ◌∙◌, subst, arith}
-use Rattle.put_get.specs.declared.table.Standing.{Standing}
+use Rattle.put_get.specs.declared.table.OperationRecord.{OperationRecord}
 use Rattle.put_get.specs.Operation.{after_begin, fresh}
 use Rattle.put_get.specs.Stands.{Stands, kept}
 use Rattle.put_get.proofs.Began.{taken_less, not_full, stands_begun}
@@ -34,7 +34,7 @@ returns-clause-stands c operations S =
       given = c.in-Some-checked_add.number;
       table = t;
     }) (after_begin c.args.thread c.args.transfer c.args.mode operations))
-    (sym (c.set.ensures ∙ ap (λ (r : Standing). set c.args.self.now.table c.in-Some.place (Some r)) record_is))
+    (sym (c.set.ensures ∙ ap (λ (r : OperationRecord). set c.args.self.now.table c.in-Some.place (Some r)) record_is))
     (subst (λ n. Stands (record c.args.self.now {
       given = n;
       table = set c.args.self.now.table c.in-Some.place

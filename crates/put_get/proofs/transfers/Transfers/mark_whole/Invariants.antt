@@ -1,10 +1,10 @@
 use Rattle.std.proofs.Common.{Bool, take}
-use Rattle.put_get.specs.declared.table.Standing.{Standing}
+use Rattle.put_get.specs.declared.table.OperationRecord.{OperationRecord}
 use Rattle.put_get.specs.Table.{AreMarks, also}
 use Rattle.put_get.specs.Stands.{whole_in}
 use Rattle.put_get.proofs.transfers.Transfers.mark_whole.Given as goal
 
 abbrev pub invariant-loop-handle : goal.invariant-loop-handle
 invariant-loop-handle l =
-    (test : Standing → Bool) → AreMarks test l.self.table l.fn.marks
+    (test : OperationRecord → Bool) → AreMarks test l.self.table l.fn.marks
     → AreMarks (also test (whole_in l.self.table (take l.handle-index l.handles))) l.self.table l.marks

@@ -5,12 +5,12 @@ use Rattle.put_get.proofs.Oldest.{oldest_is, unissued_of, note_of}
 use Rattle.put_get.proofs.transfers.Transfers.next.Goals as goal
 
 pub next_of-requires : goal.next_of-requires
-next_of-requires c = unissued_of (flag_at c.args.can.now) c.args.self.now.table c.in-Some.standing c.in-Some.ensures
+next_of-requires c = unissued_of (flag_at c.args.can.now) c.args.self.now.table c.in-Some.operation c.in-Some.ensures
 
 pub returns-in-Some-clause-next : goal.returns-in-Some-clause-next
 returns-in-Some-clause-next c operations S =
     ap Some c.next_of.ensures
-    ∙ oldest_is (flag_at c.args.can.now) c.args.self.now operations (Some c.in-Some.standing) S c.in-Some.ensures
+    ∙ oldest_is (flag_at c.args.can.now) c.args.self.now operations (Some c.in-Some.operation) S c.in-Some.ensures
 
 pub returns-in-None-clause-next : goal.returns-in-None-clause-next
 returns-in-None-clause-next c operations S =
@@ -19,4 +19,4 @@ returns-in-None-clause-next c operations S =
 pub returns-in-Some-clause-can_note : goal.returns-in-Some-clause-can_note
 returns-in-Some-clause-can_note c =
     subst (λ next. CanNote c.args.self.now next.number) (sym c.next_of.ensures)
-    (note_of (flag_at c.args.can.now) c.args.self.now c.in-Some.standing c.in-Some.ensures)
+    (note_of (flag_at c.args.can.now) c.args.self.now c.in-Some.operation c.in-Some.ensures)

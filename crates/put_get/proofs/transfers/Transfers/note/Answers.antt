@@ -1,6 +1,6 @@
 use Rattle.std.proofs.Common.{◌≡◌, ◌+◌, Some, set, sym, ap, ◌∙◌, subst}
 use Rattle.std.proofs.lemmas.Option.{same_Some}
-use Rattle.put_get.specs.declared.table.Standing.{Standing}
+use Rattle.put_get.specs.declared.table.OperationRecord.{OperationRecord}
 use Rattle.put_get.specs.declared.operation.Next.{Next}
 use Rattle.put_get.specs.Operation.{Operation, target, with_sent, issue}
 use Rattle.lists.specs.Numbered.{numbered, change}
@@ -18,13 +18,13 @@ returns-clause-stands c can bytes operations S next free =
     let first = next_is_first can operations c.args.next.now next in
     let found = c.in-Some.ensures.found in
     let at = c.in-Some-at.ensures in
-    let same : found.0 ≡ c.in-Some-at.standing = same_Some _ _ (same_Some _ _ (sym found.1 ∙ at)) in
-    let number : c.in-Some-at.standing.number ≡ c.args.next.now.number = ap (λ (z : Standing). z.number) (sym same)
+    let same : found.0 ≡ c.in-Some-at.operation = same_Some _ _ (same_Some _ _ (sym found.1 ∙ at)) in
+    let number : c.in-Some-at.operation.number ≡ c.args.next.now.number = ap (λ (z : OperationRecord). z.number) (sym same)
     ∙ found.2 in
-    let o = S.keeps.each c.in-Some.place c.in-Some-at.standing at in
+    let o = S.keeps.each c.in-Some.place c.in-Some-at.operation at in
     let here : o.0 ≡ first.operation = same_Some _ _ (sym o.1 ∙ (ap (numbered operations) number ∙ first.here)) in
-    let to : target c.in-Some-at.standing.transfer ≡ target c.args.next.now.transfer =
-    ap (λ (z : Standing). target z.transfer) o.3
+    let to : target c.in-Some-at.operation.transfer ≡ target c.args.next.now.transfer =
+    ap (λ (z : OperationRecord). target z.transfer) o.3
     ∙ (ap (λ (z : Operation). target z.transfer) here ∙ ap (λ (z : Next). target z.transfer) (sym first.chunk)) in
     let H = subst (λ node. HasSet c.args.self.now.slots node c.args.slot (Some (record {
       request = c.args.request;
@@ -36,9 +36,9 @@ returns-clause-stands c can bytes operations S next free =
     }) (issue (target c.args.next.now.transfer) c.args.slot c.args.request bytes operations)) (sym c.set.ensures)
     (subst (Stands (record c.args.self.now {
       table = set c.args.self.now.table c.in-Some.place
-          (Some (record c.in-Some-at.standing { issued = c.in-Some-at.standing.issued + 1 }));
+          (Some (record c.in-Some-at.operation { issued = c.in-Some-at.operation.issued + 1 }));
       slots = c.set-2.new.self;
     })) (ap (change (with_sent c.args.slot c.args.request bytes) operations) number
     ∙ sym (first.issued c.args.slot c.args.request bytes))
-    (stands_noted c.args.self.now operations c.in-Some.place c.in-Some-at.standing
+    (stands_noted c.args.self.now operations c.in-Some.place c.in-Some-at.operation
     (target c.args.next.now.transfer) c.args.slot c.args.request bytes c.set-2.new.self S at to free H))
