@@ -1,9 +1,11 @@
 //! What the environment sets for a run of the program.
 
-ghost use Rattle.std.specs.Prelude.{◌≡◌, Bool, IfOk, List, ℕ, Ok, Option, Result, String, codes, string_bytes};
+ghost use Rattle.std.specs.Prelude.{◌≡◌, Bool, IfErr, IfOk, List, ℕ, Ok, Option, Result, String, codes, string_bytes};
 ghost use Rattle.std.specs.Global.{Global};
 ghost use Rattle.std.specs.declared.alloc.AllocError.{AllocError};
 ghost use Rattle.run_report.specs.Environment.{AreHosts, IsHosts, IsHostsFile, IsKey, IsKeyText, IsSecret, IsSetOne};
+ghost use Rattle.run_report.specs.Environment.{RefusesHosts, RefusesHostsFile, RefusesHostsText, RefusesKey};
+ghost use Rattle.run_report.specs.Environment.{RefusesKeyText, RefusesSecret, RefusesSettings};
 ghost use Rattle.run_report.specs.declared.environment.KeyFile.{KeyFile};
 ghost use Rattle.run_report.specs.declared.settings.Refusal.{Refusal};
 
@@ -73,7 +75,8 @@ pub struct SettingsTold {
 
 /// The text of the hosts by `GASNET_HOSTS_FILE`.
 fn hosts_by_file<E: Environment>(from: &E) -> Result<Option<String>, Refusal>
-    ensures { IfOk result (IsHostsFile (E.sets from.now) (E.lists from.now)) }
+    ensures told { IfOk result (IsHostsFile (E.sets from.now) (E.lists from.now)) }
+    ensures refused { IfErr result (RefusesHostsFile (E.sets from.now) (E.lists from.now)) }
 {
     let Some(path) = from.value("GASNET_HOSTS_FILE")? else {
         return Ok(None);
@@ -90,7 +93,8 @@ fn hosts_by_file<E: Environment>(from: &E) -> Result<Option<String>, Refusal>
 ///
 /// A `Refusal` where one of these can't be used.
 fn hosts_text<E: Environment>(from: &E) -> Result<Option<String>, Refusal>
-    ensures { IfOk result (IsHosts (E.sets from.now) (E.lists from.now)) }
+    ensures told { IfOk result (IsHosts (E.sets from.now) (E.lists from.now)) }
+    ensures refused { IfErr result (RefusesHostsText (E.sets from.now) (E.lists from.now)) }
 {
     match from.value("GASNET_HOSTS")? {
         Some(text) => Ok(Some(text)),
@@ -104,7 +108,8 @@ fn hosts_text<E: Environment>(from: &E) -> Result<Option<String>, Refusal>
 ///
 /// A `Refusal` where a variable can't be used, or its text is no list of addresses.
 pub fn hosts_told<E: Environment>(alloc: Global, from: &E) -> Result<E::Hosts, Refusal>
-    ensures { IfOk result (AreHosts (E.sets from.now) (E.lists from.now) E.names E.local) }
+    ensures told { IfOk result (AreHosts (E.sets from.now) (E.lists from.now) E.names E.local) }
+    ensures refused { IfErr result (RefusesHosts (E.sets from.now) (E.lists from.now) E.names) }
 {
     let Some(text) = hosts_text(from)? else {
         return Ok(E::local_hosts(alloc));
@@ -117,7 +122,8 @@ pub fn hosts_told<E: Environment>(alloc: Global, from: &E) -> Result<E::Hosts, R
 
 /// The text of the file of a key, which no other than its owner may use.
 fn key_text<E: Environment>(from: &E, path: &str) -> Result<String, Refusal>
-    ensures { IfOk result (λ text. IsKeyText (E.guards from.now) path.now text) }
+    ensures told { IfOk result (λ text. IsKeyText (E.guards from.now) path.now text) }
+    ensures refused { IfErr result (RefusesKeyText (E.guards from.now) path.now) }
 {
     let Some(file) = from.key_file(path) else {
         return Err(Refusal::NoKeyFile);
@@ -133,7 +139,8 @@ fn key_text<E: Environment>(from: &E, path: &str) -> Result<String, Refusal>
 
 /// The bytes of the key in a file, whose text may have spaces at its ends.
 fn secret_in<E: Environment>(from: &E, path: &str) -> Result<[u8; 32], Refusal>
-    ensures { IfOk result (IsKey (E.guards from.now) path.now) }
+    ensures told { IfOk result (IsKey (E.guards from.now) path.now) }
+    ensures refused { IfErr result (RefusesKey (E.guards from.now) path.now) }
 {
     let text = key_text(from, path)?;
     let secret = secret_of(text.as_str().trim())?;
@@ -142,7 +149,8 @@ fn secret_in<E: Environment>(from: &E, path: &str) -> Result<[u8; 32], Refusal>
 
 /// The bytes of the key in the file that `GASNET_KEY_FILE` names.
 fn secret_told<E: Environment>(from: &E) -> Result<Option<[u8; 32]>, Refusal>
-    ensures { IfOk result (IsSecret (E.sets from.now) (E.guards from.now)) }
+    ensures told { IfOk result (IsSecret (E.sets from.now) (E.guards from.now)) }
+    ensures refused { IfErr result (RefusesSecret (E.sets from.now) (E.guards from.now)) }
 {
     match from.value("GASNET_KEY_FILE")? {
         Some(path) => Ok(Some(secret_in(from, path.as_str())?)),
@@ -161,6 +169,7 @@ pub fn settings_told<E: Environment>(from: &E) -> Result<SettingsTold, Refusal>
     ensures agent { IfOk result (λ told. E.sets from.now (codes "GASNET_AGENT") (Ok told.agent)) }
     ensures folder { IfOk result (λ told. E.sets from.now (codes "GASNET_KEEP") (Ok told.folder)) }
     ensures steps { IfOk result (λ told. IsSetOne (E.sets from.now) told.steps) }
+    ensures refused { IfErr result (RefusesSettings (E.sets from.now) (E.guards from.now)) }
 {
     let secret = secret_told(from)?;
     let agent = from.value("GASNET_AGENT")?;
