@@ -177,7 +177,7 @@ pub enum ScheduledCall {
     /// Puts bytes into the local segment.
     Set {
         offset: u64,
-        bytes: Bytes,
+        bytes: LineBytes,
     },
     /// Puts the same byte at each place of a range of the local segment.
     Fill {

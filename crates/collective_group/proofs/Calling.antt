@@ -1,6 +1,5 @@
 -- What an event of a group leaves of the records, by its calls.
-use Rattle.std.proofs.Common.{◌≡◌, ℕ, zero, suc, Bool, true, false, List, [], ◌∷◌, map, Option, Some, None, refl, ap}
-use Rattle.std.proofs.Common.{◌∙◌}
+use Rattle.std.proofs.Common.{◌≡◌, ℕ, zero, suc, Bool, true, false, List, [], ◌∷◌, map, Option, Some, None, refl}
 use Rattle.std.specs.Prelude.{if◌then◌else◌}
 use Rattle.raw_segment.specs.Image.{Write}
 use Rattle.plain_world.specs.World.{Asks, Does, Timed, run, world_after, world_answer}

@@ -1,16 +1,15 @@
 -- The events of the records that an event of a group is: the calls that a start, a step and a try to end make.
 use Rattle.std.specs.Prelude.{ℕ, zero, suc, ◌≡◌, if◌then◌else◌, List, [], ◌∷◌, map, None, Some}
-use Rattle.plain_world.specs.World.{Timed, Asks, Does, WorldAnswer, run, world_answer, world_after}
+use Rattle.plain_world.specs.World.{Timed, Asks, Does, run, world_answer, world_after}
 use Rattle.endpoint_rules.specs.CoreCalls.{Poll}
 use Rattle.endpoint_rules.specs.EndpointRules.{OtherCall, OnCore, timed}
-use Rattle.endpoint_rules.specs.declared.answer.Answer.{Answer}
 use Rattle.transfer_laws.specs.Chunks.{EndpointJob}
 use Rattle.collective_area.specs.Area.{Area}
 use Rattle.collective_area.specs.declared.shape.Shape.{Shape}
 use Rattle.gas_collectives.specs.Progress.{end_refusal, is_left, is_open, start_ask, start_refusal, step_ask, writes_from}
 use Rattle.gas_collectives.specs.declared.answers.EndAnswer.{EndAnswer}
 use Rattle.gas_collectives.specs.declared.answers.EndAnswer.TheVariants as end_answers
-use Rattle.collective_laws.specs.Groups.{Group, GroupEvent, Other, Start, Step, End, StepGoes, Stops, GoesOn, asked_in}
+use Rattle.collective_laws.specs.Groups.{Group, GroupEvent, Other, Start, Step, End, Stops, GoesOn, asked_in}
 use Rattle.collective_laws.specs.Groups.{end_by, group_does, result_pieces, step_goes, with_progress, write_event}
 
 -- ---- a start

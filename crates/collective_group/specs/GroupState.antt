@@ -3,6 +3,7 @@ use Rattle.std.specs.Prelude.{ℕ, ◌≡◌, List, length, Some, slice_get}
 use Rattle.datagram_grammar.specs.Parameters.{Parameters}
 use Rattle.gas_world.specs.WorldState.{WorldState}
 use Rattle.gas_collectives.specs.CollectivesState.{CollectivesState}
+use Rattle.collective_group.specs.declared.world_nodes.WorldNodes.{WorldNodes}
 
 -- the world, and how far each node is with its collectives
 pub record GroupState : Type 0 where
@@ -19,3 +20,7 @@ AreAt settings nodes =
 pub record IsGroup (world : WorldState) (nodes : List CollectivesState) : Type 0 where
   pub count : length nodes ≡ world.settings.nodes
   pub at : AreAt world.settings nodes
+
+-- the group that nodes of a world are
+abbrev pub group_in : WorldNodes → GroupState
+group_in nodes = record { world = nodes.world; nodes = nodes.collectives.items }

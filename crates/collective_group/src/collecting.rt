@@ -9,7 +9,6 @@ use crate::group::Group;
 use collective_area::Shape;
 use gas_collectives::{EndAnswer, StartAnswer, StepAnswer};
 use handler_rules::Handlers;
-use world_caller::AtNode;
 
 impl Group {
     /// `Collectives::start` of a node, by its thread at the time `now`, with the bytes at `from`.
@@ -34,13 +33,7 @@ impl Group {
         ensures history { GrowsByStart (H.meaning handlers.now) self.old
             (Start now node thread shape from) result self.new }
     {
-        let mut caller = AtNode {
-            world: &mut self.world,
-            node,
-            handlers,
-            now,
-        };
-        self.nodes[usize::from(node)].start(&mut caller, thread, shape, from)
+        self.nodes.start(handlers, now, node, thread, shape, from)
     }
 
     /// `Collectives::step` of a node, by its thread at the time `now`.
@@ -63,13 +56,7 @@ impl Group {
         ensures history { GrowsByStep (H.meaning handlers.now) self.old (Step now node thread) result
             self.new }
     {
-        let mut caller = AtNode {
-            world: &mut self.world,
-            node,
-            handlers,
-            now,
-        };
-        self.nodes[usize::from(node)].step(&mut caller, thread)
+        self.nodes.step(handlers, now, node, thread)
     }
 
     /// `Collectives::try_end` of a node, by its thread at the time `now`. Its result goes to `dest`.
@@ -96,12 +83,6 @@ impl Group {
         ensures law { TellsOfHistory (H.meaning handlers.now) self.old
             (record { now = now; node = node; thread = thread; dest = dest }) result }
     {
-        let mut caller = AtNode {
-            world: &mut self.world,
-            node,
-            handlers,
-            now,
-        };
-        self.nodes[usize::from(node)].try_end(&mut caller, thread, dest)
+        self.nodes.try_end(handlers, now, node, thread, dest)
     }
 }

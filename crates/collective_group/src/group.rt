@@ -14,6 +14,7 @@ ghost use Rattle.collective_group.specs.Histories.{GrowsBeside, IsHistory, RunsH
 ghost use Rattle.handler_rules.specs.Runs.{Meaning};
 ghost use Rattle.collective_group.specs.Opening.{AreIdle};
 
+use crate::world_nodes::WorldNodes;
 use datagram_grammar::Settings;
 use gas_collectives::Collectives;
 use gas_world::{World, WorldAnswer, WorldEvent};
@@ -24,20 +25,18 @@ use std::marker::Model;
 /// A world of endpoints, and how far each of its nodes is with its collectives.
 #[derive(Drop)]
 pub struct Group {
-    /// The world.
-    pub(crate) world: World,
-    /// The collectives of each node.
-    pub(crate) nodes: Vec<Collectives>,
+    /// Its nodes.
+    pub(crate) nodes: WorldNodes,
 }
 
 impl Model for Group {
-    ghost use Rattle.collective_group.specs.GroupState.{GroupState, IsGroup};
+    ghost use Rattle.collective_group.specs.GroupState.{GroupState, IsGroup, group_in};
 
     ghost Value = { GroupState };
 
-    ghost view = { λ it. record { world = it.world; nodes = it.nodes.items } };
+    ghost view = { λ it. group_in it.nodes };
 
-    ghost invariant = { λ it. IsGroup it.world it.nodes.items };
+    ghost invariant = { λ it. IsGroup it.nodes.world it.nodes.collectives.items };
 }
 
 impl Group {
@@ -69,9 +68,10 @@ impl Group {
         ensures laws { IfOk result (λ it. RunsHaveCollectives it
             (record { nodes = settings.now.nodes; base = base; room = room })) }
     {
-        let nodes = idle_nodes(alloc, settings, base, room)?;
+        let collectives = idle_nodes(alloc, settings, base, room)?;
         let world = World::new(alloc, settings, table)?;
-        Ok(Group { world, nodes })
+        let nodes = WorldNodes { world, collectives };
+        Ok(Group { nodes })
     }
 
     /// One event of the world at the time `now`, answered as `World::step` does. It leaves the collectives as they are.
@@ -95,21 +95,21 @@ impl Group {
         ensures history { GrowsBeside (H.meaning handlers.now) self.old (timed now (event_of event.now))
             result self.new }
     {
-        self.world.step(handlers, now, event)
+        self.nodes.world.step(handlers, now, event)
     }
 
     /// Its world.
     pub fn world(&self) -> &World
         ensures { result.now ≡ self.now.world }
     {
-        &self.world
+        &self.nodes.world
     }
 
     /// Its world, without the collectives.
     pub fn into_world(self) -> World
         ensures { result ≡ self.world }
     {
-        self.world
+        self.nodes.world
     }
 }
 

@@ -1,8 +1,9 @@
 //! Groups: worlds of endpoints whose nodes run collectives, and what their calls are by the laws (`collective_laws`).
 //!
-//! - `Group` keeps a world, and how far each node is with its collectives. Its calls are the events of the groups of the
-//!   laws: the answer is the one of the event, and the code stands for what the event leaves [`does`], of each group for
-//!   which it stood (`specs/Standing.antt`). Where memory ran out, `specs/Standing.antt` says which of these it is.
+//! - `WorldNodes` is a world, and how far each node is with its collectives. Its calls are the events of the groups of
+//!   the laws: the answer is the one of the event, and the code stands for what the event leaves [`does`], of each group
+//!   for which it stood (`specs/Standing.antt`). Where memory ran out, `specs/Standing.antt` says which of these it is.
+//! - `Group` is such nodes whose collectives are there, and which nobody else changes.
 //! - Each history of the group, which is the list of its events from its opening on, goes on by the call's event
 //!   [`history`] (`specs/Histories.antt`).
 //! - `Group::coll_end` carries the law of results as a clause [`law`: `TellsOfHistory`]: whatever happened to the group
@@ -18,7 +19,9 @@ mod at_group;
 mod collecting;
 mod group;
 mod laws;
+mod world_nodes;
 
 pub use at_group::AtGroup;
 pub use group::{Group, idle_nodes};
 pub use laws::{calls_are_of_a_group, calls_are_other_events};
+pub use world_nodes::WorldNodes;

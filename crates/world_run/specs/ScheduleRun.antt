@@ -21,7 +21,7 @@ use Rattle.job_text.specs.declared.job.Job.{Job as JobState}
 use Rattle.node_script.specs.Registration.{handlers_of, registered}
 use Rattle.gas_world.specs.Settling.{WorldJob, settle_events}
 use Rattle.gas_strided.specs.Beginning.{BeginCall}
-use Rattle.collective_group.specs.GroupState.{GroupState, IsGroup}
+use Rattle.collective_group.specs.GroupState.{GroupState, IsGroup, group_in}
 use Rattle.collective_group.specs.Standing.{ForItsGroups, IsLeft, StandsFor}
 use Rattle.node_script.specs.declared.collective_texts.CollectiveAnswer.{CollectiveAnswer}
 use Rattle.node_script.specs.declared.collective_texts.CollectiveAnswer.TheVariants as collective
@@ -31,7 +31,7 @@ use Rattle.gas_collectives.specs.declared.answers.EndAnswer.TheVariants as ended
 use Rattle.step_text.specs.declared.steps.CollectiveText.{CollectiveText}
 use Rattle.world_run.specs.Schedules.{Nodes, begin_answer, begin_events, collective_answer, collective_event}
 use Rattle.world_run.specs.Schedules.{line_events, nodes_after, nodes_of, schedule_events}
-use Rattle.world_run.specs.declared.nodes.Nodes.{Nodes as KeptNodes}
+use Rattle.collective_group.specs.declared.world_nodes.WorldNodes.{WorldNodes}
 use Rattle.step_text.specs.declared.steps.TimedEvent.{TimedEvent}
 use Rattle.world_run.specs.RunText.{world_words, event_words, line_words, answer_lines, any_violation, lines_of_node}
 use Rattle.world_run.specs.RunText.{end_lines, run_records, run_most}
@@ -118,10 +118,6 @@ RunsByScript text plan old new said = RunsPlan (job_in (script_meaning (handlers
 
 -- ---- the nodes of a run
 
--- as a group of the code
-abbrev pub kept : KeptNodes → GroupState
-kept nodes = record { world = nodes.world; nodes = nodes.collectives.items }
-
 -- each node has its collectives, where the job has them
 abbrev pub HaveCollectives : JobState → GroupState → Type 0
 HaveCollectives text it = is_some text.collect ≡ true → IsGroup it.world it.nodes
@@ -166,9 +162,9 @@ pub record NodesStage : Type 0 where
   pub nodes : GroupState
   pub out : Outbox
 
-abbrev pub nodes_stage : {K : Type 0} → (taken : K → Option (List ℕ)) → (faults : K → ℕ) → KeptNodes → Gathering K
+abbrev pub nodes_stage : {K : Type 0} → (taken : K → Option (List ℕ)) → (faults : K → ℕ) → WorldNodes → Gathering K
     → NodesStage
-nodes_stage taken faults nodes sink = record { nodes = kept nodes; out = outbox taken faults sink }
+nodes_stage taken faults nodes sink = record { nodes = group_in nodes; out = outbox taken faults sink }
 
 -- of all groups for which the nodes stood: the line of the answer with this number was said, and where it was, they
 -- stand for what the line of the schedule leaves

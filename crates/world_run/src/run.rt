@@ -19,17 +19,18 @@ ghost use Rattle.world_run.specs.RunLaws.{RunLaws};
 ghost use Rattle.world_run.specs.ScheduleRun.{Stood, run_stage, begin_plan, event_plan, settle_plan};
 ghost use Rattle.world_run.specs.ScheduleRun.{GroupStood, HaveCollectives, IsOfSameJob, IsOfSameNodes};
 ghost use Rattle.world_run.specs.ScheduleRun.{RunsByScript, RunsLine, RunsLines, StandsForRun};
-ghost use Rattle.world_run.specs.ScheduleRun.{is_lacking, kept, nodes_stage};
-ghost use Rattle.collective_group.specs.GroupState.{IsGroup};
+ghost use Rattle.world_run.specs.ScheduleRun.{is_lacking, nodes_stage};
+ghost use Rattle.collective_group.specs.GroupState.{IsGroup, group_in};
 ghost use Rattle.collective_group.specs.Standing.{StandsFor};
 ghost use Rattle.step_text.specs.declared.steps.ScheduledEvent.TheVariants.{Collective};
 ghost use Rattle.world_run.specs.LinesWritten.{SaysLines, OnDone};
 ghost use Rattle.world_run.specs.RunEnds.{RunEnds};
 
-use crate::nodes::Nodes;
+use crate::nodes::{collect, opening_nodes};
 use crate::output::{any_violation, write_event_answer, write_nodes, write_numbered};
 use crate::said::Said;
 use crate::schedule_line::{Beginning, CollectiveCall, Line, line_at};
+use collective_group::WorldNodes;
 use gas_collectives::{EndAnswer, StartAnswer, StepAnswer};
 use gas_outside::{BufferedSink, Sink};
 use gas_strided::Vis;
@@ -183,7 +184,7 @@ fn is_lacking(answer: CollectiveAnswer) -> bool
 
 /// Makes a call for the collectives of a node, and writes the line of its answer.
 fn run_collective<K: Sink>(
-    nodes: &mut Nodes,
+    nodes: &mut WorldNodes,
     script: &Script,
     at: LinePlace,
     asked: &CollectiveCall,
@@ -192,7 +193,7 @@ fn run_collective<K: Sink>(
     requires group { IsGroup nodes.old.world nodes.old.collectives.items }
     requires node { asked.now.node < nodes.old.world.settings.nodes }
     requires thread { asked.now.thread < nodes.old.world.settings.threads }
-    ensures job { IsOfSameNodes script.now (kept nodes.old) (kept nodes.new) }
+    ensures job { IsOfSameNodes script.now (group_in nodes.old) (group_in nodes.new) }
     ensures runs { (line : TimedEvent) → line.time ≡ at.now
         → line.event ≡ Collective asked.now.node asked.now.thread asked.now.call
         → RunsLine (job_in (script_meaning (handlers_of script.now)) nodes.old.world) at.number line
@@ -200,7 +201,7 @@ fn run_collective<K: Sink>(
         (nodes_stage K.taken K.faults nodes.new sink.new)
         result }
 {
-    let answer = nodes.collect(script.handlers(), at.now, asked);
+    let answer = collect(nodes, script.handlers(), at.now, asked);
     if is_lacking(answer) {
         return Said::NoMemory;
     }
@@ -209,17 +210,17 @@ fn run_collective<K: Sink>(
 
 /// Runs line `place` of the schedule, from 0, and writes its line, whose number is one more.
 fn run_line<K: Sink>(
-    nodes: &mut Nodes,
+    nodes: &mut WorldNodes,
     script: &Script,
     place: usize,
     sink: &mut BufferedSink<K>,
 ) -> Said
     requires job { IsJob script.now }
     requires settings { nodes.old.world.settings ≡ script.now.settings }
-    requires have { HaveCollectives script.now (kept nodes.old) }
-    requires stood { GroupStood (kept nodes.old) }
+    requires have { HaveCollectives script.now (group_in nodes.old) }
+    requires stood { GroupStood (group_in nodes.old) }
     requires line { place < length (lines_of script.now.schedule) }
-    ensures job { IsOfSameNodes script.now (kept nodes.old) (kept nodes.new) }
+    ensures job { IsOfSameNodes script.now (group_in nodes.old) (group_in nodes.new) }
     ensures runs { (line : TimedEvent) → slice_get (lines_of script.now.schedule) place ≡ Some line
         → RunsLine (job_in (script_meaning (handlers_of script.now)) nodes.old.world) (place + 1)
         line
@@ -265,11 +266,15 @@ fn run_line<K: Sink>(
 }
 
 /// Runs the lines of the schedule in order, and writes a line for each, numbered from 1.
-fn run_schedule<K: Sink>(nodes: &mut Nodes, script: &Script, sink: &mut BufferedSink<K>) -> Said
+fn run_schedule<K: Sink>(
+    nodes: &mut WorldNodes,
+    script: &Script,
+    sink: &mut BufferedSink<K>,
+) -> Said
     requires job { IsJob script.now }
     requires settings { nodes.old.world.settings ≡ script.now.settings }
-    requires have { HaveCollectives script.now (kept nodes.old) }
-    requires stood { GroupStood (kept nodes.old) }
+    requires have { HaveCollectives script.now (group_in nodes.old) }
+    requires stood { GroupStood (group_in nodes.old) }
     ensures job { IsOfSameJob nodes.old.world nodes.new.world }
     ensures runs { RunsLines (job_in (script_meaning (handlers_of script.now)) nodes.old.world)
         (lines_of script.now.schedule)
@@ -287,12 +292,12 @@ fn run_schedule<K: Sink>(nodes: &mut Nodes, script: &Script, sink: &mut Buffered
 }
 
 /// Runs a job among its nodes, which are at the opening, and writes its lines.
-fn run_in<K: Sink>(nodes: &mut Nodes, script: &Script, sink: &mut BufferedSink<K>) -> Said
+fn run_in<K: Sink>(nodes: &mut WorldNodes, script: &Script, sink: &mut BufferedSink<K>) -> Said
     requires job { IsJob script.now }
     requires settings { nodes.old.world.settings ≡ script.now.settings }
     requires table { nodes.old.world.table ≡ (registered (handlers_of script.now)).table }
-    requires have { HaveCollectives script.now (kept nodes.old) }
-    requires stands { StandsFor (kept nodes.old) (opening_nodes script.now).area
+    requires have { HaveCollectives script.now (group_in nodes.old) }
+    requires stands { StandsFor (group_in nodes.old) (opening_nodes script.now).area
         (opening_nodes script.now).group (λ i. 0) }
     ensures lines { SaysLines (outbox K.taken K.faults sink.old) (outbox K.taken K.faults sink.new)
         (run_lines script.now) result }
@@ -331,7 +336,7 @@ pub fn run_job<K: Sink>(alloc: Global, script: &Script, sink: &mut BufferedSink<
         (outbox K.taken K.faults sink.new) result }
     ensures laws { RunLaws script.now }
 {
-    let Ok(mut nodes) = Nodes::new(alloc, script) else {
+    let Ok(mut nodes) = opening_nodes(alloc, script) else {
         return RunEnd::NoMemory;
     };
     match run_in(&mut nodes, script, sink) {

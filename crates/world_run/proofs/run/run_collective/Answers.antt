@@ -1,9 +1,10 @@
+use Rattle.collective_group.specs.GroupState.{group_in}
 use Rattle.std.proofs.Common.{sym, ◌∙◌}
 use Rattle.gas_outside.specs.Buffered.{outbox}
 use Rattle.gas_world.specs.Events.{job_in}
 use Rattle.node_script.specs.Bodies.{script_meaning}
 use Rattle.node_script.specs.Registration.{handlers_of}
-use Rattle.world_run.specs.ScheduleRun.{kept, nodes_stage}
+use Rattle.world_run.specs.ScheduleRun.{nodes_stage}
 use Rattle.world_run.proofs.Collecting.{asks}
 use Rattle.world_run.proofs.ScheduleRuns.{collected_by, nothing_collected}
 use Rattle.world_run.proofs.run.run_collective.Goals as goal
@@ -20,7 +21,7 @@ returns-then-is_lacking g c = record {
   };
   runs = λ line time event.
       nothing_collected (job_in (script_meaning (handlers_of c.args.script.now)) c.args.nodes.now.world)
-      c.args.at.number line (kept c.args.nodes.now) (kept c.collect-answer.new.self)
+      c.args.at.number line (group_in c.args.nodes.now) (group_in c.collect-answer.new.nodes)
       (outbox g.K.Sink.taken g.K.Sink.faults c.args.sink.now);
 }
 
@@ -35,7 +36,7 @@ returns g c = record {
       collected_by (handlers_of c.args.script.now) c.handlers.result.now c.handlers.ensures c.args.nodes.now.world
       c.args.at.number (asks c.args.at.now asked.node asked.thread asked.call) c.collect-answer.result
       (nodes_stage g.K.Sink.taken g.K.Sink.faults c.args.nodes.now c.args.sink.now)
-      (nodes_stage g.K.Sink.taken g.K.Sink.faults c.collect-answer.new.self c.write_collective.new.sink)
+      (nodes_stage g.K.Sink.taken g.K.Sink.faults c.collect-answer.new.nodes c.write_collective.new.sink)
       c.write_collective.result _ line c.from_wrote.ensures time event
       (sym c.is_lacking.ensures ∙ c.if-is_lacking.false) c.collect-answer.ensures.collects c.write_collective.ensures;
 }

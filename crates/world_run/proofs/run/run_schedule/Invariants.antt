@@ -1,9 +1,10 @@
+use Rattle.collective_group.specs.GroupState.{group_in}
 use Rattle.std.proofs.Common.{◌≡◌}
 use Rattle.gas_world.specs.Events.{job_in}
 use Rattle.node_script.specs.Bodies.{script_meaning}
 use Rattle.node_script.specs.Registration.{handlers_of}
 use Rattle.job_text.specs.JobReading.{lines_of}
-use Rattle.world_run.specs.ScheduleRun.{GroupStood, HaveCollectives, kept, nodes_stage}
+use Rattle.world_run.specs.ScheduleRun.{GroupStood, HaveCollectives, nodes_stage}
 use Rattle.world_run.proofs.Halfway.{Stand}
 use Rattle.world_run.proofs.ScheduleRuns.{HasRun, StoodAt, progress}
 use Rattle.world_run.proofs.run.run_schedule.Given as goal
@@ -12,8 +13,8 @@ abbrev pub invariant-loop-place : goal.invariant-loop-place
 invariant-loop-place g l = record {
   settings : l.nodes.world.settings ≡ l.initial.nodes.world.settings;
   table : l.nodes.world.table ≡ l.initial.nodes.world.table;
-  have : HaveCollectives l.script (kept l.nodes);
-  stood : GroupStood (kept l.nodes);
+  have : HaveCollectives l.script (group_in l.nodes);
+  stood : GroupStood (group_in l.nodes);
   runs : (from : Stand)
       → StoodAt (nodes_stage g.K.Sink.taken g.K.Sink.faults l.initial.nodes l.initial.sink) from
       → HasRun (job_in (script_meaning (handlers_of l.script)) l.initial.nodes.world)

@@ -21,7 +21,7 @@ step-requires g c = record {
 pub invariant_of-self : goal.invariant_of-self
 invariant_of-self g c = record {
   count = c.self.invariant.count ∙ sym (ap (λ (one : Parameters). one.nodes) c.step.ensures.settings);
-  at = subst (λ (one : Parameters). AreAt one c.self.inside.nodes.items) (sym c.step.ensures.settings)
+  at = subst (λ (one : Parameters). AreAt one c.self.inside.nodes.collectives.items) (sym c.step.ensures.settings)
       c.self.invariant.at;
 }
 
@@ -44,8 +44,8 @@ returns-clause-steps g c =
 pub returns-clause-history : goal.returns-clause-history
 returns-clause-history g c =
     let meaning : Meaning = g.H.Handlers.meaning c.args.handlers.now in
-    let old : GroupState = record { world = c.self.inside.world; nodes = c.self.inside.nodes.items } in
-    let new : GroupState = record { world = c.step.new.self; nodes = c.self.inside.nodes.items } in
+    let old : GroupState = record { world = c.self.inside.nodes.world; nodes = c.self.inside.nodes.collectives.items } in
+    let new : GroupState = record { world = c.step.new.self; nodes = c.self.inside.nodes.collectives.items } in
     subst (λ (one : GroupState). GrowsBeside meaning one (timed c.args.now (event_of c.args.event.now)) c.step.result
     new) c.self.view_is
     (beside_grows meaning old new (timed c.args.now (event_of c.args.event.now)) c.step.result

@@ -10,21 +10,21 @@ use Rattle.collective_group.proofs.group.Group.new.Goals as goal
 
 pub invariant_of-result : goal.invariant_of-result
 invariant_of-result c = record {
-  count = c.in_ok-nodes.ensures.count ∙ sym (ap (λ (s : Parameters). s.nodes) c.in_ok-world.ensures.settings);
-  at = subst (λ (s : Parameters). AreAt s c.in_ok-nodes.nodes.items) (sym c.in_ok-world.ensures.settings)
-      c.in_ok-nodes.ensures.at;
+  count = c.in_ok-collectives.ensures.count ∙ sym (ap (λ (s : Parameters). s.nodes) c.in_ok-world.ensures.settings);
+  at = subst (λ (s : Parameters). AreAt s c.in_ok-collectives.collectives.items) (sym c.in_ok-world.ensures.settings)
+      c.in_ok-collectives.ensures.at;
 }
 
 pub returns-clause-opened : goal.returns-clause-opened
 returns-clause-opened c = (
   (λ i. 0),
-  record { world = c.in_ok-world.ensures.stands; nodes = c.in_ok-nodes.ensures.idle },
+  record { world = c.in_ok-world.ensures.stands; nodes = c.in_ok-collectives.ensures.idle },
 )
 
 pub returns-clause-history : goal.returns-clause-history
 returns-clause-history c = λ meaning serves.
     let area : Area = record { nodes = c.args.settings.now.nodes; base = c.args.base; room = c.args.room } in
-    let it : GroupState = record { world = c.in_ok-world.world; nodes = c.in_ok-nodes.nodes.items } in
+    let it : GroupState = record { world = c.in_ok-world.world; nodes = c.in_ok-collectives.collectives.items } in
     opens meaning it c.args.settings.now c.args.table.now area c.in_ok-world.ensures.settings
     c.in_ok-world.ensures.table serves c.requires.registered c.requires.area refl (returns-clause-opened c)
 

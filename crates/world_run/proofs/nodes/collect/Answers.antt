@@ -1,11 +1,12 @@
+use Rattle.collective_group.specs.GroupState.{group_in}
 use Rattle.std.proofs.Common.{sym, subst}
 use Rattle.gas_world.specs.Events.{job_in}
 use Rattle.handler_rules.specs.Runs.{Meaning}
 use Rattle.step_text.specs.declared.steps.CollectiveText.{CollectiveText}
 use Rattle.node_script.specs.declared.collective_texts.CollectiveAnswer.TheVariants as answers
-use Rattle.world_run.specs.ScheduleRun.{Collects, kept}
+use Rattle.world_run.specs.ScheduleRun.{Collects}
 use Rattle.world_run.proofs.Collecting.{asks, end_collects, start_collects, step_collects}
-use Rattle.world_run.proofs.nodes.Nodes.collect.Goals as goal
+use Rattle.world_run.proofs.nodes.collect.Goals as goal
 
 pub start-requires : goal.start-requires
 start-requires g c = record { group = c.requires.group; node = c.requires.node; thread = c.requires.thread }
@@ -20,9 +21,9 @@ returns-in-Start g c =
       table = c.start.ensures.table;
       group = c.start.ensures.group;
       collects = subst (λ (call : CollectiveText).
-          Collects (job_in meaning c.args.self.now.world) (kept c.args.self.now) (asks c.args.now node thread call)
-          (answers.Start c.start.result) (kept c.start.new.self)) (sym c.in-Start.is)
-          (start_collects meaning (kept c.args.self.now) (kept c.start.new.self) c.args.now node thread c.in-Start.shape c.in-Start.from c.start.result
+          Collects (job_in meaning c.args.nodes.now.world) (group_in c.args.nodes.now) (asks c.args.now node thread call)
+          (answers.Start c.start.result) (group_in c.start.new.self)) (sym c.in-Start.is)
+          (start_collects meaning (group_in c.args.nodes.now) (group_in c.start.new.self) c.args.now node thread c.in-Start.shape c.in-Start.from c.start.result
           c.start.ensures.does);
     }
 
@@ -39,9 +40,9 @@ returns-in-Step g c =
       table = c.step.ensures.table;
       group = c.step.ensures.group;
       collects = subst (λ (call : CollectiveText).
-          Collects (job_in meaning c.args.self.now.world) (kept c.args.self.now) (asks c.args.now node thread call)
-          (answers.Step c.step.result) (kept c.step.new.self)) (sym c.in-Step.is)
-          (step_collects meaning (kept c.args.self.now) (kept c.step.new.self) c.args.now node thread c.step.result
+          Collects (job_in meaning c.args.nodes.now.world) (group_in c.args.nodes.now) (asks c.args.now node thread call)
+          (answers.Step c.step.result) (group_in c.step.new.self)) (sym c.in-Step.is)
+          (step_collects meaning (group_in c.args.nodes.now) (group_in c.step.new.self) c.args.now node thread c.step.result
           c.step.ensures.does);
     }
 
@@ -58,8 +59,8 @@ returns-in-Try g c =
       table = c.try_end.ensures.table;
       group = c.try_end.ensures.group;
       collects = subst (λ (call : CollectiveText).
-          Collects (job_in meaning c.args.self.now.world) (kept c.args.self.now) (asks c.args.now node thread call)
-          (answers.End c.try_end.result) (kept c.try_end.new.self)) (sym c.in-Try.is)
-          (end_collects meaning (kept c.args.self.now) (kept c.try_end.new.self) c.args.now node thread c.in-Try.dest c.try_end.result
+          Collects (job_in meaning c.args.nodes.now.world) (group_in c.args.nodes.now) (asks c.args.now node thread call)
+          (answers.End c.try_end.result) (group_in c.try_end.new.self)) (sym c.in-Try.is)
+          (end_collects meaning (group_in c.args.nodes.now) (group_in c.try_end.new.self) c.args.now node thread c.in-Try.dest c.try_end.result
           c.try_end.ensures.does);
     }

@@ -1,5 +1,4 @@
 use Rattle.std.proofs.Common.{◌<◌, length, ap, ◌∙◌, arith}
-use Rattle.std.specs.Prelude.{slice_set}
 use Rattle.handler_rules.specs.Runs.{Meaning}
 use Rattle.node_caller.specs.Sites.{Site}
 use Rattle.world_caller.specs.Wholes.{WorldWhole}
@@ -8,7 +7,7 @@ use Rattle.gas_collectives.specs.Starts.{StartAsked}
 use Rattle.collective_group.specs.GroupState.{GroupState}
 use Rattle.collective_group.proofs.Nodes.{at_place, group_set}
 use Rattle.collective_group.proofs.Starting.{start_came, start_does}
-use Rattle.world_run.proofs.nodes.Nodes.start.Goals as goal
+use Rattle.collective_group.proofs.world_nodes.WorldNodes.start.Goals as goal
 
 pub start-requires : goal.start-requires
 start-requires g c =

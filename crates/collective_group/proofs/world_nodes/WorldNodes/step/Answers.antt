@@ -7,7 +7,7 @@ use Rattle.collective_group.specs.GroupState.{GroupState}
 use Rattle.collective_group.proofs.Nodes.{at_place, group_set}
 use Rattle.collective_group.proofs.Starting.{site_in}
 use Rattle.collective_group.proofs.Stepping.{step_does, steps_came}
-use Rattle.world_run.proofs.nodes.Nodes.step.Goals as goal
+use Rattle.collective_group.proofs.world_nodes.WorldNodes.step.Goals as goal
 
 pub step-requires : goal.step-requires
 step-requires g c =

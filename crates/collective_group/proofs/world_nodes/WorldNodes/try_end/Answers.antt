@@ -9,7 +9,7 @@ use Rattle.collective_group.specs.GroupState.{GroupState}
 use Rattle.collective_group.proofs.Ending.{after_calls, end_came, end_does, long_at}
 use Rattle.collective_group.proofs.Nodes.{at_place, group_set}
 use Rattle.collective_group.proofs.Starting.{site_in}
-use Rattle.world_run.proofs.nodes.Nodes.try_end.Goals as goal
+use Rattle.collective_group.proofs.world_nodes.WorldNodes.try_end.Goals as goal
 
 pub try_end-requires : goal.try_end-requires
 try_end-requires g c =
