@@ -66,7 +66,7 @@ abbrev pub DoesStart : Meaning → GroupState → GroupEvent → StartAnswer →
 DoesStart meaning old event answer new =
     ForItsGroups old (λ area group most. StartsOf meaning old area group most event answer new)
 
--- a step that tries all nodes; where memory ran out, the step that tries those before the one where it did
+-- a step that tries all nodes; where memory ran out, a step that tries only some first nodes
 abbrev pub StepsOf : Meaning → GroupState → Area → Group → (ℕ → ℕ) → (ℕ → GroupEvent) → StepAnswer → GroupState
     → Type 0
 StepsOf meaning old area group most trying step_answers.NoMemory new =

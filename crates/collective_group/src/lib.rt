@@ -1,9 +1,10 @@
 //! Groups: worlds of endpoints whose nodes run collectives, and what their calls are by the laws (`collective_laws`).
 //!
 //! - `WorldNodes` is a world, and how far each node is with its collectives. Its calls are the events of the groups of
-//!   the laws: the answer is the one of the event, and the code stands for what the event leaves [`does`], of each group
-//!   for which it stood (`specs/Standing.antt`). Where memory ran out, `specs/Standing.antt` says which of these it is.
-//! - `Group` is such nodes whose collectives are there, and which nobody else changes.
+//!   the laws [`does`], of each group for which it stood. The answer is the one of the event, and the code stands for
+//!   what the event leaves. `specs/Standing.antt` says which event it is where memory ran out.
+//! - `Group` is such nodes that all have their collectives, and that nobody else changes. Its three calls of collectives
+//!   have `does` too. `Group::event` is an event of the world, and leaves the collectives as they are.
 //! - Each history of the group, which is the list of its events from its opening on, goes on by the call's event
 //!   [`history`] (`specs/Histories.antt`).
 //! - `Group::coll_end` carries the law of results as a clause [`law`: `TellsOfHistory`]: whatever happened to the group

@@ -26,8 +26,8 @@ pub struct WorldNodes {
 impl WorldNodes {
     /// `Collectives::start` of a node, by its thread at the time `now`, with the bytes at `from`.
     ///
-    /// The answer is that of the group's start, in the order that stands there; it never lacks memory but where
-    /// `NoMemory` comes, and then nothing changed.
+    /// The answer is that of the group's start, in the order of `Collectives::start`. Where `NoMemory` comes nothing
+    /// changed.
     pub fn start<H: Handlers>(
         &mut self,
         handlers: &H,
@@ -57,8 +57,8 @@ impl WorldNodes {
 
     /// `Collectives::step` of a node, by its thread at the time `now`.
     ///
-    /// The answer is that of the group's step which tries all nodes. Where `NoMemory` comes it did what the step does that
-    /// tries those before the node at whose request memory ran out.
+    /// The answer is that of the group's step which tries all nodes. Where `NoMemory` comes it did what a step does that
+    /// tries only some first nodes.
     pub fn step<H: Handlers>(
         &mut self,
         handlers: &H,
@@ -87,7 +87,7 @@ impl WorldNodes {
 
     /// `Collectives::try_end` of a node, by its thread at the time `now`. Its result goes to `dest`.
     ///
-    /// The answer is that of the group's try, in the order that stands there; `NoMemory` never comes.
+    /// The answer is that of the group's try, in the order of `Collectives::try_end`. `NoMemory` never comes.
     pub fn try_end<H: Handlers>(
         &mut self,
         handlers: &H,

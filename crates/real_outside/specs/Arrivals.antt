@@ -28,7 +28,8 @@ Bound = ℕ × ℕ × ℕ
 abbrev pub FindsSender : List IpAddr → Bound → SocketAddr → Option ℕ → Type 0
 FindsSender hosts bound from peer = FindsPeer hosts bound.2 bound.1 bound.0 from peer
 
--- what ends a look after so many strays: the datagram of a peer, which is in the buffer; an error; or the 64th stray
+-- what ends a look after so many strays: the datagram of a peer, which is in the buffer; an error; or the 64th stray,
+-- which is told as an error of the kind `WouldBlock`
 abbrev pub EndsLook : List IpAddr → Bound → (buf : List ℕ) → (strays : ℕ) → Result (ℕ × ℕ) Error
     → List Arrival → Type 0
 EndsLook hosts bound buf strays (Ok got) last =

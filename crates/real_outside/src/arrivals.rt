@@ -36,8 +36,8 @@ pub struct Look {
     pub found: io::Result<(usize, u16)>,
 }
 
-/// Takes the first datagram that a peer sent of the node `bound`, by its rank, the number of nodes and the port of rank
-/// 0. The strays before it are dropped, 64 at most.
+/// Takes the first datagram from a peer of a node. `bound` is that node's rank, the number of nodes, and the port of
+/// rank 0. At most 64 strays before it are dropped.
 pub fn take_first<A: Arrivals>(
     arrivals: &mut A,
     buf: &mut [u8],

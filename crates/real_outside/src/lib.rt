@@ -11,8 +11,8 @@
 //!   (`IsLoss`).
 //! - `Hosts`: which hosts a text names (`NamesHosts`), the address of the node of a rank (`IsAddress`), and which node is
 //!   the peer at an address (`FindsPeer`).
-//! - `take_first`: of what arrives, the first datagram of a peer is taken; the strays before it are counted, and 64 are
-//!   dropped at most (`TakesFirst`). What arrives at a socket is its own.
+//! - `take_first` takes the first datagram of a peer, unless an error or 64 strays come before it. The strays are counted
+//!   (`TakesFirst`). A socket doesn't tell what arrives at it.
 //! - `SystemClock` meets `Clock` [`asked`, `said`]: it counts how often it was asked, and tells what it said last.
 //! - `SocketWaiter` meets `Waiter`, which promises nothing.
 //! - `ProcessSpawner` meets `Spawner` [`output`, `later`, `cause`]: where a child ended, bytes within the limit were

@@ -74,12 +74,12 @@ RefusesHostsText sets texts why =
     sets (codes "GASNET_HOSTS") (Err why)
     ⊎ (sets (codes "GASNET_HOSTS") (Ok None) × RefusesHostsFile sets texts why)
 
--- the text of the hosts can't be had, or names none; or memory ran out
+-- the text of the hosts can't be had, or names none; or memory ran out for what it names
 abbrev pub RefusesHosts : {H : Type 0} → Variables → Texts → (names : List ℕ → Option H → Type 0) → Refusal → Type 0
 RefusesHosts sets texts names why =
     RefusesHostsText sets texts why
     ⊎ (((text : String Global) × IsHosts sets texts (Some text) × names (string_bytes text) None × (why ≡ NoHosts))
-    ⊎ (why ≡ NoMemory))
+    ⊎ ((text : String Global) × IsHosts sets texts (Some text) × (why ≡ NoMemory)))
 
 -- the text of a file of a key, which no other than its owner may use
 pub record IsKeyText (files : KeyFiles) (path : List ℕ) (text : String Global) : Type 0 where
@@ -95,13 +95,13 @@ RefusesKeyText files path why =
     × (((bit_and file.mode 63 ≢ 0) × (why ≡ OpenKeyFile))
     ⊎ ((bit_and file.mode 63 ≡ 0) × (file.text ≡ None) × (why ≡ NoKeyFile))))
 
--- the bytes of a key are those whose digits its file has between spaces
+-- the bytes of a key are those whose digits its file has between white space
 pub record IsKey (files : KeyFiles) (path : List ℕ) (secret : List ℕ) : Type 0 where
   pub text : String Global
   pub is_text : IsKeyText files path text
   pub decodes : decode_sized (trim (string_bytes text)) 32 ≡ Ok secret
 
--- the text of the file of a key can't be had, or has no digits of a key between spaces
+-- the text of the file of a key can't be had, or has no digits of a key between white space
 abbrev pub RefusesKey : KeyFiles → List ℕ → Refusal → Type 0
 RefusesKey files path why =
     RefusesKeyText files path why

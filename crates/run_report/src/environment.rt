@@ -106,7 +106,8 @@ fn hosts_text<E: Environment>(from: &E) -> Result<Option<String>, Refusal>
 ///
 /// # Errors
 ///
-/// A `Refusal` where a variable can't be used, or its text is no list of addresses.
+/// A `Refusal` where a variable can't be used, the file can't be read, the text is no list of addresses, or memory ran
+/// out for it.
 pub fn hosts_told<E: Environment>(alloc: Global, from: &E) -> Result<E::Hosts, Refusal>
     ensures told { IfOk result (AreHosts (E.sets from.now) (E.lists from.now) E.names E.local) }
     ensures refused { IfErr result (RefusesHosts (E.sets from.now) (E.lists from.now) E.names) }

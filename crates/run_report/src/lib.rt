@@ -19,9 +19,10 @@
 //!   `WatchedWriter` tell what the reader or the writer behind tells, and `CountedSpawner` what the spawner behind tells.
 //!   It keeps what children gave [`KeepsOutput`].
 //! - `Command`: its words, and what is kept of its run. Its input is read again where it is needed [`IsReadAgain`].
-//! - `hosts_told` and `settings_told` [`AreHosts`, `IsSecret`, `IsSetOne`]: what the environment sets, by what its
-//!   variables and files were found to hold, each under its name. `Refusal` has the text, the line and the exit status
-//!   of what is refused. A key is the 64 hexadecimal digits of a file that its owner alone may use, and nothing else.
+//! - `hosts_told` and `settings_told` [`told`: `AreHosts`; `secret`: `IsSecret`; `steps`: `IsSetOne`; `refused`:
+//!   `RefusesHosts`, `RefusesSettings`]: what the environment sets, or why it is refused, by what its variables and files
+//!   were found to hold, each under its name. `Refusal` has the text, the line and the exit status of what is refused. A
+//!   key is the 64 hexadecimal digits of a file that its owner alone may use. White space may stand around them.
 //! - `message_of` [`IsMessageOf`, `AreNoMessage`]: the message that a datagram spells, or that it spells none.
 //!
 //! No clause says that the system told a person anything, nor the system's own texts of errors.

@@ -32,7 +32,8 @@ IsBad new bytes line reason =
     IsAtEnd new × (job_of bytes ≡ Err (record { line = line; why = reason })) × refusals.Means bytes line reason
     × ((job : JobState) → JobText job bytes → ⊥)
 
--- it was read past the MAX_JOB_BYTES; or to its end, and its bytes are no job's text, by this line and for this reason
+-- more bytes were read than a job's text may have; or it was read to its end, and its bytes are no job's text, by this
+-- line and for this reason
 pub record ReadsNoJob (old new : Option (List ℕ)) (line : ℕ) (reason : LineWhy) : Type 0 where
   pub bytes : List ℕ
   pub read : Consumes old new bytes

@@ -1,5 +1,5 @@
 -- A call for the collectives of a node, as an event of the group.
-use Rattle.std.proofs.Common.{◌≡◌, ℕ, true, false, true≢false, refl, sym, ap}
+use Rattle.std.proofs.Common.{◌≡◌, ℕ, true≢false, ap}
 use Rattle.handler_rules.specs.Runs.{Meaning}
 use Rattle.gas_world.specs.Events.{job_in}
 use Rattle.collective_area.specs.declared.shape.Shape.{Shape}

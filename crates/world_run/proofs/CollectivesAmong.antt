@@ -1,11 +1,11 @@
 -- The calls of collectives of a node that is there are events of the world.
-use Rattle.std.proofs.Common.{◌≡◌, ℕ, zero, suc, ◌<◌, Bool, true, false, List, [], ◌∷◌, map, Option, Some, None}
+use Rattle.std.proofs.Common.{ℕ, zero, suc, ◌<◌, Bool, true, false, List, [], ◌∷◌, map, Option, Some, None}
 use Rattle.std.specs.Prelude.{if◌then◌else◌}
 use Rattle.raw_segment.specs.Image.{Write}
 use Rattle.datagram_grammar.specs.Parameters.{Parameters}
 use Rattle.plain_world.specs.World.{Asks, Does, Timed, world_after, world_answer}
 use Rattle.endpoint_rules.specs.CoreCalls.{Poll}
-use Rattle.endpoint_rules.specs.EndpointRules.{OnCore, OtherCall, Records, timed}
+use Rattle.endpoint_rules.specs.EndpointRules.{OnCore, OtherCall, timed}
 use Rattle.gas_world.specs.Settling.{WorldJob}
 use Rattle.gas_world.proofs.Among.{AreAmong}
 use Rattle.collective_area.specs.Area.{Area}

@@ -1,5 +1,5 @@
 -- The run of a job among its nodes, which are at the opening.
-use Rattle.std.proofs.Common.{◌≡◌, ℕ, List, Option, refl, sym, subst, subst₂}
+use Rattle.std.proofs.Common.{◌≡◌, List, Option, refl, sym, subst, subst₂}
 use Rattle.datagram_grammar.specs.Parameters.{Parameters}
 use Rattle.gas_outside.specs.Buffered.{GathersAll, Outbox}
 use Rattle.gas_outside.specs.declared.writing.Wrote.{Wrote}

@@ -1,11 +1,11 @@
 -- The nodes of a run, as the code keeps them.
-use Rattle.std.proofs.Common.{◌≡◌, ℕ, List, true, subst, sym, ◌∙◌, ap}
+use Rattle.std.proofs.Common.{◌≡◌, List, subst, sym, ◌∙◌, ap}
 use Rattle.datagram_grammar.specs.Parameters.{Parameters}
 use Rattle.gas_world.specs.WorldState.{WorldState}
 use Rattle.gas_collectives.specs.CollectivesState.{CollectivesState}
 use Rattle.collective_group.specs.GroupState.{AreAt, GroupState, IsGroup}
 use Rattle.job_text.specs.declared.job.Job.{Job as JobState}
-use Rattle.world_run.specs.ScheduleRun.{GroupStood, HaveCollectives, IsOfSameJob, IsOfSameNodes, Stood}
+use Rattle.world_run.specs.ScheduleRun.{GroupStood, IsOfSameNodes, Stood}
 
 -- they are those of another world with the same settings
 pub same_group : (old new : WorldState) (nodes : List CollectivesState) → new.settings ≡ old.settings

@@ -1,5 +1,5 @@
 -- What a line that ends a collective tells.
-use Rattle.std.proofs.Common.{◌≡◌, ℕ, zero, suc, ◌+◌, ◌<◌, List, [], ◌∷◌, ◌++◌, map, Some, refl, sym, ap, subst, ◌∙◌, arith}
+use Rattle.std.proofs.Common.{◌≡◌, ℕ, zero, suc, ◌+◌, List, [], ◌∷◌, ◌++◌, map, Some, refl, sym, ap, ◌∙◌, arith}
 use Rattle.std.proofs.Common.{codes, decimal}
 use Rattle.std.specs.List.{slice_get}
 use Rattle.std.proofs.lemmas.Option.{same_Some}
@@ -10,9 +10,9 @@ use Rattle.gas_world.specs.Settling.{WorldJob}
 use Rattle.collective_area.specs.Area.{Area}
 use Rattle.gas_collectives.specs.declared.answers.EndAnswer.{EndAnswer}
 use Rattle.gas_collectives.specs.declared.answers.EndAnswer.TheVariants as ended
-use Rattle.collective_laws.specs.Groups.{AreGroupEvents, Group, GroupEvent, OfEnd, Other, does_end, group_after, group_does}
+use Rattle.collective_laws.specs.Groups.{Group, GroupEvent, OfEnd, Other, does_end, group_after, group_does}
 use Rattle.collective_laws.specs.Groups.{opening_group}
-use Rattle.collective_laws.specs.CollectiveLaws.{CollectivesHold, EndsOk}
+use Rattle.collective_laws.specs.CollectiveLaws.{CollectivesHold}
 use Rattle.job_text.specs.JobReading.{lines_of}
 use Rattle.step_text.specs.declared.steps.CollectiveText.TheVariants as text
 use Rattle.job_text.specs.declared.job.Job.{Job as JobState}
@@ -21,7 +21,7 @@ use Rattle.step_text.specs.declared.steps.ScheduledEvent.TheVariants as schedule
 use Rattle.step_text.specs.declared.steps.TimedEvent.{TimedEvent}
 use Rattle.node_script.specs.CollectiveWords.{ended_words}
 use Rattle.text_lines.specs.LineTexts.{Line}
-use Rattle.world_run.specs.RunLaws.{ResultsHold, TellsWords, run_steps, steps_at, steps_before}
+use Rattle.world_run.specs.RunLaws.{ResultsHold, run_steps, steps_at, steps_before}
 use Rattle.world_run.specs.RunText.{answer_lines, end_lines, line_words, run_most, run_records}
 use Rattle.world_run.specs.Schedules.{Nodes, line_events, line_group, nodes_after, nodes_of, opening_nodes, world_job}
 

@@ -6,7 +6,7 @@ use Rattle.gas_outside.specs.declared.writing.Wrote.{Wrote}
 use Rattle.handler_rules.specs.Runs.{Meaning}
 use Rattle.plain_world.specs.World.{Timed, run, world_answer, world_after}
 use Rattle.plain_world.specs.MostHeld.{most_after}
-use Rattle.endpoint_rules.specs.EndpointRules.{OtherCall, Records, RecordsEvent, timed, transition}
+use Rattle.endpoint_rules.specs.EndpointRules.{OtherCall, RecordsEvent, timed, transition}
 use Rattle.gas_world.specs.WorldTold.{world_told}
 use Rattle.gas_world.specs.Events.{ForItsRecords, StepsInWorld, job_in}
 use Rattle.gas_world.specs.WorldState.{WorldState}
@@ -34,7 +34,7 @@ use Rattle.world_run.specs.RunText.{node_of_event, world_words, event_words, wor
 use Rattle.world_run.specs.ScheduleRun.{StandsAfter, RunStage, Plan, begin_plan, event_plan, settle_plan}
 use Rattle.world_run.specs.ScheduleRun.{planned, RunsPlan, RunsLine, NodesStage, CollectiveAsked, Collects, is_lacking}
 use Rattle.world_run.specs.ScheduleRun.{WritesText, answer_text}
-use Rattle.world_run.specs.LinesWritten.{LinesUpTo, SaysLines, OnDone, said_of}
+use Rattle.world_run.specs.LinesWritten.{LinesUpTo, SaysLines, said_of}
 use Rattle.world_run.specs.declared.said.Said.{Said}
 use Rattle.world_run.specs.declared.said.Said.TheVariants.{Done, NoMemory}
 use Rattle.world_run.proofs.Halfway.{Halfway, Stand, halfway_none, halfway_more, halfway_all}

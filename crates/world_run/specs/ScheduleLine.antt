@@ -1,5 +1,5 @@
 -- What a line of a schedule gives.
-use Rattle.std.specs.Prelude.{ℕ, ◌≡◌, ◌<◌, true, Option, Some, None, is_some}
+use Rattle.std.specs.Prelude.{◌≡◌, ◌<◌, true, Option, Some, None, is_some}
 use Rattle.job_text.specs.declared.job.CollectArea.{CollectArea}
 use Rattle.datagram_grammar.specs.Parameters.{Parameters}
 use Rattle.plain_world.specs.World.{IsAmong}

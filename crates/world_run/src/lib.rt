@@ -7,8 +7,9 @@
 //! - **What a line gives** (`line_at`): the event, the transfer, the call of collectives or the rounds of a line of the
 //!   schedule (`IsLine`), with each `cN` read from its node's cells in the world; none exactly where there is no such
 //!   line.
-//! - **Collectives** (`WorldNodes`): where the job has them, its nodes run as a group of `collective_laws`; a call of a line
-//!   is an event of the group, answered as the group answers [`collects`: `Collects`].
+//! - **Collectives** (`collect`, over `WorldNodes` of `collective_group`): where the job has them, its nodes run as a
+//!   group of `collective_laws`. A call of a line is an event of the group, answered as the group answers [`collects`:
+//!   `Collects`].
 //! - **How a run ends** [`run`: `RunEnds`]: all its lines went into the sink, and the world that it gives stands for
 //!   the end of the run; or the sink failed, and a front of their text went in; or memory ran out, and whole lines of
 //!   them did.

@@ -16,3 +16,9 @@ returns-clause-refused g c =
       rw c.in-None.is at names,
       refl,
     ))
+
+pub returns-in_err-hosts-clause-refused : goal.returns-in_err-hosts-clause-refused
+returns-in_err-hosts-clause-refused g c =
+    let residual = c.from_residual-in_err-hosts in
+    let failed = err_from_is_err_and residual.result residual.ensures.1 in
+    rw (failed.1, failed.2) (inr (inr (c.in-Some.text, rw c.in-Some.is at c.in_ok-text.ensures.told, refl)))

@@ -3,7 +3,6 @@ use Rattle.handler_rules.specs.Runs.{Meaning}
 use Rattle.plain_world.specs.World.{run}
 use Rattle.plain_world.specs.MostHeld.{most_after}
 use Rattle.endpoint_rules.specs.EndpointRules.{Records}
-use Rattle.gas_world.specs.Events.{job_in}
 use Rattle.gas_world.specs.Stands.{WorldStands}
 use Rattle.gas_world.specs.WorldState.{WorldState}
 use Rattle.node_caller.specs.Making.{whole_after}
@@ -11,10 +10,9 @@ use Rattle.node_caller.specs.Sites.{Site, ThreadCall, job_at}
 use Rattle.world_caller.specs.Wholes.{WorldWhole, whole_then}
 use Rattle.world_caller.specs.contracts.at_node.AtNodeCaller.TheImpl.{ghosts}
 use Rattle.gas_strided.specs.Beginning.{BeginCall, calls_made}
-use Rattle.gas_strided.specs.Begins.{Begins}
 use Rattle.gas_strided.specs.declared.shapes.Vis.{Vis}
 use Rattle.world_run.specs.ScheduleRun.{IsOfSameJob}
-use Rattle.world_run.specs.Schedules.{begin_answer, begin_asked, begin_events, call_events}
+use Rattle.world_run.specs.Schedules.{begin_asked, call_events}
 use Rattle.world_run.proofs.run.begin_pieces.Goals as goal
 
 -- the world that is left is the one that the caller has in the end
