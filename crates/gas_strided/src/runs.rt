@@ -169,7 +169,7 @@ fn narrowed(alloc: Global, settings: &Settings, runs: &[Run]) -> Result<Vec<Piec
     requires { All (λ run. IsInside settings.now (piece_in run)) runs.now }
     ensures { IfOk result (λ pieces. pieces.items ≡ map piece_in runs.now) }
 {
-    // That there is a node, and so a place for a piece, is known where the settings are read.
+    // Reading the settings gives the proof that there is a node, and so a place for a piece.
     let _ = settings.nodes();
     let mut pieces = Vec::with_capacity(alloc, runs.len())?;
     for run in runs {

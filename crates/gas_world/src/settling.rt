@@ -35,7 +35,7 @@ impl World {
             self.old self.new) }
     {
         for turn in 0..rounds {
-            // The rounds are alike: their number stands in the loop's invariant alone.
+            // Only the loop's invariant speaks of a round's number.
             let _ = turn;
             self.round(handlers, now)?;
         }

@@ -125,7 +125,7 @@ impl World {
             (H.meaning handlers.now) }
         ensures barrier { BarrierHolds self.new.settings self.new.table (H.meaning handlers.now) }
     {
-        // That the settings stand is known where a field of them is read.
+        // Reading a field gives the proof the invariant of the settings.
         let _ = &self.settings;
         self.step_as_recorded(handlers, now, event)
     }

@@ -1,5 +1,5 @@
 //! Kinds of calls, of implicit operations and of collectives, roles, and operations of remote atomics, as words of a
-//! line: the one place in code that has these words.
+//! line. Reading and printing have these words from here.
 
 ghost use Rattle.line_forms.specs.Forms.{Collective, Implicit, Kind, Operation, Role as RolePart};
 ghost use Rattle.line_forms.specs.Forms.{part_at};

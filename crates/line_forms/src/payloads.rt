@@ -14,7 +14,7 @@ use text_lines::{
     LineBytes, MAX_WORD_BYTES, Miss, Other, bytes_of, is_name, name_of, number_of, spaced, starts,
 };
 
-// One byte more than a payload may have: a job can have a payload that is too long.
+// A word may have one byte more than a payload. So a job can say a payload that is too long.
 const _: () = prove!(MAX_WORD_BYTES == MAX_PAYLOAD + 1);
 
 /// Bytes behind a space.

@@ -153,8 +153,8 @@ impl Barrier {
         }
     }
 
-    /// Hears a note that has come (profile). One of the present phase or the next one is kept, also before the local
-    /// notify; any other one is old and changes nothing.
+    /// Hears a note that has come (profile). One of the present phase or the next one is kept, also before this node's
+    /// own notify; any other one is old and changes nothing.
     pub fn heard(&mut self, note: &BarrierNote)
         ensures stands { ForItsBarrierRecord self.old (λ nodes me kept.
             BarrierStands nodes me self.new (hear kept note.now)) }
