@@ -1,6 +1,7 @@
 #!/bin/bash
 # Runs the tests: tests/run.sh [WORD], those whose name has the word. Each has a time limit, and a log in out/logs.
 # Nothing is promised of time, so a test that fails is run once more, with a line that says so; the last line counts those.
+# A test whose own check failed, which is status 1, isn't.
 # GASNET_TEST_QUICK=1 leaves out the loss of 10 % and the eight nodes.
 cd "$(dirname "$0")/.." || exit 2
 word=${1:-}
@@ -29,9 +30,9 @@ check() {
     local name=$1 status=$2 pattern=$3
     shift 3
     wanted "$name" || return
-    local log="out/logs/${name//[ \/]/_}.log" begun=$(($(date +%s%N) / 1000000)) outcome
+    local log="out/logs/${name//[ \/]/_}.log" begun=$(($(date +%s%N) / 1000000)) outcome got
     try_once "$@"
-    if [ "$outcome" != ok ]; then
+    if [ "$outcome" != ok ] && [ "$got" != 1 ]; then
         repeated=$((repeated + 1))
         echo "again   $name: $outcome"
         mv "$log" "$log.first"
@@ -40,10 +41,10 @@ check() {
     tell "$name" "$begun" "$outcome" "$log"
 }
 
-# try_once COMMAND..: runs it within the limit into `log`, and sets `outcome` by `status` and `pattern`.
+# try_once COMMAND..: runs it within the limit into `log`, and sets `got`, its status, and `outcome` by `status` and `pattern`.
 try_once() {
     timeout -k 5 "$limit" "$@" >"$log" 2>&1
-    local got=$?
+    got=$?
     outcome=ok
     [ "$got" = "$status" ] || outcome="status $got where $status is wanted"
     [ "$outcome" = ok ] && [ -n "$pattern" ] && ! grep -q -e "$pattern" "$log" && outcome="no '$pattern' in its output"

@@ -8,8 +8,15 @@
 /* Among more images pairs take fewer messages, and of longer parts they send fewer bytes. */
 enum { MOST_IMAGES = 3, MOST_BYTES = 1024 };
 
-bool caf_all_images_take(const struct caf_team *team, size_t length) {
-    return !team->parent && team->size > 1 && team->size <= MOST_IMAGES && length && length <= MOST_BYTES;
+static bool is_of_all(const struct caf_team *team, size_t length) { return !team->parent && team->size > 1 && length; }
+
+bool caf_all_images_reduces(const struct caf_team *team, size_t length) {
+    bool is_short = team->size <= MOST_IMAGES && length <= MOST_BYTES;
+    return is_of_all(team, length) && (is_short || caf_state.is_proved);
+}
+
+bool caf_all_images_broadcasts(const struct caf_team *team, size_t length) {
+    return is_of_all(team, length) && caf_state.is_proved;
 }
 
 /* ---- Waiting for a collective of the endpoint. */
@@ -61,4 +68,8 @@ void caf_all_images_reduce(struct caf_operation *operation, const struct caf_com
         reduce_words(operation, combiner->reduction, part, count);
     else
         reduce_parts(operation, combiner, part, count);
+}
+
+void caf_all_images_broadcast(struct caf_operation *operation, int source, void *bytes, size_t length) {
+    ends(operation, gex_Coll_BroadcastNB(NULL, (gex_Rank_t)source, bytes, bytes, length, 0));
 }

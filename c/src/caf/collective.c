@@ -1,6 +1,6 @@
-/* Collectives of the current team. Short reductions of all images are the endpoint's, where the images are few. Else what is
- * combined goes by messages between pairs, log2 of the members times. Each result is the same at all members, bit by bit: the
- * lower member's part always comes first. */
+/* Collectives of the current team. Some of all images are the endpoint's (all_images.h). Else what is combined goes by messages
+ * between pairs, log2 of the members times. Each result is the same at all members, bit by bit: the lower member's part always
+ * comes first. */
 #include <stdlib.h>
 #include <string.h>
 
@@ -438,12 +438,11 @@ static void reduce_part(struct caf_operation *operation, const struct caf_combin
     size_t size = combiner->type.size, most = block_of(size);
     if (operation->code || !part->length)
         return;
-    if (caf_all_images_take(operation->team, part->length)) {
-        caf_all_images_reduce(operation, combiner, part->bytes, part->count);
-        return;
+    bool is_of_all = caf_all_images_reduces(operation->team, part->length);
+    for (size_t done = 0; done < part->count && !operation->code; done += most, operation->block++) {
+        size_t count = part->count - done < most ? part->count - done : most;
+        (is_of_all ? caf_all_images_reduce : reduce_block)(operation, combiner, part->bytes + done * size, count);
     }
-    for (size_t done = 0; done < part->count && !operation->code; done += most, operation->block++)
-        reduce_block(operation, combiner, part->bytes + done * size, part->count - done < most ? part->count - done : most);
 }
 
 static void reduce(struct caf_combiner *combiner, struct caf_descriptor *array, int result_image, const struct caf_report *report, const char *call) {
@@ -518,6 +517,25 @@ static void meet(struct caf_operation *operation) {
         operation->code = code;
 }
 
+/* All images make the same barriers, also those that know already that one is absent. */
+static void broadcast_by_tree(struct caf_operation *operation, int source, const struct part *part) {
+    for (size_t done = 0; done < part->length; done += BLOCK) {
+        broadcast_block(operation, source, part->bytes + done, part->length - done < BLOCK ? part->length - done : BLOCK);
+        if (++operation->block % AHEAD == 0) /* the source doesn't run ahead of the others for long */
+            meet(operation);
+    }
+    if (operation->sequence % AHEAD == 0)
+        meet(operation);
+    if (!operation->code)
+        operation->code = caf_team_absence(operation->team, operation->sequence);
+}
+
+static void broadcast_to_all(struct caf_operation *operation, int source, const struct part *part) {
+    operation->code = caf_team_absence(operation->team, operation->sequence);
+    if (!operation->code)
+        caf_all_images_broadcast(operation, source, part->bytes, part->length);
+}
+
 void _gfortran_caf_co_broadcast(struct caf_descriptor *array, int source_image, CAF_ERRORS) {
     const struct caf_report report = report_of(stat, errmsg, errmsg_len);
     if (array->dtype.type == CAF_VOID || !is_image(&report, "co_broadcast", source_image, 1)) /* not the tokens of an object */
@@ -525,16 +543,8 @@ void _gfortran_caf_co_broadcast(struct caf_descriptor *array, int source_image, 
     struct caf_operation operation = begin();
     mend_span(array);
     struct part part = part_of(array, true, "co_broadcast");
-    /* All images make the same barriers, also those that know already that one is absent. */
-    for (size_t done = 0; done < part.length; done += BLOCK) {
-        broadcast_block(&operation, source_image - 1, part.bytes + done, part.length - done < BLOCK ? part.length - done : BLOCK);
-        if (++operation.block % AHEAD == 0) /* the source doesn't run ahead of the others for long */
-            meet(&operation);
-    }
-    if (operation.sequence % AHEAD == 0)
-        meet(&operation);
-    if (!operation.code)
-        operation.code = caf_team_absence(operation.team, operation.sequence);
+    bool is_of_all = caf_all_images_broadcasts(operation.team, part.length);
+    (is_of_all ? broadcast_to_all : broadcast_by_tree)(&operation, source_image - 1, &part);
     part_end(&part, !operation.code);
     caf_report_code(&report, operation.code, "co_broadcast");
 }

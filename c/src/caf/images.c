@@ -145,6 +145,14 @@ static void block_quit(void) {
     sigprocmask(SIG_BLOCK, &quit, NULL);
 }
 
+/* Whether a variable is 1, where it may be 0 or 1. */
+static bool is_set(const char *name) {
+    const char *text = gasnet_getenv(name);
+    if (text && strcmp(text, "0") && strcmp(text, "1"))
+        caf_die("%s is '%s': it may be 0 or 1", name, text);
+    return text && *text == '1';
+}
+
 void caf_start(void) {
     if (caf_state.is_started)
         return;
@@ -157,6 +165,7 @@ void caf_start(void) {
     caf_state.me = gasnet_mynode();
     caf_state.images = gasnet_nodes();
     GASNET_SAFE(gasnet_getSegmentInfo(caf_state.segments, caf_state.images));
+    caf_state.is_proved = is_set("GASNET_CAF_PROVED");
     caf_state.is_started = true;
     caf_heap_start(&caf_state.heap, caf_state.segments[caf_state.me].addr, caf_state.segments[caf_state.me].size);
     caf_team_start();

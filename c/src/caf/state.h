@@ -42,6 +42,7 @@ struct caf_state {
     struct caf_token *tokens;     /* all that live */
     struct caf_token *unsettled;  /* coarrays whose bounds aren't known before the next sync all */
     bool is_allocating;           /* an allocate with stat= isn't over: the next sync all is its last part */
+    bool is_proved;               /* GASNET_CAF_PROVED is 1: collectives of all images are the endpoint's, where types allow */
     uint64_t seed;                /* the same on all images */
     uint64_t seeds;               /* the calls of random_init */
 };

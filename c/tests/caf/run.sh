@@ -2,6 +2,7 @@
 # Runs the tests of coarrays: tests/caf/run.sh [WORD], those whose name has the word. Each has a time limit, and a log in
 # out/logs/caf. GASNET_TEST_QUICK=1 leaves out two and eight images.
 # Nothing is promised of time, so a test that fails is run once more, with a line that says so; the last line counts those.
+# A test whose own check failed, which is status 1, isn't.
 cd "$(dirname "$0")/../.." || exit 2
 word=${1:-}
 limit=${GASNET_TEST_LIMIT:-150}
@@ -20,9 +21,9 @@ check() {
     local name=$1 status=$2 pattern=$3
     shift 3
     wanted "$name" || return
-    local log="out/logs/caf/${name//[ \/]/_}.log" begun=$(($(date +%s%N) / 1000000)) outcome
+    local log="out/logs/caf/${name//[ \/]/_}.log" begun=$(($(date +%s%N) / 1000000)) outcome got
     try_once "$@"
-    if [ "$outcome" != ok ]; then
+    if [ "$outcome" != ok ] && [ "$got" != 1 ]; then
         repeated=$((repeated + 1))
         echo "again   caf $name: $outcome"
         mv "$log" "$log.first"
@@ -39,10 +40,10 @@ check() {
     fi
 }
 
-# try_once COMMAND..: runs it within the limit into `log`, and sets `outcome` by `status` and `pattern`.
+# try_once COMMAND..: runs it within the limit into `log`, and sets `got`, its status, and `outcome` by `status` and `pattern`.
 try_once() {
     timeout -k 5 "$limit" "$@" >"$log" 2>&1
-    local got=$?
+    got=$?
     outcome=ok
     [ "$got" = "$status" ] || outcome="status $got where $status is wanted"
     [ "$outcome" = ok ] && [ -n "$pattern" ] && ! grep -q -e "$pattern" "$log" && outcome="no '$pattern' in its output"
@@ -79,6 +80,24 @@ for which in sum words broadcast; do
             bin/cafrun -n 3 out/sanitized/tests/caf/left_waiting "$which" "$how"
     done
 done
+
+# The same where all that may be is a collective of the endpoint.
+export GASNET_CAF_PROVED=1
+for test in collectives failed failed_first stopped; do
+    for n in 2 4; do
+        for loss in 0 20; do
+            check "proved $test n=$n loss=$loss sanitized" 0 "$test: done" env GASNET_DROP="$loss" GASNET_TWICE="$loss" GASNET_SWAP="$loss" \
+                GASNET_SEED="$n" bin/cafrun -n "$n" "out/sanitized/tests/caf/$test"
+        done
+    done
+done
+for how in stops fails; do
+    check "proved left_waiting broadcast $how sanitized" 0 "left_waiting: done" env GASNET_DROP=20 GASNET_SEED=3 \
+        bin/cafrun -n 3 out/sanitized/tests/caf/left_waiting broadcast "$how"
+done
+unset GASNET_CAF_PROVED
+check "proved by a broken variable" 1 "GASNET_CAF_PROVED is 'yes': it may be 0 or 1" env GASNET_CAF_PROVED=yes \
+    bin/cafrun -n 2 out/tests/caf/collectives
 
 # Reductions of long arrays where images have no memory to work in: all of them, or one.
 for n in 3 4; do
