@@ -85,6 +85,7 @@ done
 
 check "large segments" 0 "" env GASNET_MAX_SEGSIZE=100G bin/gasnetrun -n 2 out/tests/large
 check "many nodes" 0 "" bin/gasnetrun -n 64 out/tests/queries
+check "many nodes, collectives" 0 "^6 collectives were right" bin/gasnetrun -n 64 out/tests/collectives 6
 check "strangers are counted" 0 "strays [1-9]" env GASNET_COUNTS=1 bin/gasnetrun -n 2 out/tests/strangers
 
 # Sealed: with one key all goes as without, over a lossy network too; with two keys the nodes don't hear each other.
