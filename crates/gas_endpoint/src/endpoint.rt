@@ -16,14 +16,14 @@ ghost use Rattle.am_core.specs.Kept.{segment_of};
 ghost use Rattle.am_core.specs.Known.{IsLastRun};
 ghost use Rattle.endpoint_rules.specs.EndpointLocal.{nothing_begun};
 ghost use Rattle.endpoint_rules.specs.EndpointRules.{transition};
-ghost use Rattle.endpoint_rules.specs.Called.{meant, called, IsMeantBy};
+ghost use Rattle.endpoint_rules.specs.Called.{HasTarget, meant, called, IsMeantBy};
 ghost use Rattle.endpoint_rules.specs.TransferCalls.{handle_in};
 ghost use Rattle.gas_endpoint.specs.EndpointState.{EndpointStands, ForItsRecord, EndpointSteps, NodeSteps};
 ghost use Rattle.gas_endpoint.specs.EndpointState.{IsNodeOf, MayHappen, MayBeCalled, BytesCome};
 ghost use Rattle.gas_endpoint.specs.EndpointState.{IsTickTarget, RunsNone, WouldAcceptAt};
 ghost use Rattle.gas_endpoint.specs.EndpointState.{IsAnsweredAlways, WouldDeliver};
 ghost use Rattle.gas_endpoint.specs.Parts.{CallSteps, judged_kind};
-ghost use Rattle.gas_endpoint.specs.Sends.{StepSends};
+ghost use Rattle.gas_endpoint.specs.Sends.{NodeSends, StepSends};
 
 use crate::calls::judged_kind;
 use crate::extended::Extended;
@@ -122,6 +122,26 @@ impl Endpoint {
             self.old (transition now event.now result) self.new }
     {
         self.step_as_recorded(handlers, now, event)
+    }
+
+    /// A call of a thread at the time `now`: what `step` does at that event.
+    #[inline(always)]
+    pub fn call<H: Handlers>(
+        &mut self,
+        handlers: &H,
+        now: u64,
+        thread: u16,
+        call: &Call<'_>,
+    ) -> Answer
+        requires { MayBeCalled self.old.core.settings thread call.now }
+        ensures steps { NodeSteps (H.meaning handlers.now) self.old
+            (transition now (called thread call.now) result) self.new }
+        ensures sends { NodeSends (H.meaning handlers.now) self.old
+            (transition now (called thread call.now) result) }
+        ensures quiet { (HasTarget call.now self.old.core.me → ⊥) → (meaning : Meaning) →
+            NodeSteps meaning self.old (transition now (called thread call.now) result) self.new }
+    {
+        self.call_as_recorded(handlers, now, thread, call)
     }
 
     /// The datagram of a slot: None exactly where the peer is no other node, the slot isn't among
@@ -289,9 +309,15 @@ impl Endpoint {
         }
     }
 
-    /// A call of a thread.
+    /// A call of a thread, as the record of the node says it.
     #[inline(always)]
-    fn call<H: Handlers>(&mut self, handlers: &H, now: u64, thread: u16, call: &Call<'_>) -> Answer
+    fn call_as_recorded<H: Handlers>(
+        &mut self,
+        handlers: &H,
+        now: u64,
+        thread: u16,
+        call: &Call<'_>,
+    ) -> Answer
         requires { MayBeCalled self.old.core.settings thread call.now }
         ensures { NodeSteps (H.meaning handlers.now) self.old
             (transition now (called thread call.now) result)
