@@ -1,6 +1,6 @@
 -- What an event does to the endpoint on which it falls, the exchanges of the pair, and the greatest number held.
-use Rattle.std.specs.Prelude.{ℕ, ◌≡◌, ◌≢◌, ◌<◌, ◌==◌, ◌++◌, ◌∷◌, [], List, max, set, None, Some, Bool}
-use Rattle.std.specs.Prelude.{true, false, not, slice_get, ◌⊎◌, Option, is_some}
+use Rattle.std.specs.Prelude.{ℕ, ◌≡◌, ◌≢◌, ◌<◌, ◌++◌, ◌∷◌, [], List, max, set, None, Some, Bool}
+use Rattle.std.specs.Prelude.{true, false, slice_get, ◌⊎◌, Option, is_some}
 use Rattle.node_record.specs.declared.answer.Side.{Side}
 use Rattle.node_record.specs.declared.answer.Side.TheVariants as side
 use Rattle.node_record.specs.declared.answer.SlotRef.{SlotRef}
@@ -28,7 +28,6 @@ use Rattle.endpoint_rules.specs.declared.call.Event.{Event}
 use Rattle.endpoint_rules.specs.declared.call.Event.TheVariants as event
 use Rattle.gas_world.specs.declared.event.WorldEvent.{WorldEvent}
 use Rattle.gas_world.specs.declared.event.WorldEvent.TheVariants as world_event
-use Rattle.gas_world.specs.declared.step.EventScope.{EventScope as Spot}
 use Rattle.endpoint_rules.specs.declared.answer.Answer.{Answer}
 use Rattle.endpoint_rules.specs.declared.answer.Answer.TheVariants as answers
 use Rattle.gas_world.specs.declared.event.WorldAnswer.{WorldAnswer}
@@ -38,20 +37,6 @@ pub record EventScope : Type 0 where
   pub endpoint : EndpointState
   pub exchanges : ExchangesState
   pub most : ℕ
-
--- what is behind the references
-abbrev pub scope_of : Spot → EventScope
-scope_of spot = record {
-  endpoint = spot.endpoint.now;
-  exchanges = spot.exchanges.now;
-  most = spot.most.now;
-}
-
--- they are the same references still
-pub record LendsOn (old new : Spot) : Type 0 where
-  pub endpoint : new.endpoint.ghost_name ≡ old.endpoint.ghost_name
-  pub exchanges : new.exchanges.ghost_name ≡ old.exchanges.ghost_name
-  pub most : new.most.ghost_name ≡ old.most.ghost_name
 
 -- nothing but the room changed
 pub record IsSame (old new : EventScope) : Type 0 where
@@ -380,6 +365,34 @@ IsCallable endpoints (world_event.Call node thread call) =
 IsCallable endpoints (world_event.Request from to number) = Unit {0}
 IsCallable endpoints (world_event.Reply from to number) = Unit {0}
 IsCallable endpoints (world_event.Tick node) = Unit {0}
+
+-- it is a call of a thread or a tick
+abbrev pub IsOwn : WorldEvent → Type 0
+IsOwn (world_event.Call node thread call) = Unit {0}
+IsOwn (world_event.Request from to number) = ⊥
+IsOwn (world_event.Reply from to number) = ⊥
+IsOwn (world_event.Tick node) = Unit {0}
+
+-- what such an event is at its endpoint; of a delivery it isn't asked
+abbrev pub own_event : WorldEvent → Event
+own_event (world_event.Call node thread call) = event.Call thread call
+own_event (world_event.Request from to number) = event.Tick
+own_event (world_event.Reply from to number) = event.Tick
+own_event (world_event.Tick node) = event.Tick
+
+-- it delivers a request
+abbrev pub DeliversRequest : WorldEvent → Type 0
+DeliversRequest (world_event.Call node thread call) = ⊥
+DeliversRequest (world_event.Request from to number) = Unit {0}
+DeliversRequest (world_event.Reply from to number) = ⊥
+DeliversRequest (world_event.Tick node) = ⊥
+
+-- it delivers a reply
+abbrev pub DeliversReply : WorldEvent → Type 0
+DeliversReply (world_event.Call node thread call) = ⊥
+DeliversReply (world_event.Request from to number) = ⊥
+DeliversReply (world_event.Reply from to number) = Unit {0}
+DeliversReply (world_event.Tick node) = ⊥
 
 -- it delivers a message
 abbrev pub IsDelivery : WorldEvent → Type 0

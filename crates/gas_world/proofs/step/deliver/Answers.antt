@@ -21,7 +21,7 @@ returns-then-sender-receiver g c =
     let some : 0 < length ys = omega (arith, split.ensures.back_len, way.receiver) in
     let receiver : EndpointState = get_or ys 0 c.index-back-0.result in
     let sender : EndpointState = get_or xs from c.index-front-sender.result in
-    let new : EndpointState = c.arrive.new.self.endpoint.now in
+    let new : EndpointState = c.arrive.new.endpoint in
     delivers_happens (g.H.Handlers.meaning c.args.context.now.handlers.now)
     (record { endpoints = all; exchanges = c.args.exchanges.now; most = c.args.most.now }) c.args.context.now.now
     c.args.context.now.event.now c.arrive.result _ c.way_of-sender.result receiver new sender c.way_of-sender.ensures
@@ -53,7 +53,7 @@ returns-else-sender-receiver g c =
     let some : 0 < length ys = omega (arith, split.ensures.back_len, way.sender) in
     let receiver : EndpointState = get_or xs to c.index-front-receiver.result in
     let sender : EndpointState = get_or ys 0 c.index-back-0-else-sender-receiver.result in
-    let new : EndpointState = arrived.new.self.endpoint.now in
+    let new : EndpointState = arrived.new.endpoint in
     delivers_happens (g.H.Handlers.meaning c.args.context.now.handlers.now)
     (record { endpoints = all; exchanges = c.args.exchanges.now; most = c.args.most.now }) c.args.context.now.now
     c.args.context.now.event.now arrived.result _ c.way_of-sender.result receiver new sender c.way_of-sender.ensures

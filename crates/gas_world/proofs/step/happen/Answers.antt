@@ -1,4 +1,4 @@
-use Rattle.std.proofs.Common.{rules, ◌≡◌, ◌<◌, get_or, length, sym, subst}
+use Rattle.std.proofs.Common.{rules, ◌<◌, get_or, length, subst}
 use Rattle.std.proofs.lemmas.Option.{slice_get-get_or}
 use Rattle.gas_endpoint.specs.EndpointState.{EndpointState}
 use Rattle.gas_world.specs.EventScopes.{IsBetween}
@@ -15,7 +15,11 @@ returns-in-Tick g c =
     tick_happens (g.H.Handlers.meaning c.args.context.handlers.now)
     (record { endpoints = c.args.endpoints.now; exchanges = c.args.exchanges.now; most = c.args.most.now })
     c.args.context.now node c.args.context.event.now c.args.context.sends c.fall-in-Tick.result was
-    (record { endpoint = c.fall-in-Tick.new.self.endpoint.now; exchanges = _; most = _ })
+    (record {
+      endpoint = c.fall-in-Tick.new.endpoint;
+      exchanges = c.fall-in-Tick.new.exchanges;
+      most = c.fall-in-Tick.new.most;
+    })
     c.in-Tick.is (slice_get-get_or c.args.endpoints.now node c.index-endpoints-node-in-Tick.result low)
     c.fall-in-Tick.ensures.same c.requires.sends
     (search (rules, c.fall-in-Tick.ensures.steps))
