@@ -209,23 +209,26 @@ bytes_happen meaning old new now bytes answer are B S = record {
 
 -- a thread that doesn't poll
 pub still_happens : (meaning : Meaning) (old : EndpointState) (now version : ℕ) (polls : Bool) (got : Option (List ℕ))
-    → polls ≡ false → Happen meaning old (at_once now (before_try version polls got) []) old
-still_happens meaning old now version polls got e =
-    subst (λ (b : Bool). Happen meaning old (at_once now (before_try version b got) []) old) (sym e)
-    (none_happens meaning old now)
+    (slots : List SlotRef) → polls ≡ false → slots ≡ []
+    → Happen meaning old (at_once now (before_try version polls got) slots) old
+still_happens meaning old now version polls got slots e none =
+    subst (λ (l : List SlotRef). Happen meaning old (at_once now (before_try version polls got) l) old) (sym none)
+    (subst (λ (b : Bool). Happen meaning old (at_once now (before_try version b got) []) old) (sym e)
+    (none_happens meaning old now))
 
 -- a thread that polls
 pub both_happen : (meaning : Meaning) (old mid new : EndpointState) (now version : ℕ) (polls : Bool)
-    (got : Option (List ℕ)) (reply tick : Option SlotRef) → polls ≡ true
+    (got : Option (List ℕ)) (reply tick : Option SlotRef) (slots : List SlotRef) → polls ≡ true
+    → slots ≡ option_to_list reply ++ option_to_list tick
     → Happen meaning old (at_once now (comes version got) (option_to_list reply)) mid
     → Happen meaning mid (at_once now (Ticks ∷ []) (option_to_list tick)) new
-    → Happen meaning old
-    (at_once now (before_try version polls got) (option_to_list reply ++ option_to_list tick)) new
-both_happen meaning old mid new now version polls got reply tick e first second =
-    subst (λ (b : Bool). Happen meaning old
+    → Happen meaning old (at_once now (before_try version polls got) slots) new
+both_happen meaning old mid new now version polls got reply tick slots e both first second =
+    subst (λ (l : List SlotRef). Happen meaning old (at_once now (before_try version polls got) l) new) (sym both)
+    (subst (λ (b : Bool). Happen meaning old
     (at_once now (before_try version b got) (option_to_list reply ++ option_to_list tick)) new) (sym e)
     (happen_then meaning old mid new (at_once now (comes version got) (option_to_list reply))
-    (at_once now (Ticks ∷ []) (option_to_list tick)) refl first second)
+    (at_once now (Ticks ∷ []) (option_to_list tick)) refl first second))
 
 -- nothing was got by a thread that doesn't poll
 pub none_got : (got : Option (Bor (List ℕ))) (polls : Bool) → polls ≡ false → (IsSome got → polls ≡ true)

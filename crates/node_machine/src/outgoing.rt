@@ -45,20 +45,8 @@ impl Outgoing {
         }
     }
 
-    /// The messages of a turn: the reply to what was got, the request that the tick sent, and the
-    /// one that the step's call sent, as far as there are such.
-    pub fn of(reply: Option<SlotRef>, tick: Option<SlotRef>, call: Option<SlotRef>) -> Outgoing
-        ensures { result ≡ option_to_list reply ++ option_to_list tick ++ option_to_list call }
-    {
-        let mut outgoing = Outgoing::none();
-        outgoing.add(reply);
-        outgoing.add(tick);
-        outgoing.add(call);
-        outgoing
-    }
-
     /// Puts a message behind the others, if there is one.
-    fn add(&mut self, slot: Option<SlotRef>)
+    pub fn add(&mut self, slot: Option<SlotRef>)
         requires { length self.old < 3 }
         ensures slots { self.new ≡ self.old ++ option_to_list slot }
         ensures few { length self.new ≤ length self.old + 1 }

@@ -1,6 +1,6 @@
 //! The parts of a turn before the try of a step.
 
-ghost use Rattle.std.specs.Prelude.{◌≡◌, ◌++◌, ◌∷◌, [], Option, Some, true, IsSome, option_copied};
+ghost use Rattle.std.specs.Prelude.{◌≡◌, ◌≤◌, ◌∷◌, [], Option, Some, true, IsSome, length, option_copied};
 ghost use Rattle.std.specs.Option.{option_to_list};
 ghost use Rattle.node_record.specs.NodeStep.{Ticks};
 ghost use Rattle.node_runs.specs.Fitting.{AreBytes};
@@ -9,6 +9,7 @@ ghost use Rattle.node_runs.specs.Turn.{before_try, comes};
 ghost use Rattle.script_steps.specs.Tries.{Happen};
 ghost use Rattle.node_machine.specs.Parts.{at_once};
 
+use crate::outgoing::Outgoing;
 use am_core::SlotRef;
 use endpoint_rules::Event;
 use gas_endpoint::Endpoint;
@@ -57,38 +58,27 @@ fn tick<H: Handlers>(endpoint: &mut Endpoint, handlers: &H, now: u64) -> Option<
     endpoint.step(handlers, now, &Event::Tick).sends()
 }
 
-/// The slots of the messages that were sent before a try.
-#[derive(Clone, Copy)]
-pub struct SentBefore {
-    /// Of the reply to what was got.
-    pub reply: Option<SlotRef>,
-    /// Of the request that the tick sent.
-    pub tick: Option<SlotRef>,
-}
-
-/// Where the thread polls, what was got is delivered, and then the node ticks.
+/// Where the thread polls, what was got is delivered, and then the node ticks. Answers what that sent: the reply to what
+/// was got, and the request of the tick, as far as there are such.
 pub fn before_try<H: Handlers>(
     endpoint: &mut Endpoint,
     handlers: &H,
     now: u64,
     polls: bool,
     got: Option<&[u8]>,
-) -> SentBefore
+) -> Outgoing
     requires { IsSome got → polls ≡ true }
     ensures happen { Happen (H.meaning handlers.now) endpoint.old
         (at_once now
-        (before_try endpoint.old.core.settings.version polls (option_copied got.entry))
-        (option_to_list result.reply ++ option_to_list result.tick)) endpoint.new }
+        (before_try endpoint.old.core.settings.version polls (option_copied got.entry)) result)
+        endpoint.new }
     ensures bytes { GotBytes (option_copied got.entry) }
+    ensures few { length result ≤ 2 }
 {
+    let mut outgoing = Outgoing::none();
     if polls {
-        let reply = deliver(endpoint, handlers, now, got);
-        let tick = tick(endpoint, handlers, now);
-        SentBefore { reply, tick }
-    } else {
-        SentBefore {
-            reply: None,
-            tick: None,
-        }
+        outgoing.add(deliver(endpoint, handlers, now, got));
+        outgoing.add(tick(endpoint, handlers, now));
     }
+    outgoing
 }

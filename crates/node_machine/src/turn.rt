@@ -122,11 +122,12 @@ pub fn take_turn<H: Handlers>(
         ) }
     ensures there { AreThere endpoint.new collectives.new }
 {
-    let sent = before_try(endpoint, handlers, turn.now, turn.polls, turn.got);
+    let mut outgoing = before_try(endpoint, handlers, turn.now, turn.polls, turn.got);
     let tried = try_next(endpoint, handlers, collectives, cursor, turn);
+    outgoing.add(tried.sent);
     cursor.go_on(&tried);
     Done {
-        outgoing: Outgoing::of(sent.reply, sent.tick, tried.sent),
+        outgoing,
         ended: tried.ended,
         began: tried.began.is_some(),
     }

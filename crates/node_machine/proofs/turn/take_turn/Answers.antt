@@ -1,5 +1,5 @@
 -- A turn of a thread.
-use Rattle.std.proofs.Common.{◌<◌, refl, subst, sym, ◌++◌, option_copied, option_to_list}
+use Rattle.std.proofs.Common.{◌<◌, refl, subst, sym, option_copied}
 use Rattle.datagram_grammar.specs.Parameters.{Parameters}
 use Rattle.step_text.specs.declared.steps.ScriptStep.{ScriptStep}
 use Rattle.node_runs.specs.Actions.{Progress}
@@ -14,17 +14,17 @@ use Rattle.node_machine.proofs.turn.take_turn.Goals as goal
 pub try_next-tried-requires-clause-thread : goal.try_next-tried-requires-clause-thread
 try_next-tried-requires-clause-thread g c =
     subst (λ (settings : Parameters). c.args.turn.thread < settings.threads)
-    (sym c.before_try-sent.ensures.happen.same.settings) c.requires.thread
+    (sym c.before_try-outgoing.ensures.happen.same.settings) c.requires.thread
 
 pub try_next-tried-requires-clause-said : goal.try_next-tried-requires-clause-said
 try_next-tried-requires-clause-said g c =
     subst (λ (settings : Parameters). CanBeSaid settings (progress_of c.args.cursor.now))
-    (sym c.before_try-sent.ensures.happen.same.settings) c.requires.said
+    (sym c.before_try-outgoing.ensures.happen.same.settings) c.requires.said
 
 pub try_next-tried-requires-clause-there : goal.try_next-tried-requires-clause-there
 try_next-tried-requires-clause-there g c =
-    still_there c.args.endpoint.now c.before_try-sent.new.endpoint c.args.collectives.now
-    c.before_try-sent.ensures.happen.same c.requires.there
+    still_there c.args.endpoint.now c.before_try-outgoing.new.endpoint c.args.collectives.now
+    c.before_try-outgoing.ensures.happen.same c.requires.there
 
 pub returns : goal.returns
 returns g c =
@@ -40,18 +40,17 @@ returns g c =
       got = option_copied c.args.turn.got;
     } in
     let done : Done = record {
-      outgoing = c.of.result;
+      outgoing = c.add.new.self;
       ended = c.try_next-tried.result.ended;
       began = c.is_some.result;
     } in
     record {
       takes = subst (λ (p : Progress ScriptStep).
           TakesTurn meaning (old, progress_of c.args.cursor.now) taken done (new, p)) (sym c.go_on.ensures)
-          (turn_goes meaning old c.before_try-sent.new.endpoint new taken (progress_of c.args.cursor.now)
+          (turn_goes meaning old c.before_try-outgoing.new.endpoint new taken (progress_of c.args.cursor.now)
           c.args.turn.polls
-          (option_to_list c.before_try-sent.result.reply ++ option_to_list c.before_try-sent.result.tick)
-          c.try_next-tried.result done (g.met.H.Handlers.is_lawful c.args.handlers.now)
-          c.before_try-sent.ensures.bytes c.requires.polls c.before_try-sent.ensures.happen
-          c.try_next-tried.ensures.tries c.of.ensures refl c.is_some.ensures);
+          c.before_try-outgoing.result c.try_next-tried.result done (g.met.H.Handlers.is_lawful c.args.handlers.now)
+          c.before_try-outgoing.ensures.bytes c.requires.polls c.before_try-outgoing.ensures.happen
+          c.try_next-tried.ensures.tries c.add.ensures.slots refl c.is_some.ensures);
       there = c.try_next-tried.ensures.there;
     }
