@@ -16,8 +16,8 @@ use Rattle.datagram_grammar.specs.Message.{spelling}
 use Rattle.datagram_grammar.specs.Content.{Content, addressed}
 use Rattle.lists.specs.Update.{update}
 use Rattle.lists.proofs.Update.{slice_get-update, slice_get-update_other, update-Some}
-use Rattle.credit_slots.specs.SlotsState.{SlotState, Vacant, Sealed, PeerState, is_vacant, IsTakenWith, CanClaim}
-use Rattle.credit_slots.specs.Due.{sent_again}
+use Rattle.message_slots.specs.SlotsState.{SlotState, Vacant, Sealed, PeerState, is_vacant, IsTakenWith, CanClaim}
+use Rattle.message_slots.specs.Due.{sent_again}
 use Rattle.node_record.specs.Record.{Request, numbered, change}
 use Rattle.node_record.specs.declared.answer.Asked.TheVariants as asked
 use Rattle.node_record.specs.Requests.{taken, free_slot, is_open, open_in, as_back, sent_at}

@@ -16,15 +16,15 @@ use Rattle.datagram_grammar.specs.Message.{IsMessage, spelling}
 use Rattle.datagram_grammar.specs.Content.{Content, addressed}
 use Rattle.lists.specs.Update.{update}
 use Rattle.lists.proofs.Update.{slice_get-update, slice_get-update_other, length-update}
-use Rattle.credit_slots.specs.SlotsState.{Vacant, Sealed, PeerState, CanClaim, Refuses, IsNew, IsTakenAt, IsTakenWith}
-use Rattle.credit_slots.specs.SlotsState.{new_peer, with_slot, with_slot_changed, with_given_in, slot_at}
-use Rattle.credit_slots.specs.Due.{sent_again}
-use Rattle.credit_slots.proofs.Lookups.{slot_at-given_node, slot_at-slot_node, slot_at-changed_node}
-use Rattle.credit_slots.specs.declared.NoClaim.TheVariants as claims
-use Rattle.reply_slots.specs.RepliesState.{ReplyState, Unused, Kept, last_number, JudgesAt, Judges, with_reply}
-use Rattle.reply_slots.specs.RepliesState.{slot_at as reply_at}
-use Rattle.reply_slots.specs.declared.Judged.{Judged}
-use Rattle.reply_slots.specs.declared.Judged.TheVariants.{New, Duplicate, Stale}
+use Rattle.message_slots.specs.SlotsState.{Vacant, Sealed, PeerState, CanClaim, Refuses, IsNew, IsTakenAt, IsTakenWith}
+use Rattle.message_slots.specs.SlotsState.{new_peer, with_slot, with_slot_changed, with_given_in, slot_at}
+use Rattle.message_slots.specs.Due.{sent_again}
+use Rattle.message_slots.proofs.CreditLookups.{slot_at-given_node, slot_at-slot_node, slot_at-changed_node}
+use Rattle.message_slots.specs.declared.credits.NoClaim.TheVariants as claims
+use Rattle.message_slots.specs.RepliesState.{ReplyState, Unused, Kept, last_number, JudgesAt, Judges, with_reply}
+use Rattle.message_slots.specs.RepliesState.{slot_at as reply_at}
+use Rattle.message_slots.specs.declared.replies.Judged.{Judged}
+use Rattle.message_slots.specs.declared.replies.Judged.TheVariants.{New, Duplicate, Stale}
 use Rattle.handler_rules.specs.declared.table.Entry.{Entry}
 use Rattle.handler_rules.specs.declared.rules.Role.{Role}
 use Rattle.handler_rules.specs.declared.rules.Violation.{Violation}
@@ -39,9 +39,9 @@ use Rattle.node_record.specs.Step.{claim_answer, put, with_local, new_request, w
 use Rattle.am_core.specs.Kept.{Local, IsKept, segment_of, with_writes, nothing_done}
 use Rattle.raw_segment.specs.Image.{Write, AllFit, written_by}
 use Rattle.raw_segment.proofs.Images.{all_fit_none, all_fit-append, image-append}
-use Rattle.hsl_locks.specs.declared.answer.Held.{Held}
-use Rattle.hsl_locks.specs.declared.answer.Owner.TheVariants as owner
-use Rattle.hsl_locks.specs.Locks.{holds}
+use Rattle.handler_rules.specs.declared.lock_answer.Held.{Held}
+use Rattle.handler_rules.specs.declared.lock_answer.Owner.TheVariants as owner
+use Rattle.handler_rules.specs.Locks.{holds}
 use Rattle.am_core.specs.HandlerRuns.{left_by_run}
 use Rattle.node_record.specs.Invariant.{IsOrderly, NodeInvariant}
 use Rattle.am_core.specs.CoreState.{CoreState}

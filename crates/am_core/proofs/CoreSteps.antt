@@ -21,14 +21,14 @@ use Rattle.handler_rules.specs.declared.rules.Role.{Role}
 use Rattle.handler_rules.specs.declared.rules.Fault.{Fault}
 use Rattle.handler_rules.specs.declared.rules.Fault.TheVariants as fault
 use Rattle.handler_rules.specs.declared.message.Which.TheVariants as which
-use Rattle.hsl_locks.specs.declared.answer.Held.{Held}
-use Rattle.hsl_locks.specs.declared.answer.Owner.TheVariants as owner
-use Rattle.hsl_locks.specs.declared.answer.LockFault.{LockFault}
-use Rattle.hsl_locks.specs.declared.answer.LockAnswer.{LockAnswer}
-use Rattle.hsl_locks.specs.declared.answer.LockAnswer.TheVariants as lock_answers
-use Rattle.hsl_locks.specs.declared.answer.UnlockAnswer.TheVariants as unlock_answers
-use Rattle.hsl_locks.specs.declared.answer.UnlockAnswer.{UnlockAnswer}
-use Rattle.hsl_locks.specs.Locks.{holds, lock_answer, after_lock, unlock_answer, after_unlock}
+use Rattle.handler_rules.specs.declared.lock_answer.Held.{Held}
+use Rattle.handler_rules.specs.declared.lock_answer.Owner.TheVariants as owner
+use Rattle.handler_rules.specs.declared.lock_answer.LockFault.{LockFault}
+use Rattle.handler_rules.specs.declared.lock_answer.LockAnswer.{LockAnswer}
+use Rattle.handler_rules.specs.declared.lock_answer.LockAnswer.TheVariants as lock_answers
+use Rattle.handler_rules.specs.declared.lock_answer.UnlockAnswer.TheVariants as unlock_answers
+use Rattle.handler_rules.specs.declared.lock_answer.UnlockAnswer.{UnlockAnswer}
+use Rattle.handler_rules.specs.Locks.{holds, lock_answer, after_lock, unlock_answer, after_unlock}
 use Rattle.raw_segment.specs.Image.{AllFit}
 use Rattle.raw_segment.proofs.Images.{length-image, length-written_by}
 use Rattle.datagram_grammar.specs.Parameters.{Parameters}

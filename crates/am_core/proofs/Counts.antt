@@ -9,8 +9,8 @@ use Rattle.std.proofs.lemmas.List.Sums.{sum_by-cons}
 use Rattle.std.proofs.lemmas.List.{nil_from_length}
 use Rattle.std.proofs.lemmas.Option.{same_Some}
 use Rattle.datagram_grammar.specs.Parameters.{Parameters, credits_of}
-use Rattle.credit_slots.specs.SlotsState.{PeerState, is_vacant, is_taken, taken_count, held_count}
-use Rattle.reply_slots.specs.RepliesState.{ReplyState, run_count, has_run as keeps_run, held_count as kept_count}
+use Rattle.message_slots.specs.SlotsState.{PeerState, is_vacant, is_taken, taken_count, held_count}
+use Rattle.message_slots.specs.RepliesState.{ReplyState, run_count, has_run as keeps_run, held_count as kept_count}
 use Rattle.lists.specs.Sums.{sum_below}
 use Rattle.node_record.specs.Record.{Request, Run, Node}
 use Rattle.node_record.specs.Requests.{taken, unreturned}

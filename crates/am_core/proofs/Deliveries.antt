@@ -9,9 +9,9 @@ use Rattle.datagram_grammar.specs.Message.{Message, IsMessage, Spells, spelling,
 use Rattle.datagram_grammar.specs.Content.{content_of}
 use Rattle.datagram_grammar.specs.Refusals.{first_refusal}
 use Rattle.datagram_grammar.specs.declared.refused.Refused.{Refused}
-use Rattle.credit_slots.specs.SlotsState.{Vacant, with_slot}
-use Rattle.reply_slots.specs.RepliesState.{with_reply}
-use Rattle.reply_slots.specs.declared.Judged.TheVariants as judged
+use Rattle.message_slots.specs.SlotsState.{Vacant, with_slot}
+use Rattle.message_slots.specs.RepliesState.{with_reply}
+use Rattle.message_slots.specs.declared.replies.Judged.TheVariants as judged
 use Rattle.handler_rules.specs.declared.rules.Role.TheVariants as role
 use Rattle.node_record.specs.declared.answer.Why.{Why}
 use Rattle.node_record.specs.declared.answer.Why.TheVariants as why
@@ -32,7 +32,7 @@ use Rattle.datagram_grammar.specs.Parameters.{credits_of}
 use Rattle.am_core.specs.Kept.{Local, start_from, with_writes}
 use Rattle.handler_rules.specs.Runs.{Meaning, IsLawfulMeaning}
 use Rattle.handler_rules.specs.declared.rules.Role.{Role}
-use Rattle.hsl_locks.specs.declared.answer.Held.{Held}
+use Rattle.handler_rules.specs.declared.lock_answer.Held.{Held}
 use Rattle.am_core.specs.WouldDeliver.{WouldAnswer, WouldDeliver, WouldRun}
 use Rattle.am_core.proofs.Landings.{content_fits, StaysInside}
 use Rattle.am_core.specs.ClientRules.{content_refusal, awaited_lock}

@@ -6,7 +6,7 @@ use Rattle.std.specs.List.{slice_get}
 use Rattle.std.proofs.lemmas.Bool.Decides.{nat_tests}
 use Rattle.std.proofs.lemmas.Bool.{cases_Bool, cases_eq, and_parts, not-true}
 use Rattle.std.proofs.lemmas.Option.{same_Some}
-use Rattle.credit_slots.specs.Due.{IsNotAfter}
+use Rattle.message_slots.specs.Due.{IsNotAfter}
 use Rattle.node_record.specs.Record.{Request}
 use Rattle.node_record.specs.Requests.{Due, is_earlier, dues, all_dues, sooner, earliest}
 

@@ -9,10 +9,10 @@ use Rattle.handler_rules.specs.declared.rules.CallKind.TheVariants as call
 use Rattle.handler_rules.specs.LogState.{Logged, notes}
 use Rattle.handler_rules.specs.Runs.{Frame, Meaning, IsLawfulMeaning, IsSpelled, violation, closed, refusal}
 use Rattle.handler_rules.specs.Desks.{At, stage, start_of, noting, judged_at, frame_of, reply_after, buffer_after}
-use Rattle.hsl_locks.specs.declared.answer.Held.{Held}
-use Rattle.hsl_locks.specs.declared.answer.Owner.TheVariants as owner
-use Rattle.hsl_locks.specs.Locks.{holds, without}
-use Rattle.hsl_locks.proofs.Laws.{without_nothing}
+use Rattle.handler_rules.specs.declared.lock_answer.Held.{Held}
+use Rattle.handler_rules.specs.declared.lock_answer.Owner.TheVariants as owner
+use Rattle.handler_rules.specs.Locks.{holds, without}
+use Rattle.handler_rules.proofs.LockLaws.{without_nothing}
 use Rattle.handler_rules.proofs.Laws.{closed-leaving}
 use Rattle.am_core.specs.declared.context.Work.{Work}
 use Rattle.am_core.specs.HandlerContextRuns.{Touched, Ran, run_of, start_on}

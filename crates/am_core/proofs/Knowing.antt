@@ -2,9 +2,9 @@
 use Rattle.std.proofs.Common.{◌≡◌, ◌≢◌, ◌<◌, ℕ, [], Bool, true, false, refl, subst, arith, eq-eqb, ne_eqb}
 use Rattle.std.specs.Prelude.{◌==◌, nat_lt}
 use Rattle.std.proofs.lemmas.Bool.Decides.{nat_tests}
-use Rattle.reply_slots.specs.RepliesState.{JudgesAt, Judges, Kept}
-use Rattle.reply_slots.specs.declared.Judged.{Judged}
-use Rattle.reply_slots.specs.declared.Judged.TheVariants.{New, Duplicate, Stale}
+use Rattle.message_slots.specs.RepliesState.{JudgesAt, Judges, Kept}
+use Rattle.message_slots.specs.declared.replies.Judged.{Judged}
+use Rattle.message_slots.specs.declared.replies.Judged.TheVariants.{New, Duplicate, Stale}
 use Rattle.datagram_grammar.specs.Parameters.{credits_of}
 use Rattle.node_record.specs.Executed.{greatest}
 use Rattle.am_core.specs.CoreState.{CoreState}

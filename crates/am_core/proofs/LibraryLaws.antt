@@ -25,11 +25,11 @@ use Rattle.am_core.specs.ClientRules.{content_refusal, client_refusal, is_handle
 use Rattle.am_core.specs.Library.{library_outcome, library_reply, library_writes, filling, fill_said}
 use Rattle.am_core.specs.CoreStep.{library_fault, client_delivered, delivered_outcome, landed_core, lock_at, start_at}
 use Rattle.am_core.specs.CoreStep.{DeliversMessage, IsNewRequest, IsOurReply, KeepsAnswer, Runs, RunsBy, RunsNew}
-use Rattle.credit_slots.specs.SlotsState.{SlotsState}
+use Rattle.message_slots.specs.SlotsState.{SlotsState}
 use Rattle.am_core.specs.CoreStep.{CanRunReply}
 use Rattle.am_core.specs.CoreStep.{handlers_at, message_refusal, with_client_reply_ran, with_outcome, with_reply_ran}
 use Rattle.am_core.specs.CoreState.{CoreState}
-use Rattle.reply_slots.specs.RepliesState.{RepliesState}
+use Rattle.message_slots.specs.RepliesState.{RepliesState}
 use Rattle.raw_segment.proofs.Images.{length-written_by}
 use Rattle.am_core.proofs.Deliveries.{message_fits}
 use Rattle.am_core.specs.HandlerRuns.{client_outcome, landing, reply_or_ack}

@@ -3,7 +3,7 @@ use Rattle.std.proofs.Common.{◌≡◌, ◌∙◌, ℕ, List, [], ◌∷◌, Op
 use Rattle.std.proofs.Common.{slice_get}
 use Rattle.std.specs.List.{refill}
 use Rattle.std.proofs.lemmas.List.{take_at}
-use Rattle.raw_segment.specs.Blocks.{with_part}
+use Rattle.message_slots.specs.Blocks.{with_part}
 
 -- a part of n bytes that was written as a whole has what was written
 whole_part : (n : ℕ) (old written found : List ℕ) → length written ≡ n → Some (refill n old written) ≡ Some found

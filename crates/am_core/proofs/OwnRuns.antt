@@ -9,9 +9,9 @@ use Rattle.std.proofs.lemmas.Option.{same_Some}
 use Rattle.std.proofs.lemmas.List.{take-append-le, length-append, length-replicate, length-drop, length-take-le}
 use Rattle.datagram_grammar.specs.Parameters.{Parameters}
 use Rattle.datagram_grammar.specs.Content.{Content, code, is_long, spelling}
-use Rattle.hsl_locks.specs.declared.answer.Held.{Held}
-use Rattle.hsl_locks.specs.Locks.{blocked}
-use Rattle.hsl_locks.proofs.Laws.{unblocked_parts}
+use Rattle.handler_rules.specs.declared.lock_answer.Held.{Held}
+use Rattle.handler_rules.specs.Locks.{blocked}
+use Rattle.handler_rules.proofs.LockLaws.{unblocked_parts}
 use Rattle.handler_rules.specs.declared.table.Entry.{Entry}
 use Rattle.handler_rules.specs.declared.message.Reply.{Reply}
 use Rattle.handler_rules.specs.Registered.{entry_at, is_for_replies, serves_replies, locks_in_replies, reply_locks}
@@ -22,8 +22,8 @@ use Rattle.am_core.specs.Landed.{content_at, asked_place, IsLanded}
 use Rattle.node_record.specs.Behaviour.{Asking, Category, Short, Medium, Long, PayloadFrom, Lent, Own}
 use Rattle.am_core.specs.ClientRules.{IsFine, content_by, has_payload, has_place, passes_source, payload_in}
 use Rattle.am_core.specs.ClientRules.{payload_len, said_in}
-use Rattle.hsl_locks.specs.declared.answer.Owner.TheVariants as owner
-use Rattle.hsl_locks.specs.Locks.{holds}
+use Rattle.handler_rules.specs.declared.lock_answer.Owner.TheVariants as owner
+use Rattle.handler_rules.specs.Locks.{holds}
 use Rattle.handler_rules.specs.Runs.{Meaning}
 use Rattle.am_core.specs.declared.context.OwnReply.{OwnReply}
 use Rattle.am_core.specs.HandlerContextRuns.{HandlerContextRun, OwnFrame, Touched, Ran, LeavesTouched, RunsReply}

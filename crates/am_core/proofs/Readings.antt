@@ -4,8 +4,8 @@ use Rattle.std.proofs.Common.{[], ◌∷◌, length, Option, None, Some, refl, s
 use Rattle.std.proofs.Common.{ne_eqb, lt-ltb}
 use Rattle.std.specs.Prelude.{nat_le, nat_lt, option_and_then, count_by, if◌then◌else◌}
 use Rattle.std.specs.Option.{option_map}
-use Rattle.credit_slots.specs.SlotsState.{message_number as request_number, sealed_number_at as request_number_at}
-use Rattle.reply_slots.specs.RepliesState.{message_number as reply_number, kept_number_at as reply_number_at}
+use Rattle.message_slots.specs.SlotsState.{message_number as request_number, sealed_number_at as request_number_at}
+use Rattle.message_slots.specs.RepliesState.{message_number as reply_number, kept_number_at as reply_number_at}
 use Rattle.std.specs.List.{list_any, slice_get, AllByRecursion, IsDistinct}
 use Rattle.std.proofs.lemmas.Bool.{cases_Bool, cases_eq}
 use Rattle.std.proofs.lemmas.List.Recursion.{is_count_by}
@@ -13,9 +13,9 @@ use Rattle.std.proofs.lemmas.Option.{same_Some}
 use Rattle.datagram_grammar.specs.Parameters.{Parameters, credits_of}
 use Rattle.node_record.specs.Credits.{limits_of}
 use Rattle.node_record.specs.Step.{request_slot, reply_slot}
-use Rattle.credit_slots.specs.SlotsState.{SlotState, PeerState, is_vacant, vacant_count, is_exhausted}
-use Rattle.credit_slots.specs.SlotsState.{sealed_message_at as request_bytes_at, message_of as request_of}
-use Rattle.reply_slots.specs.RepliesState.{kept_message_at as reply_bytes_at, message_of as reply_of}
+use Rattle.message_slots.specs.SlotsState.{SlotState, PeerState, is_vacant, vacant_count, is_exhausted}
+use Rattle.message_slots.specs.SlotsState.{sealed_message_at as request_bytes_at, message_of as request_of}
+use Rattle.message_slots.specs.RepliesState.{kept_message_at as reply_bytes_at, message_of as reply_of}
 use Rattle.node_record.specs.declared.answer.SlotRef.{SlotRef}
 use Rattle.node_record.specs.declared.answer.Side.{Side}
 use Rattle.node_record.specs.declared.answer.Side.TheVariants as side

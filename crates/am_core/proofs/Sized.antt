@@ -5,17 +5,17 @@ use Rattle.std.proofs.lemmas.List.{length-replicate}
 use Rattle.std.proofs.lemmas.Option.{slice_get-get_or}
 use Rattle.datagram_grammar.specs.Parameters.{Parameters, AreInRange, credits_of}
 use Rattle.node_record.specs.declared.answer.Side.TheVariants as side
-use Rattle.credit_slots.specs.SlotsState.{SlotsState, SlotState, PeerState, Vacant, IsNew, new_peer}
-use Rattle.credit_slots.specs.SlotsState.{with_slot as with_request_slot}
-use Rattle.credit_slots.specs.SlotsState.{Sealed, CanClaim, slot_count, with_request}
-use Rattle.credit_slots.specs.declared.NoClaim.{NoClaim}
+use Rattle.message_slots.specs.SlotsState.{SlotsState, SlotState, PeerState, Vacant, IsNew, new_peer}
+use Rattle.message_slots.specs.SlotsState.{with_slot as with_request_slot}
+use Rattle.message_slots.specs.SlotsState.{Sealed, CanClaim, slot_count, with_request}
+use Rattle.message_slots.specs.declared.credits.NoClaim.{NoClaim}
 use Rattle.std.specs.Prelude.{Result, Ok, Err, IfOk, OnErr, IfSome, slice_get}
 use Rattle.std.proofs.Common.{◌≡◌, ◌≢◌}
 use Rattle.am_core.specs.CoreState.{CoreState}
-use Rattle.credit_slots.proofs.Shape as requests
-use Rattle.reply_slots.specs.RepliesState.{RepliesState, ReplyState, with_reply, Kept, Unused}
-use Rattle.reply_slots.specs.RepliesState.{IsNew as IsNewReplies}
-use Rattle.reply_slots.proofs.Shape as replies
+use Rattle.message_slots.proofs.CreditShape as requests
+use Rattle.message_slots.specs.RepliesState.{RepliesState, ReplyState, with_reply, Kept, Unused}
+use Rattle.message_slots.specs.RepliesState.{IsNew as IsNewReplies}
+use Rattle.message_slots.proofs.ReplyShape as replies
 use Rattle.am_core.specs.Sizes.{IsSized, AreSlots}
 
 -- where a reply is kept

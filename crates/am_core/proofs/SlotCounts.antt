@@ -7,8 +7,8 @@ use Rattle.std.proofs.lemmas.Option.{slice_get-get_or}
 use Rattle.std.proofs.lemmas.List.{length-take-le, length-set, get_or-set_same, get_or-set_other}
 use Rattle.std.proofs.lemmas.Option.{slice_get_within, same_Some}
 use Rattle.std.specs.Prelude.{All}
-use Rattle.credit_slots.specs.SlotsState.{counts_of}
-use Rattle.credit_slots.proofs.New.{narrow-others}
+use Rattle.message_slots.specs.SlotsState.{counts_of}
+use Rattle.message_slots.proofs.NewCredits.{narrow-others}
 use Rattle.datagram_grammar.specs.Parameters.{Parameters, AreInRange}
 use Rattle.datagram_grammar.proofs.Credits.{few_credits}
 use Rattle.node_record.specs.declared.answer.Side.TheVariants as side

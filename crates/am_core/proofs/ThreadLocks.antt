@@ -3,13 +3,13 @@ use Rattle.std.proofs.Common.{◌≡◌, ℕ, List, [], ◌∷◌, ◌++◌, Opt
 use Rattle.std.proofs.Common.{inl, inr, refl, sym, subst}
 use Rattle.std.specs.Prelude.{◌==◌, filter}
 use Rattle.std.proofs.lemmas.Bool.{cases_Bool}
-use Rattle.hsl_locks.specs.declared.answer.Owner.TheVariants.{Thread, Handler}
-use Rattle.hsl_locks.specs.declared.answer.Held.{Held}
-use Rattle.hsl_locks.specs.declared.answer.LockAnswer.{LockAnswer}
-use Rattle.hsl_locks.specs.declared.answer.LockAnswer.TheVariants as lock_answers
-use Rattle.hsl_locks.specs.declared.answer.LockFault.{LockFault}
-use Rattle.hsl_locks.specs.Locks.{is_of, holds, lock_answer, after_lock, unlock_fault, unlock_answer, after_unlock}
-use Rattle.hsl_locks.proofs.Laws.{after_freed}
+use Rattle.handler_rules.specs.declared.lock_answer.Owner.TheVariants.{Thread, Handler}
+use Rattle.handler_rules.specs.declared.lock_answer.Held.{Held}
+use Rattle.handler_rules.specs.declared.lock_answer.LockAnswer.{LockAnswer}
+use Rattle.handler_rules.specs.declared.lock_answer.LockAnswer.TheVariants as lock_answers
+use Rattle.handler_rules.specs.declared.lock_answer.LockFault.{LockFault}
+use Rattle.handler_rules.specs.Locks.{is_of, holds, lock_answer, after_lock, unlock_fault, unlock_answer, after_unlock}
+use Rattle.handler_rules.proofs.LockLaws.{after_freed}
 use Rattle.std.proofs.lemmas.Bool.{or_parts}
 
 -- of what is left, a handler holds none either

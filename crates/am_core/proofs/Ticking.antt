@@ -8,10 +8,10 @@ use Rattle.std.proofs.lemmas.Bool.Decides.{nat_tests}
 use Rattle.std.proofs.lemmas.Bool.{cases_Bool, cases_eq, cases_lt}
 use Rattle.std.proofs.lemmas.Option.{same_Some}
 use Rattle.datagram_grammar.specs.Parameters.{credits_of}
-use Rattle.credit_slots.specs.SlotsState.{PeerState, slot_at, with_slot_changed}
-use Rattle.credit_slots.specs.Due.{IsDue as SlotsDue}
+use Rattle.message_slots.specs.SlotsState.{PeerState, slot_at, with_slot_changed}
+use Rattle.message_slots.specs.Due.{IsDue as SlotsDue}
 use Rattle.am_core.specs.Known.{IsDue}
-use Rattle.credit_slots.specs.Due.{due_at, due_time, sent_again, IsFirstDue, NoneIsDue}
+use Rattle.message_slots.specs.Due.{due_at, due_time, sent_again, IsFirstDue, NoneIsDue}
 use Rattle.node_record.specs.declared.answer.SlotRef.{SlotRef}
 use Rattle.node_record.specs.Record.{Request, Node}
 use Rattle.node_record.specs.Requests.{open_in, Due, dues, all_dues}

@@ -8,9 +8,9 @@ use Rattle.datagram_grammar.specs.Parameters.{Parameters}
 use Rattle.datagram_grammar.specs.Content.{Content, code, is_ack, is_request}
 use Rattle.datagram_grammar.specs.Content.{short_request, medium_request, long_request}
 use Rattle.raw_segment.specs.Bytes.{part}
-use Rattle.hsl_locks.specs.declared.answer.Held.{Held}
-use Rattle.hsl_locks.specs.declared.answer.Owner.TheVariants as owner
-use Rattle.hsl_locks.specs.Locks.{blocked, holds}
+use Rattle.handler_rules.specs.declared.lock_answer.Held.{Held}
+use Rattle.handler_rules.specs.declared.lock_answer.Owner.TheVariants as owner
+use Rattle.handler_rules.specs.Locks.{blocked, holds}
 use Rattle.handler_rules.specs.declared.table.Entry.{Entry}
 use Rattle.handler_rules.specs.declared.rules.Context.TheVariants.{Thread}
 use Rattle.handler_rules.specs.declared.rules.Fault.{Fault}

@@ -7,10 +7,10 @@ use Rattle.datagram_grammar.specs.declared.refused.Refused.{Refused}
 use Rattle.handler_rules.specs.declared.rules.CallKind.{CallKind}
 use Rattle.handler_rules.specs.declared.rules.Forbidden.{Forbidden}
 use Rattle.handler_rules.specs.Runs.{Meaning, lock_refusal, unlock_refusal}
-use Rattle.hsl_locks.specs.declared.answer.Owner.TheVariants as owner
-use Rattle.hsl_locks.specs.declared.answer.LockAnswer.{LockAnswer}
-use Rattle.hsl_locks.specs.declared.answer.UnlockAnswer.{UnlockAnswer}
-use Rattle.hsl_locks.specs.Locks.{lock_answer, after_lock, unlock_answer, after_unlock}
+use Rattle.handler_rules.specs.declared.lock_answer.Owner.TheVariants as owner
+use Rattle.handler_rules.specs.declared.lock_answer.LockAnswer.{LockAnswer}
+use Rattle.handler_rules.specs.declared.lock_answer.UnlockAnswer.{UnlockAnswer}
+use Rattle.handler_rules.specs.Locks.{lock_answer, after_lock, unlock_answer, after_unlock}
 use Rattle.node_record.specs.declared.answer.SlotRef.{SlotRef}
 use Rattle.node_record.specs.declared.answer.Why.TheVariants as why
 use Rattle.node_record.specs.declared.answer.Delivered.{Delivered}

@@ -1,10 +1,10 @@
 -- What a core is, as a value.
 use Rattle.std.specs.Prelude.{ℕ, ℤ, List, Option}
 use Rattle.datagram_grammar.specs.Parameters.{Parameters}
-use Rattle.credit_slots.specs.SlotsState.{SlotsState}
-use Rattle.reply_slots.specs.RepliesState.{RepliesState}
+use Rattle.message_slots.specs.SlotsState.{SlotsState}
+use Rattle.message_slots.specs.RepliesState.{RepliesState}
 use Rattle.handler_rules.specs.declared.table.Entry.{Entry}
-use Rattle.hsl_locks.specs.declared.answer.Held.{Held}
+use Rattle.handler_rules.specs.declared.lock_answer.Held.{Held}
 use Rattle.handler_rules.specs.LogState.{Logged}
 
 pub record CoreState : Type 0 where

@@ -7,13 +7,13 @@ use Rattle.datagram_grammar.specs.Parameters.{Parameters, credits_of}
 use Rattle.datagram_grammar.specs.Message.{Message, IsMessage, spelling, code, is_ack}
 use Rattle.datagram_grammar.specs.declared.content.Address.{Address}
 use Rattle.datagram_grammar.specs.Content.{Content, addressed, content_of}
-use Rattle.credit_slots.specs.SlotsState.{CanClaim, Refuses, IsNew, IsTakenAt, Vacant, with_request, with_slot}
-use Rattle.credit_slots.specs.SlotsState.{with_slot_changed}
-use Rattle.credit_slots.specs.Due.{IsDueNext, sent_again}
-use Rattle.credit_slots.specs.declared.NoClaim.TheVariants as claims
-use Rattle.reply_slots.specs.RepliesState.{JudgesAt, with_reply}
-use Rattle.reply_slots.specs.declared.Judged.TheVariants.{New, Duplicate, Stale}
-use Rattle.reply_slots.specs.RepliesState.{IsNew as IsNewReplies}
+use Rattle.message_slots.specs.SlotsState.{CanClaim, Refuses, IsNew, IsTakenAt, Vacant, with_request, with_slot}
+use Rattle.message_slots.specs.SlotsState.{with_slot_changed}
+use Rattle.message_slots.specs.Due.{IsDueNext, sent_again}
+use Rattle.message_slots.specs.declared.credits.NoClaim.TheVariants as claims
+use Rattle.message_slots.specs.RepliesState.{JudgesAt, with_reply}
+use Rattle.message_slots.specs.declared.replies.Judged.TheVariants.{New, Duplicate, Stale}
+use Rattle.message_slots.specs.RepliesState.{IsNew as IsNewReplies}
 use Rattle.handler_rules.specs.declared.table.Entry.{Entry}
 use Rattle.handler_rules.specs.declared.rules.Role.{Role}
 use Rattle.handler_rules.specs.declared.rules.Role.TheVariants as role
@@ -27,8 +27,8 @@ use Rattle.handler_rules.specs.LogState.{log_of, notes}
 use Rattle.handler_rules.specs.declared.rules.Fault.{Fault}
 use Rattle.handler_rules.specs.declared.rules.Fault.TheVariants as fault
 use Rattle.handler_rules.specs.declared.rules.CallKind.{CallKind}
-use Rattle.hsl_locks.specs.declared.answer.Owner.TheVariants as owner
-use Rattle.hsl_locks.specs.Locks.{holds}
+use Rattle.handler_rules.specs.declared.lock_answer.Owner.TheVariants as owner
+use Rattle.handler_rules.specs.Locks.{holds}
 use Rattle.raw_segment.specs.Image.{written_by}
 use Rattle.handler_rules.specs.Runs.{Start, Outcome, IsPlaced, violation}
 use Rattle.node_record.specs.declared.answer.Asked.{Asked as AskedAnswer}

@@ -1,9 +1,9 @@
 -- What the run of a handler leaves of what it touches.
 use Rattle.std.specs.Prelude.{ℕ, ℤ, ◌≡◌, ◌≢◌, ◌≤◌, ◌++◌, List, map, drop, length, Option, Some, None}
 use Rattle.datagram_grammar.specs.Message.{Message, IsMessage, spelling}
-use Rattle.reply_slots.specs.RepliesState.{RepliesState, with_reply}
+use Rattle.message_slots.specs.RepliesState.{RepliesState, with_reply}
 use Rattle.raw_segment.specs.Image.{written_by}
-use Rattle.hsl_locks.specs.declared.answer.Held.{Held}
+use Rattle.handler_rules.specs.declared.lock_answer.Held.{Held}
 use Rattle.handler_rules.specs.declared.message.Reply.{Reply}
 use Rattle.handler_rules.specs.LogState.{Logged, notes}
 use Rattle.handler_rules.specs.declared.rules.Role.TheVariants as role

@@ -4,9 +4,9 @@
 use Rattle.std.specs.Prelude.{ℕ, ℤ, ◌≡◌, pos, false, List, [], ◌++◌, replicate}
 use Rattle.datagram_grammar.specs.Parameters.{Parameters}
 use Rattle.raw_segment.specs.Image.{Write, AllFit, image}
-use Rattle.hsl_locks.specs.declared.answer.Held.{Held}
-use Rattle.hsl_locks.specs.declared.answer.Owner.TheVariants as owner
-use Rattle.hsl_locks.specs.Locks.{holds}
+use Rattle.handler_rules.specs.declared.lock_answer.Held.{Held}
+use Rattle.handler_rules.specs.declared.lock_answer.Owner.TheVariants as owner
+use Rattle.handler_rules.specs.Locks.{holds}
 use Rattle.handler_rules.specs.declared.rules.Violation.{Violation}
 use Rattle.handler_rules.specs.Runs.{Start}
 

@@ -1,9 +1,9 @@
 -- How many slots the tables of a core have.
 use Rattle.std.specs.Prelude.{ℕ, ◌≡◌, ◌≢◌, ◌<◌, List, length, Some, slice_get}
 use Rattle.datagram_grammar.specs.Parameters.{Parameters, AreInRange, credits_of}
-use Rattle.credit_slots.specs.SlotsState.{SlotsState, slot_count, IsNew}
-use Rattle.reply_slots.specs.RepliesState.{RepliesState, IsNew as IsNewReplies}
-use Rattle.reply_slots.specs.RepliesState.{slot_count as reply_count}
+use Rattle.message_slots.specs.SlotsState.{SlotsState, slot_count, IsNew}
+use Rattle.message_slots.specs.RepliesState.{RepliesState, IsNew as IsNewReplies}
+use Rattle.message_slots.specs.RepliesState.{slot_count as reply_count}
 use Rattle.node_record.specs.declared.answer.Side.{Side}
 use Rattle.node_record.specs.declared.answer.Side.TheVariants as side
 use Rattle.node_record.specs.SlotMessages.{slots_of}

@@ -2,8 +2,8 @@
 use Rattle.std.specs.Prelude.{ℕ, ◌≡◌, ◌≢◌, ◌<◌, List, [], length, Option, None, Some, slice_get}
 use Rattle.datagram_grammar.specs.Parameters.{Parameters, AreInRange, credits_of}
 use Rattle.datagram_grammar.specs.Message.{spelling}
-use Rattle.credit_slots.specs.SlotsState.{SlotState, Vacant, Sealed, PeerState, slot_at}
-use Rattle.reply_slots.specs.RepliesState.{ReplyState, Unused, Kept}
+use Rattle.message_slots.specs.SlotsState.{SlotState, Vacant, Sealed, PeerState, slot_at}
+use Rattle.message_slots.specs.RepliesState.{ReplyState, Unused, Kept}
 use Rattle.handler_rules.specs.LogState.{log_of}
 use Rattle.node_record.specs.Record.{Request, Run, Node}
 use Rattle.node_record.specs.Requests.{open_in}

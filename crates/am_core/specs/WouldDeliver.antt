@@ -4,9 +4,9 @@ use Rattle.datagram_grammar.specs.Message.{Message, Spells}
 use Rattle.datagram_grammar.specs.Content.{content_of}
 use Rattle.datagram_grammar.specs.Refusals.{first_refusal}
 use Rattle.datagram_grammar.specs.declared.refused.Refused.{Refused}
-use Rattle.credit_slots.specs.SlotsState.{IsTakenAt}
-use Rattle.reply_slots.specs.RepliesState.{JudgesAt}
-use Rattle.reply_slots.specs.declared.Judged.TheVariants as judged
+use Rattle.message_slots.specs.SlotsState.{IsTakenAt}
+use Rattle.message_slots.specs.RepliesState.{JudgesAt}
+use Rattle.message_slots.specs.declared.replies.Judged.TheVariants as judged
 use Rattle.handler_rules.specs.Runs.{Meaning}
 use Rattle.node_record.specs.declared.answer.Delivered.{Delivered}
 use Rattle.node_record.specs.declared.answer.Delivered.TheVariants as delivered

@@ -1,7 +1,7 @@
 //! What the runs of handlers touch.
 
 ghost use Rattle.std.specs.Prelude.{◌≡◌, ◌≢◌, ◌<◌, ◌≤◌, None, length};
-ghost use Rattle.reply_slots.specs.RepliesState.{JudgesAt, slot_count};
+ghost use Rattle.message_slots.specs.RepliesState.{JudgesAt, slot_count};
 ghost use Rattle.handler_rules.specs.declared.rules.Role.TheVariants as role;
 ghost use Rattle.handler_rules.specs.Desks.{arrival_of};
 ghost use Rattle.am_core.specs.HandlerContextRuns.{CanRun, CanAnswer, Ran, LeavesReply, KeepsReply};
@@ -10,17 +10,16 @@ ghost use Rattle.am_core.specs.HandlerContextRuns.{CanRunOwnReply, IsSameHandler
 ghost use Rattle.am_core.specs.HandlerContextRuns.{landed_on, touched};
 ghost use Rattle.am_core.specs.Landed.{content_at};
 ghost use Rattle.am_core.specs.HandlerRuns.{listed_for};
-ghost use Rattle.hsl_locks.specs.Locks.{blocked};
+ghost use Rattle.handler_rules.specs.Locks.{blocked};
 ghost use Rattle.handler_rules.specs.Registered.{reply_locks};
 ghost use Rattle.handler_rules.specs.Runs.{IsReady, AreFree, IsPlaced};
 
 use crate::landing::land_reply;
 use crate::own::place_replied;
 use datagram_grammar::{Address, Settings, ack, spell};
-use handler_rules::{Cells, Desk, Handlers, Incoming, Log, Reply, Role, Table};
-use hsl_locks::Locks;
+use handler_rules::{Cells, Desk, Handlers, Incoming, Locks, Log, Reply, Role, Table};
+use message_slots::{Judged, ReplySlots};
 use raw_segment::Segment;
-use reply_slots::{Judged, ReplySlots};
 
 /// What the run of a handler touches of a node: what it writes, and what it reads beside its message.
 #[derive(Drop)]

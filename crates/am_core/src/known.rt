@@ -9,7 +9,7 @@ use crate::asking::Asking;
 use crate::node::Core;
 use crate::slots::slots_of;
 use handler_rules::{CallKind, Context, allowed};
-use reply_slots::Judged;
+use message_slots::Judged;
 
 impl Core {
     /// Whether a request of this number is the last one that ran in a slot of the node `from`: false where that is no

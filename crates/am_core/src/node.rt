@@ -4,7 +4,7 @@ ghost use Rattle.std.specs.Prelude.{◌≤◌, ℕ, ◌≡◌, ◌≢◌, ◌<�
 ghost use Rattle.std.specs.Prelude.{option_copied, replicate};
 ghost use Rattle.datagram_grammar.specs.Parameters.{credits_of};
 ghost use Rattle.handler_rules.specs.LogState.{log_of};
-ghost use Rattle.hsl_locks.specs.Locks.{lock_answer, unlock_answer};
+ghost use Rattle.handler_rules.specs.Locks.{lock_answer, unlock_answer};
 ghost use Rattle.handler_rules.specs.Runs.{Meaning};
 ghost use Rattle.node_record.specs.Record.{opening_node};
 ghost use Rattle.node_record.specs.Requests.{unreturned};
@@ -26,12 +26,13 @@ use crate::answer::{Asked, Delivered, Side, SlotRef, Why};
 use crate::asking::{Asking, Payload};
 use crate::library::LibraryRequest;
 use crate::slots::{free_replies, free_requests, slots_of};
-use credit_slots::CreditSlots;
 use datagram_grammar::{Settings, view};
-use handler_rules::{CallKind, Cells, Context, Fault, Forbidden, Handlers, Log, Table, Violation};
-use hsl_locks::{LockAnswer, Locks, Owner, UnlockAnswer};
-use raw_segment::{Block, Segment};
-use reply_slots::ReplySlots;
+use handler_rules::{
+    CallKind, Cells, Context, Fault, Forbidden, Handlers, LockAnswer, Locks, Log, Owner, Table,
+    UnlockAnswer, Violation,
+};
+use message_slots::{Block, CreditSlots, ReplySlots};
+use raw_segment::Segment;
 use std::alloc::{AllocError, Global};
 use std::marker::Model;
 
@@ -58,8 +59,8 @@ pub struct Core {
 
 impl Model for Core {
     ghost use Rattle.std.specs.Prelude.{◌≡◌, false, length};
-    ghost use Rattle.hsl_locks.specs.declared.answer.Owner.TheVariants.{Handler};
-    ghost use Rattle.hsl_locks.specs.Locks.{holds};
+    ghost use Rattle.handler_rules.specs.declared.lock_answer.Owner.TheVariants.{Handler};
+    ghost use Rattle.handler_rules.specs.Locks.{holds};
     ghost use Rattle.am_core.specs.CoreState.{CoreState};
     ghost use Rattle.am_core.specs.Sizes.{IsSized};
 

@@ -5,10 +5,8 @@ ghost use Rattle.node_record.specs.SlotMessages.{slots_of};
 ghost use Rattle.am_core.specs.Sizes.{AreSlots, AreFreeRequests, AreFreeReplies};
 
 use crate::answer::Side;
-use credit_slots::CreditSlots;
 use datagram_grammar::{MAX_DATAGRAM, Settings};
-use raw_segment::PART_BYTES;
-use reply_slots::ReplySlots;
+use message_slots::{CreditSlots, PART_BYTES, ReplySlots};
 use std::alloc::{AllocError, Global};
 
 // Each buffer of a slot holds every datagram.

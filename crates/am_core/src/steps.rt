@@ -6,8 +6,8 @@ ghost use Rattle.datagram_grammar.specs.Reading.{viewed_message};
 ghost use Rattle.node_record.specs.Step.{slots_for, with_sender};
 ghost use Rattle.handler_rules.specs.Desks.{arrival_of};
 ghost use Rattle.handler_rules.specs.declared.rules.Role.TheVariants as role;
-ghost use Rattle.reply_slots.specs.RepliesState.{JudgesAt};
-ghost use Rattle.reply_slots.specs.declared.Judged.TheVariants as judged;
+ghost use Rattle.message_slots.specs.RepliesState.{JudgesAt};
+ghost use Rattle.message_slots.specs.declared.replies.Judged.TheVariants as judged;
 ghost use Rattle.am_core.specs.AskedFor.{ask_of, asking_of, content_asked, content_with};
 ghost use Rattle.raw_segment.specs.Bytes.{part};
 ghost use Rattle.handler_rules.specs.Runs.{IsPlaced, passes_end};
@@ -32,12 +32,11 @@ use crate::node::Core;
 use crate::own::place_asked;
 use crate::sealing::seal_request;
 use crate::slots::slots_of;
-use credit_slots::NoClaim;
 use datagram_grammar::{Address, Kind, MAX_PAYLOAD, View};
 use handler_rules::{
     CallKind, Context, Fault, Forbidden, Handlers, Incoming, Role, Violation, Which, allowed,
 };
-use reply_slots::Judged;
+use message_slots::{Judged, NoClaim};
 
 /// The most bytes of a payload, as a part of a segment tells them.
 const LONGEST: u64 = MAX_PAYLOAD as u64;

@@ -11,7 +11,7 @@ use crate::answer::{Delivered, Side, SlotRef, Why};
 use crate::library::LAST_OWN;
 use crate::node::Core;
 use datagram_grammar::{Kind, View, view};
-use reply_slots::Judged;
+use message_slots::Judged;
 
 impl Core {
     /// What a delivery of these bytes would be answered. It changes nothing.

@@ -19,8 +19,8 @@ use Rattle.handler_rules.specs.declared.rules.Forbidden.{Forbidden}
 use Rattle.handler_rules.specs.declared.rules.Role.{Role}
 use Rattle.handler_rules.specs.declared.rules.Role.TheVariants as role
 use Rattle.handler_rules.specs.declared.table.Entry.{Entry}
-use Rattle.hsl_locks.specs.Locks.{holds}
-use Rattle.hsl_locks.specs.declared.answer.Owner.TheVariants as owner
+use Rattle.handler_rules.specs.Locks.{holds}
+use Rattle.handler_rules.specs.declared.lock_answer.Owner.TheVariants as owner
 use Rattle.node_record.specs.declared.answer.Asked.{Asked}
 use Rattle.node_record.specs.declared.answer.Asked.TheVariants as asked
 use Rattle.node_record.specs.declared.answer.Why.{Why}

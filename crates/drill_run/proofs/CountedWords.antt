@@ -1,10 +1,10 @@
 -- The word by which an answer is counted is the first one of its words.
 use Rattle.std.proofs.Common.{◌≡◌, ℕ, List, Bool, true, false, Option, Some, None, refl}
 use Rattle.std.specs.Prelude.{codes}
-use Rattle.hsl_locks.specs.declared.answer.LockAnswer.{LockAnswer}
-use Rattle.hsl_locks.specs.declared.answer.LockAnswer.TheVariants as locking
-use Rattle.hsl_locks.specs.declared.answer.UnlockAnswer.{UnlockAnswer}
-use Rattle.hsl_locks.specs.declared.answer.UnlockAnswer.TheVariants as unlocking
+use Rattle.handler_rules.specs.declared.lock_answer.LockAnswer.{LockAnswer}
+use Rattle.handler_rules.specs.declared.lock_answer.LockAnswer.TheVariants as locking
+use Rattle.handler_rules.specs.declared.lock_answer.UnlockAnswer.{UnlockAnswer}
+use Rattle.handler_rules.specs.declared.lock_answer.UnlockAnswer.TheVariants as unlocking
 use Rattle.named_barrier.specs.declared.answer.BarrierAnswer.{BarrierAnswer}
 use Rattle.named_barrier.specs.declared.answer.BarrierAnswer.TheVariants as barrier
 use Rattle.named_barrier.specs.declared.answer.Notified.{Notified}

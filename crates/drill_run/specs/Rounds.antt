@@ -12,7 +12,7 @@ use Rattle.put_get.specs.declared.operation.ImplicitKinds.TheVariants as implici
 use Rattle.job_text.specs.declared.job.Job.{Job as JobState}
 use Rattle.line_forms.specs.declared.values.Operand.TheVariants as operand
 use Rattle.step_text.specs.declared.steps.ReplyAction.TheVariants as reply
-use Rattle.call_text.specs.declared.scheduled.ScheduledCall.TheVariants as call
+use Rattle.line_forms.specs.declared.scheduled.ScheduledCall.TheVariants as call
 use Rattle.step_text.specs.declared.steps.ScheduledEvent.{ScheduledEvent}
 use Rattle.step_text.specs.declared.steps.ScheduledEvent.TheVariants as scheduled
 use Rattle.step_text.specs.declared.steps.TimedEvent.{TimedEvent}

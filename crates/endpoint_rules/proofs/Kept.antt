@@ -17,9 +17,9 @@ use Rattle.handler_rules.specs.declared.rules.Forbidden.{Forbidden}
 use Rattle.handler_rules.specs.declared.rules.CallKind.TheVariants as kinds
 use Rattle.handler_rules.specs.declared.message.Which.{Which}
 use Rattle.handler_rules.specs.Runs.{Meaning}
-use Rattle.hsl_locks.specs.declared.answer.Held.{Held}
-use Rattle.hsl_locks.specs.declared.answer.Owner.TheVariants as owner
-use Rattle.hsl_locks.specs.Locks.{holds}
+use Rattle.handler_rules.specs.declared.lock_answer.Held.{Held}
+use Rattle.handler_rules.specs.declared.lock_answer.Owner.TheVariants as owner
+use Rattle.handler_rules.specs.Locks.{holds}
 use Rattle.access_region.specs.Regions.{has_begun}
 use Rattle.named_barrier.specs.Record.{BarrierRecord}
 use Rattle.named_barrier.specs.Within.{IsNotedWithin}

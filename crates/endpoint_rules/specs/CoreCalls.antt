@@ -5,8 +5,8 @@ use Rattle.datagram_grammar.specs.Parameters.{Parameters}
 use Rattle.handler_rules.specs.declared.rules.Forbidden.{Forbidden}
 use Rattle.handler_rules.specs.declared.rules.CallKind.{CallKind}
 use Rattle.handler_rules.specs.declared.rules.CallKind.TheVariants as call
-use Rattle.hsl_locks.specs.declared.answer.Owner.TheVariants as owner
-use Rattle.hsl_locks.specs.Locks.{lock_answer, unlock_answer}
+use Rattle.handler_rules.specs.declared.lock_answer.Owner.TheVariants as owner
+use Rattle.handler_rules.specs.Locks.{lock_answer, unlock_answer}
 use Rattle.node_record.specs.Behaviour.{Behaviour}
 use Rattle.am_core.specs.Kept.{Local, segment_of, with_writes}
 use Rattle.am_core.specs.CoreContracts.{core_does, Lock as CoreLock, Unlock as CoreUnlock}

@@ -5,8 +5,7 @@ ghost use Rattle.endpoint_rules.specs.EndpointRules.{asked_answer};
 ghost use Rattle.endpoint_rules.specs.Sends.{sends};
 
 use am_core::{Asked, Delivered, Side, SlotRef};
-use handler_rules::{Forbidden, Which};
-use hsl_locks::{LockAnswer, UnlockAnswer};
+use handler_rules::{Forbidden, LockAnswer, UnlockAnswer, Which};
 use named_barrier::{BarrierAnswer, Notified};
 pub use node_record::Ticked;
 use put_get::{Handle, Synced};

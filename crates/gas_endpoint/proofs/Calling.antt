@@ -5,8 +5,8 @@ use Rattle.std.proofs.lemmas.Option.{same_Some}
 use Rattle.datagram_grammar.specs.Parameters.{Parameters}
 use Rattle.raw_segment.specs.Image.{written_by}
 use Rattle.raw_segment.proofs.Images.{all_fit-append, length-written_by, image-append}
-use Rattle.hsl_locks.specs.declared.answer.LockAnswer.{LockAnswer}
-use Rattle.hsl_locks.specs.declared.answer.UnlockAnswer.{UnlockAnswer}
+use Rattle.handler_rules.specs.declared.lock_answer.LockAnswer.{LockAnswer}
+use Rattle.handler_rules.specs.declared.lock_answer.UnlockAnswer.{UnlockAnswer}
 use Rattle.handler_rules.specs.LogState.{log_of}
 use Rattle.handler_rules.specs.Runs.{Meaning}
 use Rattle.handler_rules.specs.declared.rules.CallKind.{CallKind}

@@ -4,7 +4,7 @@ ghost use Rattle.std.specs.Prelude.{◌≤◌, ℕ, ◌≡◌, ◌≢◌, ◌<�
 ghost use Rattle.std.specs.Prelude.{replicate};
 ghost use Rattle.handler_rules.specs.LogState.{log_of};
 ghost use Rattle.handler_rules.specs.Runs.{Meaning, IsLawfulMeaning};
-ghost use Rattle.hsl_locks.specs.Locks.{holds};
+ghost use Rattle.handler_rules.specs.Locks.{holds};
 ghost use Rattle.node_record.specs.Credits.{greatest_holding};
 ghost use Rattle.node_record.specs.Held.{held};
 ghost use Rattle.node_record.specs.NodeStep.{Ticks};
@@ -31,8 +31,7 @@ use crate::memory;
 use am_core::{Core, Delivered, SlotRef};
 use datagram_grammar::Settings;
 use endpoint_rules::{Answer, Call, Event, Local, Ticked};
-use handler_rules::{CallKind, Cells, Handlers, Log, Table};
-use hsl_locks::Owner;
+use handler_rules::{CallKind, Cells, Handlers, Log, Owner, Table};
 use put_get::Handle;
 use raw_segment::Segment;
 use std::alloc::{AllocError, Global};

@@ -38,10 +38,10 @@ pub use endpoint_rules::{Answer, Begun, Call, Event, Local, Region, Ticked};
 pub use gas_endpoint::Endpoint;
 pub use gas_strided::{Indexed, Level, Piece, Plan, PlanFault, Strided, Vis, Way};
 pub use handler_rules::{
-    CallKind, Cells, Context, Desk, Entry, EntryFault, Fault, Forbidden, Handlers, Incoming, Log,
-    Replied, Reply, Role, Serves, Table, Violation, Which,
+    CallKind, Cells, Context, Desk, Entry, EntryFault, Fault, Forbidden, Handlers, Incoming,
+    LockAnswer, LockFault, Log, Replied, Reply, Role, Serves, Table, UnlockAnswer, Violation,
+    Which,
 };
-pub use hsl_locks::{LockAnswer, LockFault, UnlockAnswer};
 pub use named_barrier::{BarrierAnswer, Notified};
 pub use node_caller::{AtEndpoint, Called, Caller, make_call};
 pub use put_get::{Handle, ImplicitKinds, Synced, Transfer};

@@ -2,9 +2,9 @@
 use Rattle.std.proofs.Common.{◌≡◌, ℕ, ℤ, List, refl, ap, ◌∙◌, length}
 use Rattle.std.proofs.lemmas.List.Elements.{All-nil, All-push}
 use Rattle.raw_segment.specs.Image.{Write, FitsIn}
-use Rattle.hsl_locks.specs.declared.answer.Owner.TheVariants as owner
-use Rattle.hsl_locks.specs.Locks.{without}
-use Rattle.hsl_locks.proofs.Laws.{without_after_lock, without_after_unlock}
+use Rattle.handler_rules.specs.declared.lock_answer.Owner.TheVariants as owner
+use Rattle.handler_rules.specs.Locks.{without}
+use Rattle.handler_rules.proofs.LockLaws.{without_after_lock, without_after_unlock}
 use Rattle.datagram_grammar.specs.Content.{Content, short_reply, medium_reply, long_reply}
 use Rattle.handler_rules.specs.declared.rules.CallKind.{CallKind}
 use Rattle.handler_rules.specs.declared.message.Replied.{Replied}

@@ -1,11 +1,11 @@
 -- While a handler runs, no thread comes to hold a lock that the handler may take.
 use Rattle.std.proofs.Common.{◌≡◌, ℕ, List, None, ap, sym, ◌∙◌}
-use Rattle.hsl_locks.specs.declared.answer.Held.{Held}
-use Rattle.hsl_locks.specs.declared.answer.Owner.TheVariants as owner
-use Rattle.hsl_locks.specs.declared.answer.LockAnswer.{LockAnswer}
-use Rattle.hsl_locks.specs.declared.answer.LockAnswer.TheVariants as locking_answers
-use Rattle.hsl_locks.specs.Locks.{after_lock, after_unlock, blocked, without}
-use Rattle.hsl_locks.proofs.Laws.{blocked_without, without_after_lock, without_after_unlock}
+use Rattle.handler_rules.specs.declared.lock_answer.Held.{Held}
+use Rattle.handler_rules.specs.declared.lock_answer.Owner.TheVariants as owner
+use Rattle.handler_rules.specs.declared.lock_answer.LockAnswer.{LockAnswer}
+use Rattle.handler_rules.specs.declared.lock_answer.LockAnswer.TheVariants as locking_answers
+use Rattle.handler_rules.specs.Locks.{after_lock, after_unlock, blocked, without}
+use Rattle.handler_rules.proofs.LockLaws.{blocked_without, without_after_lock, without_after_unlock}
 use Rattle.handler_rules.specs.declared.desk.Desk.{Desk}
 use Rattle.handler_rules.specs.Runs.{lock_refusal}
 use Rattle.handler_rules.specs.Desks.{lock_answer_at, locking, noting, with_locks}

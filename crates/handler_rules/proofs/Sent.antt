@@ -2,8 +2,8 @@
 use Rattle.std.proofs.Common.{◌≡◌, ◌+◌, List, [], ◌∷◌, Option, Some, None, Bool, true, false, not}
 use Rattle.std.proofs.Common.{refl, length, is_some, nat_lt}
 use Rattle.std.proofs.lemmas.Bool.{ltb-false}
-use Rattle.hsl_locks.specs.declared.answer.Owner.TheVariants as owner
-use Rattle.hsl_locks.specs.Locks.{holds}
+use Rattle.handler_rules.specs.declared.lock_answer.Owner.TheVariants as owner
+use Rattle.handler_rules.specs.Locks.{holds}
 use Rattle.datagram_grammar.specs.Content.{Content}
 use Rattle.datagram_grammar.specs.Message.{code, is_long}
 use Rattle.handler_rules.specs.declared.rules.Role.{Role}

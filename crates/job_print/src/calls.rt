@@ -2,16 +2,15 @@
 
 ghost use Rattle.std.specs.Prelude.{◌++◌};
 ghost use Rattle.gas_outside.specs.Buffered.{GathersAll, outbox};
-ghost use Rattle.call_text.specs.Calls.{begin_entry, call_text, implicit_entry, long_row};
-ghost use Rattle.call_text.specs.Calls.{notify_row};
+ghost use Rattle.line_forms.specs.Calls.{begin_entry, call_text, implicit_entry, long_row};
+ghost use Rattle.line_forms.specs.Calls.{notify_row};
 ghost use Rattle.line_forms.specs.Forms.{entry_text, none_text, values_text};
-ghost use Rattle.call_text.specs.declared.scheduled.ScheduledCall.TheVariants as calls;
+ghost use Rattle.line_forms.specs.declared.scheduled.ScheduledCall.TheVariants as calls;
 
 use crate::forms::{Last, write, write_form, write_list};
 use crate::words::Word;
-use call_text::{BatchText, CallForm, LongText, MediumText, ScheduledCall};
 use gas_outside::{BufferedSink, Sink, Wrote};
-use line_forms::{HasName, Operands};
+use line_forms::{BatchText, CallForm, HasName, LongText, MediumText, Operands, ScheduledCall};
 use put_get::Transfer;
 
 /// Writes a Short request.

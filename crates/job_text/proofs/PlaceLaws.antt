@@ -41,7 +41,7 @@ use Rattle.job_text.specs.Places.{done_at, Item, item_at, item_text, IsItem}
 use Rattle.step_text.specs.declared.steps.Action.TheVariants as action
 use Rattle.job_text.specs.declared.job.CollectArea.{CollectArea}
 use Rattle.step_text.specs.declared.steps.CollectiveText.TheVariants as collective
-use Rattle.call_text.specs.declared.scheduled.ScheduledCall.TheVariants as call
+use Rattle.line_forms.specs.declared.scheduled.ScheduledCall.TheVariants as call
 use Rattle.step_text.specs.declared.steps.ScriptStep.TheVariants as step
 use Rattle.job_text.specs.declared.job.SieveRule.{SieveRule}
 use Rattle.put_get.specs.declared.operation.Transfer.TheVariants as transfer

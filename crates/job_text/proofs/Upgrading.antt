@@ -5,7 +5,7 @@ use Rattle.std.specs.List.{AllByRecursion}
 use Rattle.datagram_grammar.specs.Parameters.{Parameters, upgraded}
 use Rattle.job_text.specs.CollectAreas.{IsCollectOrNone}
 use Rattle.job_text.specs.declared.job.CollectArea.{CollectArea}
-use Rattle.call_text.specs.Calls.{IsCall}
+use Rattle.line_forms.specs.Calls.{IsCall}
 use Rattle.step_text.specs.Events.{IsEvent, IsTimed}
 use Rattle.job_text.specs.JobText.{IsNodeScript, IsScheduleOrNone}
 use Rattle.line_forms.specs.Versions.{is_second}
@@ -14,8 +14,8 @@ use Rattle.vis_text.specs.declared.vis.VisText.{VisText}
 use Rattle.step_text.proofs.VisLaws.{vis_second}
 use Rattle.step_text.specs.Scripts.{IsStep, IsWaiting}
 use Rattle.job_text.specs.declared.job.NodeScript.{NodeScript}
-use Rattle.call_text.specs.declared.scheduled.ScheduledCall.{ScheduledCall}
-use Rattle.call_text.specs.declared.scheduled.ScheduledCall.TheVariants as call
+use Rattle.line_forms.specs.declared.scheduled.ScheduledCall.{ScheduledCall}
+use Rattle.line_forms.specs.declared.scheduled.ScheduledCall.TheVariants as call
 use Rattle.step_text.specs.declared.steps.ScheduledEvent.{ScheduledEvent}
 use Rattle.step_text.specs.declared.steps.ScheduledEvent.TheVariants as event
 use Rattle.step_text.specs.declared.steps.ScriptStep.{ScriptStep}

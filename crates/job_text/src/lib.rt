@@ -1,7 +1,7 @@
 //! The text of a job: its sections, what each of its lines may say there, and reading it.
 //!
 //! Words and lines are read by `text_lines`, the forms of lines stand in `line_forms`, and what handlers and threads do is
-//! read by `call_text`, `vis_text` and `step_text`.
+//! read by `line_forms`, `vis_text` and `step_text`.
 //!
 //! What is proved of `read_job` [`found`, `one`, `bad`, `meant`, `told`, `none`]: a job that is read has the bytes as its
 //! text (`JobText`: the printing of the job's value, and the ranges), and is the one job that has them; else the fault

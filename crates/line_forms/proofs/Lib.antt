@@ -4,3 +4,4 @@ pub mod FormLaws
 pub mod FirstBytes
 pub mod Runs
 pub mod TableLaws
+pub mod CallLaws

@@ -5,3 +5,5 @@ pub mod Kinds
 pub mod FormTests
 pub mod Versions
 pub mod Tables
+pub mod Batches
+pub mod Calls

@@ -12,11 +12,11 @@ use Rattle.datagram_grammar.specs.Message.{Message}
 use Rattle.datagram_grammar.specs.Parameters.{Parameters}
 use Rattle.datagram_grammar.specs.Refusals.{first_refusal}
 use Rattle.datagram_grammar.specs.declared.refused.Refused.{Refused as RefusedBytes}
-use Rattle.hsl_locks.specs.declared.answer.Held.{Held}
-use Rattle.hsl_locks.specs.declared.answer.LockAnswer.{LockAnswer}
-use Rattle.hsl_locks.specs.declared.answer.LockAnswer.TheVariants as locking
-use Rattle.hsl_locks.specs.declared.answer.Owner.TheVariants as owner
-use Rattle.hsl_locks.specs.Locks.{lock_answer, after_lock}
+use Rattle.handler_rules.specs.declared.lock_answer.Held.{Held}
+use Rattle.handler_rules.specs.declared.lock_answer.LockAnswer.{LockAnswer}
+use Rattle.handler_rules.specs.declared.lock_answer.LockAnswer.TheVariants as locking
+use Rattle.handler_rules.specs.declared.lock_answer.Owner.TheVariants as owner
+use Rattle.handler_rules.specs.Locks.{lock_answer, after_lock}
 use Rattle.handler_rules.specs.declared.table.Entry.{Entry}
 use Rattle.handler_rules.specs.Runs.{Meaning}
 use Rattle.put_get.specs.declared.operation.Handle.{Handle}
@@ -40,7 +40,7 @@ use Rattle.endpoint_rules.proofs.Frames.{call_framed}
 use Rattle.endpoint_rules.specs.TransferCalls.{Caller, SyncHandle}
 use Rattle.endpoint_rules.specs.declared.answer.Answer.{Answer}
 use Rattle.endpoint_rules.specs.declared.answer.Answer.TheVariants as answers
-use Rattle.call_text.specs.declared.scheduled.ScheduledCall.TheVariants as call
+use Rattle.line_forms.specs.declared.scheduled.ScheduledCall.TheVariants as call
 use Rattle.step_text.specs.declared.steps.ScriptStep.{ScriptStep}
 use Rattle.step_text.specs.declared.steps.ScriptStep.TheVariants as step
 use Rattle.step_text.specs.declared.steps.WaitingStep.TheVariants as waiting

@@ -5,12 +5,13 @@
 //!
 //! What is proved:
 //!
-//! - `NodeMachine` is a `Machine` whose states are those of `node_runs`: the record of the node, with what is left
-//!   of the scripts (`NodeState`, in `specs/NodeState.antt`). Of every state for which it stood (`NodeStands`) each
-//!   turn is the turn of that definition, over the steps as `script_steps` reads them: what the machine stands for
-//!   afterwards [`after`], what the turn tells [`turned`], and the datagrams, each the one spelling of a message of
-//!   the node's record [`outgoing`], in order: the reply's, the tick's, the call's. A thread polls exactly where it
-//!   holds no lock; an empty turn leaves the state, and what was outgoing [`empty`].
+//! - `NodeMachine` is a `Machine` whose states are those of `node_runs`: the record of the node, with what is
+//!   left of the scripts, and how far its collectives are (`NodeState`, in `specs/NodeState.antt`). Of every
+//!   state for which it stood (`NodeStands`) each turn is the turn of that definition, over the steps as
+//!   `script_steps` reads them: what the machine stands for afterwards [`after`], what the turn tells
+//!   [`turned`], and the datagrams, each the one spelling of a message of the node's record [`outgoing`], in
+//!   order: the reply's, the tick's, the call's. A thread polls exactly where it holds no lock; an empty turn
+//!   leaves the state, and what was outgoing [`empty`].
 //! - `NodeMachine::new` stands for the node's opening state (`opening_state`); want of memory is its one error.
 //! - `traces_law` [`run`]: where the entries of the traces of a job's nodes can go one after another, over such
 //!   states, they are a run of the world with all that holds of one (`IsWorldRun`); [`opens`] the nodes begin as new

@@ -23,7 +23,7 @@ use std::alloc::{AllocError, Global};
 use std::marker::Model;
 use step_text::ScriptStep;
 
-/// The machine of a node of a job: its endpoint, and how far the scripts of its threads have come.
+/// The machine of a node of a job: its endpoint, its collectives, and how far the scripts of its threads have come.
 ///
 /// All memory is taken by `new`; the steps stay the job's.
 #[derive(Drop)]

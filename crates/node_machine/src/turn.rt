@@ -1,7 +1,7 @@
 //! A turn of a thread.
 
 ghost use Rattle.std.specs.Prelude.{◌≡◌, ◌<◌, ◌||◌, IsSome, true, not, is_some, option_copied};
-ghost use Rattle.hsl_locks.specs.Locks.{holds};
+ghost use Rattle.handler_rules.specs.Locks.{holds};
 ghost use Rattle.gas_endpoint.specs.EndpointState.{ForItsRecord};
 ghost use Rattle.node_machine.specs.Kept.{CanBeSaid};
 ghost use Rattle.node_machine.specs.Cursors.{progress_of};
@@ -15,8 +15,7 @@ use crate::outgoing::Outgoing;
 use crate::parts::before_try;
 use gas_collectives::Collectives;
 use gas_endpoint::Endpoint;
-use handler_rules::Handlers;
-use hsl_locks::Owner;
+use handler_rules::{Handlers, Owner};
 use node_runs::ScriptAnswer;
 use script_steps::{Trial, Tried, attempt};
 
@@ -45,7 +44,7 @@ pub struct Done {
 }
 
 impl Done {
-    /// Something was got or sent, or the step ended or began.
+    /// Something was got or sent, the step ended or began, or the collectives changed.
     pub fn is_change(&self, came: bool) -> bool
         ensures { result ≡ (came || is_some_there self.now.outgoing
             || is_some self.now.ended || self.now.began) }

@@ -5,8 +5,8 @@ use Rattle.std.specs.List.{AllByRecursion}
 use Rattle.datagram_grammar.specs.Content.{Spells}
 use Rattle.datagram_grammar.specs.Message.{Message}
 use Rattle.datagram_grammar.specs.Parameters.{Parameters}
-use Rattle.hsl_locks.specs.declared.answer.Owner.TheVariants as owner
-use Rattle.hsl_locks.specs.Locks.{holds}
+use Rattle.handler_rules.specs.declared.lock_answer.Owner.TheVariants as owner
+use Rattle.handler_rules.specs.Locks.{holds}
 use Rattle.handler_rules.specs.declared.table.Entry.{Entry as TableEntry}
 use Rattle.handler_rules.specs.Runs.{Meaning}
 use Rattle.node_record.specs.NodeStep.{Job, NodeEvent, Comes}

@@ -8,9 +8,9 @@ use Rattle.job_text.specs.declared.job.Job.{Job as JobState}
 use Rattle.step_text.specs.declared.steps.ScheduledEvent.{ScheduledEvent}
 use Rattle.step_text.specs.declared.steps.ScheduledEvent.TheVariants as event
 use Rattle.step_text.specs.declared.steps.TimedEvent.{TimedEvent}
-use Rattle.call_text.specs.declared.scheduled.ScheduledCall.{ScheduledCall}
-use Rattle.call_text.specs.declared.scheduled.ScheduledCall.TheVariants as calls
-use Rattle.call_text.specs.Calls.{IsCall}
+use Rattle.line_forms.specs.declared.scheduled.ScheduledCall.{ScheduledCall}
+use Rattle.line_forms.specs.declared.scheduled.ScheduledCall.TheVariants as calls
+use Rattle.line_forms.specs.Calls.{IsCall}
 use Rattle.step_text.specs.Events.{IsEvent, IsTimed}
 use Rattle.job_text.specs.JobReading.{lines_of}
 use Rattle.job_text.specs.JobText.{IsJob, IsScheduleOrNone}

@@ -3,12 +3,12 @@ use Rattle.std.specs.Prelude.{ℕ, List, [], ◌∷◌, Bool, true, false, Optio
 use Rattle.std.specs.Fmt.{signed_decimal}
 use Rattle.std.specs.List.{flat_map}
 use Rattle.raw_segment.specs.Bytes.{part}
-use Rattle.hsl_locks.specs.declared.answer.LockFault.{LockFault}
-use Rattle.hsl_locks.specs.declared.answer.LockFault.TheVariants as lock_fault
-use Rattle.hsl_locks.specs.declared.answer.LockAnswer.{LockAnswer}
-use Rattle.hsl_locks.specs.declared.answer.LockAnswer.TheVariants as locking
-use Rattle.hsl_locks.specs.declared.answer.UnlockAnswer.{UnlockAnswer}
-use Rattle.hsl_locks.specs.declared.answer.UnlockAnswer.TheVariants as unlocking
+use Rattle.handler_rules.specs.declared.lock_answer.LockFault.{LockFault}
+use Rattle.handler_rules.specs.declared.lock_answer.LockFault.TheVariants as lock_fault
+use Rattle.handler_rules.specs.declared.lock_answer.LockAnswer.{LockAnswer}
+use Rattle.handler_rules.specs.declared.lock_answer.LockAnswer.TheVariants as locking
+use Rattle.handler_rules.specs.declared.lock_answer.UnlockAnswer.{UnlockAnswer}
+use Rattle.handler_rules.specs.declared.lock_answer.UnlockAnswer.TheVariants as unlocking
 use Rattle.text_lines.specs.HexBytes.{hex_byte}
 use Rattle.handler_rules.specs.declared.message.Which.{Which}
 use Rattle.handler_rules.specs.declared.message.Which.TheVariants as which

@@ -11,12 +11,12 @@ use Rattle.endpoint_rules.specs.BarrierCalls.{Notify, TryBarrier}
 use Rattle.endpoint_rules.specs.Called.{Meant, Requests, Performs}
 use Rattle.gas_atomic.specs.Asking.{batch_asking}
 use Rattle.line_forms.specs.Payloads.{IsPayload}
-use Rattle.call_text.specs.declared.scheduled.LongText.{LongText}
-use Rattle.call_text.specs.declared.scheduled.MediumText.{MediumText}
+use Rattle.line_forms.specs.declared.scheduled.LongText.{LongText}
+use Rattle.line_forms.specs.declared.scheduled.MediumText.{MediumText}
 use Rattle.line_forms.specs.declared.values.Payload.{Payload}
 use Rattle.line_forms.specs.declared.values.Payload.TheVariants as payload
-use Rattle.call_text.specs.declared.scheduled.ScheduledCall.{ScheduledCall}
-use Rattle.call_text.specs.declared.scheduled.ScheduledCall.TheVariants as call
+use Rattle.line_forms.specs.declared.scheduled.ScheduledCall.{ScheduledCall}
+use Rattle.line_forms.specs.declared.scheduled.ScheduledCall.TheVariants as call
 use Rattle.node_script.specs.Bodies.{operand_value}
 
 -- where a payload is. No schedule has that of a message, which would have no bytes

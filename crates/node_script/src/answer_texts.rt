@@ -10,7 +10,7 @@ ghost use Rattle.node_script.specs.AnswerWords.{asked_words, delivered_words, lo
 use crate::answer_words::{bad_word, lock_fault_word, refusal_word, rule_word};
 use am_core::{Asked, Delivered};
 use gas_outside::{BufferedSink, Sink, Wrote};
-use hsl_locks::{LockAnswer, UnlockAnswer};
+use handler_rules::{LockAnswer, UnlockAnswer};
 use itoa::Buffer;
 use text_lines::{put_end, put_number, put_word};
 

@@ -4,8 +4,7 @@ ghost use Rattle.std.specs.Prelude.{◌≡◌, ◌≤◌, length};
 ghost use Rattle.node_script.specs.AnswerWords.{bad_word, lock_fault_word, rule_word, refusal_word};
 
 use am_core::Why;
-use handler_rules::{Forbidden, Which};
-use hsl_locks::LockFault;
+use handler_rules::{Forbidden, LockFault, Which};
 
 /// The word of the part of a call that is bad.
 pub fn bad_word(part: Which) -> &'static [u8]

@@ -12,11 +12,10 @@ ghost use Rattle.line_forms.specs.Payloads.{IsPayload};
 
 use crate::body_numbers::{value_of, values_of};
 use am_core::Payload;
-use call_text::{BatchText, LongText, MediumText, ScheduledCall};
 use endpoint_rules::Call;
 use gas_atomic::BATCH_HANDLER;
 use handler_rules::Cells;
-use line_forms::{Operands, Payload as Given};
+use line_forms::{BatchText, LongText, MediumText, Operands, Payload as Given, ScheduledCall};
 
 /// A call, by the cells of its node. The arguments of a request are put into `args`.
 pub fn call_of<'a>(call: &'a ScheduledCall, cells: &Cells, args: &'a mut [i32; 17]) -> Call<'a>

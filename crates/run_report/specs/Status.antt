@@ -30,15 +30,15 @@ abbrev pub digit : (tens byte : ℕ) → Option ℕ
 digit tens byte = if nat_lt byte 48 || nat_lt 57 byte then None else Some (tens + (byte - 48))
 
 -- the number at the front of a text: a digit before a space, or a 1 and a digit
-abbrev pub number_at : List ℕ → Option ℕ
-number_at [] = None
-number_at (first ∷ []) = None
-number_at (first ∷ (second ∷ behind)) =
+abbrev pub status_number : List ℕ → Option ℕ
+status_number [] = None
+status_number (first ∷ []) = None
+status_number (first ∷ (second ∷ behind)) =
     if second == 32 then digit 0 first else if first == 49 then digit 10 second else None
 
 -- the status that a line tells, which none but a status line does
 unfoldable pub status_of : List ℕ → Option ℕ
-status_of line = if starts_with nat_eq line (codes "status ") then number_at (drop 7 line) else None
+status_of line = if starts_with nat_eq line (codes "status ") then status_number (drop 7 line) else None
 
 -- how a run with this status ended
 abbrev pub ending_of : Option ℕ → Option Ending

@@ -1,7 +1,7 @@
 //! The last line of what a command wrote, and what it says.
 
 ghost use Rattle.std.specs.Prelude.{◌≡◌, ◌≤◌};
-ghost use Rattle.run_report.specs.Status.{IsEnd, IsLastLine, IsStart, digit, ending_of, is_refusal, number_at, status_of};
+ghost use Rattle.run_report.specs.Status.{IsEnd, IsLastLine, IsStart, digit, ending_of, is_refusal, status_number, status_of};
 
 /// How a run ended whose nodes' outputs are told of.
 #[derive(Clone, Copy)]
@@ -62,8 +62,8 @@ fn digit(tens: u8, byte: u8) -> Option<u8>
 
 /// The number at the front of what stands behind `status `: a digit before a space, or a 1 and a
 /// digit.
-fn number_at(text: &[u8]) -> Option<u8>
-    ensures { result ≡ number_at text.now }
+fn status_number(text: &[u8]) -> Option<u8>
+    ensures { result ≡ status_number text.now }
 {
     let (first, behind) = text.split_first()?;
     let (second, _) = behind.split_first()?;
@@ -85,7 +85,7 @@ pub(crate) fn status_of(line: &[u8]) -> Option<u8>
         return None;
     }
     let (_, behind) = line.split_at(7);
-    number_at(behind)
+    status_number(behind)
 }
 
 /// How a run with this status ended. None where there is nothing to tell of its nodes' outputs.

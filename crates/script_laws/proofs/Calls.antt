@@ -6,7 +6,7 @@ use Rattle.std.specs.Int.RustNames.{FitsSigned}
 use Rattle.gas_atomic.specs.declared.word.WordOp.{WordOp}
 use Rattle.gas_atomic.specs.BatchRequests.{batch_arguments, spelled_op, spelled_ops}
 use Rattle.gas_atomic.specs.Words.{code_of}
-use Rattle.call_text.specs.Calls.{IsCall}
+use Rattle.line_forms.specs.Calls.{IsCall}
 use Rattle.line_forms.specs.Payloads.{IsPayload}
 use Rattle.line_forms.specs.Kinds.{IsOperand}
 use Rattle.line_forms.specs.declared.operands.NumberPlace.TheVariants.{Schedule}
@@ -14,8 +14,8 @@ use Rattle.line_forms.specs.declared.values.Operand.{Operand}
 use Rattle.line_forms.specs.declared.values.Operand.TheVariants as operand
 use Rattle.line_forms.specs.declared.values.Payload.{Payload}
 use Rattle.line_forms.specs.declared.values.Payload.TheVariants as payload
-use Rattle.call_text.specs.declared.scheduled.ScheduledCall.{ScheduledCall}
-use Rattle.call_text.specs.declared.scheduled.ScheduledCall.TheVariants as call
+use Rattle.line_forms.specs.declared.scheduled.ScheduledCall.{ScheduledCall}
+use Rattle.line_forms.specs.declared.scheduled.ScheduledCall.TheVariants as call
 use Rattle.line_forms.specs.declared.scope.Scope.{Scope}
 use Rattle.node_script.specs.Bodies.{operand_value}
 use Rattle.node_script.specs.ScheduledCalls.{meant_by, given_from}

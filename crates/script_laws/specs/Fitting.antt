@@ -6,9 +6,9 @@ use Rattle.datagram_grammar.specs.Parameters.{Parameters, AreInRange}
 use Rattle.collective_area.specs.Served.{HasCollectives, ServesCollectives}
 use Rattle.gas_atomic.specs.Served.{HasBatches, ServesBatches}
 use Rattle.atomic_laws.specs.AtomicLaws.{AtomicsHold}
-use Rattle.call_text.specs.Calls.{IsCall}
+use Rattle.line_forms.specs.Calls.{IsCall}
 use Rattle.job_text.specs.JobText.{IsHandler}
-use Rattle.call_text.specs.declared.scheduled.ScheduledCall.{ScheduledCall}
+use Rattle.line_forms.specs.declared.scheduled.ScheduledCall.{ScheduledCall}
 use Rattle.line_forms.specs.declared.scope.Scope.{Scope}
 use Rattle.node_script.specs.Bodies.{script_meaning}
 use Rattle.node_script.specs.Registration.{JobHandlers, registered}

@@ -7,7 +7,7 @@ use Rattle.endpoint_rules.specs.EndpointLocal.{EndpointLocal}
 use Rattle.endpoint_rules.specs.declared.answer.Answer.{Answer}
 use Rattle.gas_collectives.specs.CollectivesState.{CollectivesState}
 use Rattle.gas_endpoint.specs.EndpointState.{EndpointState, ForItsRecord}
-use Rattle.call_text.specs.declared.scheduled.ScheduledCall.{ScheduledCall}
+use Rattle.line_forms.specs.declared.scheduled.ScheduledCall.{ScheduledCall}
 use Rattle.step_text.specs.declared.steps.ScriptStep.{ScriptStep}
 use Rattle.step_text.specs.declared.steps.ScriptStep.TheVariants as step
 use Rattle.step_text.specs.declared.steps.WaitingStep.{WaitingStep}

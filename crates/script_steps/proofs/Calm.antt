@@ -16,12 +16,12 @@ use Rattle.handler_rules.specs.declared.rules.Violation.{Violation}
 use Rattle.handler_rules.specs.declared.table.Entry.{Entry}
 use Rattle.am_core.specs.Kept.{Local, with_locks, segment_of}
 use Rattle.am_core.specs.ClientRules.{with_violations, short_asking, medium_asking, long_asking}
-use Rattle.hsl_locks.specs.Locks.{lock_answer, after_lock}
-use Rattle.hsl_locks.specs.declared.answer.LockAnswer.{LockAnswer}
-use Rattle.hsl_locks.specs.declared.answer.LockAnswer.TheVariants as locking
-use Rattle.hsl_locks.specs.declared.answer.Held.{Held}
-use Rattle.hsl_locks.specs.declared.answer.Owner.{Owner}
-use Rattle.hsl_locks.specs.declared.answer.Owner.TheVariants as owner
+use Rattle.handler_rules.specs.Locks.{lock_answer, after_lock}
+use Rattle.handler_rules.specs.declared.lock_answer.LockAnswer.{LockAnswer}
+use Rattle.handler_rules.specs.declared.lock_answer.LockAnswer.TheVariants as locking
+use Rattle.handler_rules.specs.declared.lock_answer.Held.{Held}
+use Rattle.handler_rules.specs.declared.lock_answer.Owner.{Owner}
+use Rattle.handler_rules.specs.declared.lock_answer.Owner.TheVariants as owner
 use Rattle.named_barrier.specs.Record.{BarrierRecord, try_after}
 use Rattle.named_barrier.specs.declared.answer.BarrierAnswer.{BarrierAnswer}
 use Rattle.named_barrier.specs.declared.answer.BarrierAnswer.TheVariants as barrier
@@ -53,8 +53,8 @@ use Rattle.endpoint_rules.specs.declared.answer.Local.{Local as LocalAnswer}
 use Rattle.endpoint_rules.specs.declared.answer.Local.TheVariants as local
 use Rattle.endpoint_rules.specs.declared.answer.Region.TheVariants as region
 use Rattle.gas_atomic.specs.Asking.{batch_asking}
-use Rattle.call_text.specs.declared.scheduled.ScheduledCall.{ScheduledCall}
-use Rattle.call_text.specs.declared.scheduled.ScheduledCall.TheVariants as call
+use Rattle.line_forms.specs.declared.scheduled.ScheduledCall.{ScheduledCall}
+use Rattle.line_forms.specs.declared.scheduled.ScheduledCall.TheVariants as call
 use Rattle.step_text.specs.declared.steps.ScriptStep.{ScriptStep}
 use Rattle.step_text.specs.declared.steps.ScriptStep.TheVariants as step
 use Rattle.step_text.specs.declared.steps.WaitingStep.{WaitingStep}

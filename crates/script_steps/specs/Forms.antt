@@ -4,7 +4,7 @@ use Rattle.std.specs.Prelude.{◌≡◌, ℕ, ℤ, int_le, ◌==◌, if◌then�
 use Rattle.std.specs.Prelude.{Option, None, Some}
 use Rattle.std.specs.Option.{option_map}
 use Rattle.datagram_grammar.specs.Parameters.{Parameters}
-use Rattle.hsl_locks.specs.declared.answer.LockAnswer.TheVariants as locking
+use Rattle.handler_rules.specs.declared.lock_answer.LockAnswer.TheVariants as locking
 use Rattle.named_barrier.specs.declared.answer.BarrierAnswer.TheVariants as barrier
 use Rattle.node_record.specs.Record.{Node}
 use Rattle.node_record.specs.declared.answer.Asked.TheVariants as asked
@@ -25,12 +25,12 @@ use Rattle.endpoint_rules.specs.declared.answer.Answer.{Answer}
 use Rattle.endpoint_rules.specs.declared.answer.Answer.TheVariants as answers
 use Rattle.endpoint_rules.specs.declared.answer.Begun.TheVariants as begun
 use Rattle.endpoint_rules.specs.declared.answer.Local.TheVariants as local
-use Rattle.call_text.specs.Calls.{IsCall}
+use Rattle.line_forms.specs.Calls.{IsCall}
 use Rattle.step_text.specs.Scripts.{IsStep}
 use Rattle.line_forms.specs.declared.scope.Scope.{Scope}
 use Rattle.step_text.specs.declared.steps.PutText.{PutText}
-use Rattle.call_text.specs.declared.scheduled.ScheduledCall.{ScheduledCall}
-use Rattle.call_text.specs.declared.scheduled.ScheduledCall.TheVariants as call
+use Rattle.line_forms.specs.declared.scheduled.ScheduledCall.{ScheduledCall}
+use Rattle.line_forms.specs.declared.scheduled.ScheduledCall.TheVariants as call
 use Rattle.step_text.specs.declared.steps.ScriptStep.{ScriptStep}
 use Rattle.step_text.specs.declared.steps.ScriptStep.TheVariants as step
 use Rattle.step_text.specs.declared.steps.WaitingStep.{WaitingStep}

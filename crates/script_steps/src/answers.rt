@@ -5,9 +5,9 @@ ghost use Rattle.script_steps.specs.Forms.{begun_handle, is_held, is_not_ready, 
 ghost use Rattle.script_steps.specs.Forms.{reached, waits_at, word_reached};
 
 use am_core::Asked;
-use call_text::ScheduledCall;
 use endpoint_rules::{Answer, Begun, Local};
-use hsl_locks::LockAnswer;
+use handler_rules::LockAnswer;
+use line_forms::ScheduledCall;
 use named_barrier::BarrierAnswer;
 use node_runs::ScriptAnswer;
 use put_get::{Handle, Synced};

@@ -8,9 +8,9 @@ ghost use Rattle.script_steps.specs.Tries.{TriesForm, read_as};
 use crate::answers::waits_at;
 use crate::making::make;
 use crate::trial::{Trial, Tried};
-use call_text::ScheduledCall;
 use gas_endpoint::Endpoint;
 use handler_rules::Handlers;
+use line_forms::ScheduledCall;
 use node_script::call_of;
 
 /// The try of such a call: a request and a lock are waited for, each other call is made once.

@@ -1,9 +1,9 @@
 -- The table of lines that are calls of collectives.
 use Rattle.std.proofs.Common.{◌≡◌, ℕ, refl, List, ◌∷◌, ◌++◌, None}
 use Rattle.line_forms.specs.Forms.{none_at, none_text, none_fits}
-use Rattle.call_text.specs.Calls.{calls, later_calls, own_calls, segment_calls, transfer_calls}
-use Rattle.call_text.specs.Calls.{implicit_calls}
-use Rattle.call_text.specs.Calls.{sync_calls, barrier_calls, call_at}
+use Rattle.line_forms.specs.Calls.{calls, later_calls, own_calls, segment_calls, transfer_calls}
+use Rattle.line_forms.specs.Calls.{implicit_calls}
+use Rattle.line_forms.specs.Calls.{sync_calls, barrier_calls, call_at}
 use Rattle.step_text.specs.CollectiveLines.{collective_rows, collective_entry, collective_fits, collective_at}
 use Rattle.step_text.specs.CollectiveLines.{collective_text, IsCollective}
 use Rattle.vis_text.specs.VisLines.{vis_at, vis_rows}

@@ -7,9 +7,9 @@ use Rattle.put_get.specs.declared.operation.Transfer.TheVariants as transfer
 use Rattle.step_text.specs.declared.steps.WaitingStep.{WaitingStep}
 use Rattle.step_text.specs.declared.steps.WaitingStep.TheVariants as waiting
 use Rattle.line_forms.specs.Forms.{none_at, none_text, none_fits}
-use Rattle.call_text.specs.Calls.{calls, later_calls, own_calls, segment_calls, transfer_calls}
-use Rattle.call_text.specs.Calls.{implicit_calls}
-use Rattle.call_text.specs.Calls.{sync_calls, barrier_calls, call_at}
+use Rattle.line_forms.specs.Calls.{calls, later_calls, own_calls, segment_calls, transfer_calls}
+use Rattle.line_forms.specs.Calls.{implicit_calls}
+use Rattle.line_forms.specs.Calls.{sync_calls, barrier_calls, call_at}
 use Rattle.step_text.specs.Scripts.{waits, sync_waits, later_waits, waiting_entry, waiting_at, waiting_fits}
 use Rattle.step_text.specs.Scripts.{waiting_text}
 use Rattle.step_text.specs.Scripts.{IsWaiting}

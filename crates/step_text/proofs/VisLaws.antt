@@ -8,9 +8,9 @@ use Rattle.gas_strided.specs.declared.shapes.Way.{Way}
 use Rattle.gas_strided.specs.declared.shapes.Way.TheVariants.{Put, Get}
 use Rattle.gas_strided.specs.Plans.{PlanState}
 use Rattle.line_forms.specs.Forms.{none_at, none_text, none_fits, table_at, entry_text, IsOf}
-use Rattle.call_text.specs.Calls.{calls, later_calls, own_calls, segment_calls, transfer_calls}
-use Rattle.call_text.specs.Calls.{implicit_calls}
-use Rattle.call_text.specs.Calls.{sync_calls, barrier_calls, call_at, call_text, IsCall}
+use Rattle.line_forms.specs.Calls.{calls, later_calls, own_calls, segment_calls, transfer_calls}
+use Rattle.line_forms.specs.Calls.{implicit_calls}
+use Rattle.line_forms.specs.Calls.{sync_calls, barrier_calls, call_at, call_text, IsCall}
 use Rattle.vis_text.specs.VisLines.{vis_rows, words_of, entry_by, vis_entry, with_plan, vis_fits, vis_at}
 use Rattle.vis_text.specs.VisLines.{vis_text, IsVis}
 use Rattle.vis_text.specs.VisLines.{shape_fault, shape_plan, vis_plan}
@@ -20,7 +20,7 @@ use Rattle.step_text.specs.ThreadActions.{thread_action_at, other_action_at, thr
 use Rattle.step_text.specs.ThreadActions.{IsThreadAction}
 use Rattle.step_text.specs.declared.steps.CollectiveText.{CollectiveText}
 use Rattle.line_forms.specs.declared.scope.Scope.{Scope}
-use Rattle.call_text.specs.declared.scheduled.ScheduledCall.{ScheduledCall}
+use Rattle.line_forms.specs.declared.scheduled.ScheduledCall.{ScheduledCall}
 use Rattle.vis_text.specs.declared.vis.VisShape.{VisShape}
 use Rattle.vis_text.specs.declared.vis.VisShape.TheVariants as shapes
 use Rattle.vis_text.specs.declared.vis.VisText.{VisText}
@@ -29,7 +29,7 @@ use Rattle.step_text.specs.declared.thread_actions.ThreadAction.{ThreadAction}
 use Rattle.step_text.specs.declared.thread_actions.ThreadAction.TheVariants as does
 use Rattle.text_lines.proofs.Takes.{Takes, takes_some, takes_then, takes_or}
 use Rattle.line_forms.proofs.FormLaws.{IsExact, IsTable, IsEntryOf, IsFlat, entry_of, table_exact, none_exact}
-use Rattle.call_text.proofs.CallLaws.{calls_exact}
+use Rattle.line_forms.proofs.CallLaws.{calls_exact}
 use Rattle.step_text.proofs.CollectiveLaws.{collectives_exact, other_call, other_vis}
 
 -- an entry makes its words, by the first row of its name

@@ -9,7 +9,7 @@ use Rattle.line_forms.specs.FormTests.{table_form}
 use Rattle.line_forms.specs.Tables.{first_named}
 use Rattle.step_text.specs.declared.waiting_forms.WaitingForm.{WaitingForm}
 use Rattle.step_text.specs.declared.waiting_forms.WaitingForm.TheVariants as forms
-use Rattle.call_text.specs.Calls.{move_shape, fill_shape, call_text, IsCall}
+use Rattle.line_forms.specs.Calls.{move_shape, fill_shape, call_text, IsCall}
 use Rattle.vis_text.specs.VisLines.{vis_text, IsVis}
 use Rattle.step_text.specs.CollectiveLines.{collective_text, shape_of, IsCollective}
 use Rattle.step_text.specs.ThreadActions.{thread_action_at, thread_action_form}

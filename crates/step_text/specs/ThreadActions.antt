@@ -1,7 +1,7 @@
 -- What a thread does in a line: a call, the beginning of a transfer of many pieces, or a call of collectives.
 use Rattle.std.specs.Prelude.{ℕ, List, Option, Some, Bool, ◌||◌}
 use Rattle.text_lines.specs.Lines.{◌>>=◌, ◌<|>◌}
-use Rattle.call_text.specs.Calls.{call_at, call_form, call_text, IsCall}
+use Rattle.line_forms.specs.Calls.{call_at, call_form, call_text, IsCall}
 use Rattle.vis_text.specs.VisLines.{vis_at, vis_form, vis_text, IsVis}
 use Rattle.step_text.specs.CollectiveLines.{collective_at, collective_form, collective_text, IsCollective}
 use Rattle.line_forms.specs.declared.scope.Scope.{Scope}

@@ -1,9 +1,8 @@
 //! What handlers and threads do, as values.
 
-use call_text::{BoxedTransfer, ScheduledCall};
 use collective_area::Shape;
 use handler_rules::CallKind;
-use line_forms::{Operand, Operands, Payload, Registers};
+use line_forms::{BoxedTransfer, Operand, Operands, Payload, Registers, ScheduledCall};
 use put_get::ImplicitKinds;
 use vis_text::BoxedVis;
 

@@ -7,8 +7,7 @@ ghost use Rattle.step_text.specs.ThreadActions.{thread_action_form};
 
 use crate::collectives::{collective_at, collective_form};
 use crate::steps::CollectiveText;
-use call_text::{ScheduledCall, call_at, call_form};
-use line_forms::Scope;
+use line_forms::{ScheduledCall, Scope, call_at, call_form};
 use std::alloc::Global;
 use text_lines::Miss;
 use vis_text::{BoxedVis, vis_at, vis_form};

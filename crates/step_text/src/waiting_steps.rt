@@ -13,9 +13,9 @@ use crate::collectives::coll_at;
 use crate::steps::{PutText, ScriptStep, WaitingStep};
 use crate::thread_actions::{ThreadAction, thread_action_at, thread_action_form};
 use crate::waiting_forms::WaitingForm;
-use call_text::{Move, boxed, fill_at, get_of, memset_of, move_at, put_of};
 use line_forms::{
-    HasName, Scope, byte_at, implicit_at, integer_at, is_second, number_at, registers_at, value_at,
+    HasName, Move, Scope, boxed, byte_at, fill_at, get_of, implicit_at, integer_at, is_second,
+    memset_of, move_at, number_at, put_of, registers_at, value_at,
 };
 use std::alloc::Global;
 use text_lines::{Miss, is_name, name_of};

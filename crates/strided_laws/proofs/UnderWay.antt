@@ -15,7 +15,7 @@ use Rattle.put_get.specs.Operation.{Operation, begin_answer, is_full}
 use Rattle.node_record.specs.Record.{Node}
 use Rattle.node_record.specs.Step.{is_exhausted}
 use Rattle.access_region.specs.Regions.{has_begun}
-use Rattle.hsl_locks.specs.declared.answer.Held.{Held}
+use Rattle.handler_rules.specs.declared.lock_answer.Held.{Held}
 use Rattle.am_core.specs.Kept.{Local, segment_of}
 use Rattle.am_core.specs.ClientRules.{rules}
 use Rattle.endpoint_rules.specs.declared.answer.Region.TheVariants as region

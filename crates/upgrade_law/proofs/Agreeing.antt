@@ -24,7 +24,7 @@ use Rattle.put_get.specs.Operation.{target, next_chunk}
 use Rattle.node_record.specs.Behaviour.{Asking, Contact, Sending, Category, Short, Medium, Long, asks_well}
 use Rattle.node_record.specs.Behaviour.{replies_well}
 use Rattle.node_record.specs.declared.answer.SlotRef.{SlotRef}
-use Rattle.hsl_locks.specs.declared.answer.Held.{Held}
+use Rattle.handler_rules.specs.declared.lock_answer.Held.{Held}
 use Rattle.lists.proofs.Cases.{none_some, none_is}
 use Rattle.put_get.specs.Operation.{come_back}
 use Rattle.endpoint_rules.specs.CoreCalls.{LocalCall, Poll}

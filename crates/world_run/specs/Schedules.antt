@@ -21,7 +21,7 @@ use Rattle.node_script.specs.declared.collective_texts.CollectiveAnswer.TheVaria
 use Rattle.node_script.specs.Registration.{handlers_of, registered}
 use Rattle.node_script.specs.Bodies.{script_meaning}
 use Rattle.node_script.specs.ScheduledCalls.{meant_by}
-use Rattle.call_text.specs.declared.scheduled.ScheduledCall.{ScheduledCall}
+use Rattle.line_forms.specs.declared.scheduled.ScheduledCall.{ScheduledCall}
 use Rattle.step_text.specs.declared.steps.ScheduledEvent.{ScheduledEvent}
 use Rattle.step_text.specs.declared.steps.ScheduledEvent.TheVariants as scheduled
 use Rattle.step_text.specs.declared.steps.TimedEvent.{TimedEvent}

@@ -1,6 +1,6 @@
 use Rattle.std.proofs.Common.{rules}
 use Rattle.datagram_grammar.proofs.Spelling.{spelling_fits}
-use Rattle.reply_slots.proofs.Replies.{reply_sealed}
+use Rattle.message_slots.proofs.KeptReplies.{reply_sealed}
 use Rattle.am_core.proofs.sealing.seal_reply.Goals as goal
 
 pub returns-clause-kept : goal.returns-clause-kept

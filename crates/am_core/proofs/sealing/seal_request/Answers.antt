@@ -1,5 +1,5 @@
 use Rattle.std.proofs.Common.{rules}
-use Rattle.credit_slots.proofs.Requests.{request_sealed}
+use Rattle.message_slots.proofs.Requests.{request_sealed}
 use Rattle.datagram_grammar.proofs.Spelling.{spelling_fits}
 use Rattle.am_core.proofs.sealing.seal_request.Goals as goal
 

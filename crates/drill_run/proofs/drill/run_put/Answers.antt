@@ -1,6 +1,6 @@
 use Rattle.std.proofs.Common.{◌+◌, ◌-◌, ◌*◌, ◌%◌, ◌^◌, ◌<◌, lit<, sym, subst, ◌∙◌, arith}
 use Rattle.put_get.specs.declared.operation.ImplicitKinds.TheVariants as implicit
-use Rattle.call_text.specs.declared.scheduled.ScheduledCall.TheVariants as call
+use Rattle.line_forms.specs.declared.scheduled.ScheduledCall.TheVariants as call
 use Rattle.step_text.specs.declared.steps.ScheduledEvent.TheVariants as scheduled
 use Rattle.put_get.specs.declared.operation.Transfer.TheVariants as transfer
 use Rattle.drill_run.specs.Rounds.{at_time}

@@ -1,6 +1,6 @@
 use Rattle.std.proofs.Common.{refl}
 use Rattle.gas_outside.proofs.Outboxes.{nothing_yet, past_done, past_fault, past_last}
-use Rattle.call_text.specs.Calls.{call_text}
+use Rattle.line_forms.specs.Calls.{call_text}
 use Rattle.job_print.proofs.Pieces.{call_parts}
 use Rattle.job_print.proofs.events.write_thread_call.Goals as goal
 

@@ -3,7 +3,7 @@ use Rattle.std.specs.Int.{w32}
 use Rattle.std.specs.Int.RustNames.{FitsSigned}
 use Rattle.std.proofs.lemmas.Int.{to_z-of_z}
 use Rattle.gas_outside.specs.Buffered.{GathersAll, outbox}
-use Rattle.call_text.specs.Calls.{notify_row}
+use Rattle.line_forms.specs.Calls.{notify_row}
 use Rattle.line_forms.specs.Forms.{none_text, values_text}
 use Rattle.job_print.proofs.steps.write_waiting.Goals as goal
 

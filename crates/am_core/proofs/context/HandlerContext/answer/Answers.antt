@@ -1,6 +1,6 @@
 use Rattle.std.proofs.Common.{arith, rules}
 use Rattle.datagram_grammar.proofs.Spelling.{spelling_fits}
-use Rattle.reply_slots.proofs.Replies.{reply_sealed}
+use Rattle.message_slots.proofs.KeptReplies.{reply_sealed}
 use Rattle.am_core.proofs.context.HandlerContext.answer.Goals as goal
 
 pub seal-requires-clause-some : goal.seal-requires-clause-some

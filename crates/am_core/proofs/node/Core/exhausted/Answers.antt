@@ -1,5 +1,5 @@
 use Rattle.std.proofs.Common.{ap, ◌∙◌}
-use Rattle.credit_slots.specs.SlotsState.{is_exhausted}
+use Rattle.message_slots.specs.SlotsState.{is_exhausted}
 use Rattle.am_core.specs.CoreState.{CoreState}
 use Rattle.am_core.proofs.Readings.{exhausted_is}
 use Rattle.am_core.proofs.node.Core.exhausted.Goals as goal

@@ -1,5 +1,5 @@
 use Rattle.std.proofs.Common.{ap, ◌∙◌}
-use Rattle.credit_slots.specs.SlotsState.{vacant_count}
+use Rattle.message_slots.specs.SlotsState.{vacant_count}
 use Rattle.am_core.specs.CoreState.{CoreState}
 use Rattle.am_core.proofs.Readings.{free_is}
 use Rattle.am_core.proofs.node.Core.free.Goals as goal

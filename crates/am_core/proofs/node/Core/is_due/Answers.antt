@@ -1,5 +1,5 @@
 use Rattle.std.proofs.Common.{rules}
-use Rattle.credit_slots.specs.Due.{IsDue as SlotsDue}
+use Rattle.message_slots.specs.Due.{IsDue as SlotsDue}
 use Rattle.am_core.proofs.Ticking.{due_told}
 use Rattle.am_core.proofs.node.Core.is_due.Goals as goal
 

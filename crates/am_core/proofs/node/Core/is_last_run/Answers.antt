@@ -1,5 +1,5 @@
 use Rattle.std.proofs.Common.{subst, ◌<◌}
-use Rattle.reply_slots.specs.declared.Judged.TheVariants as judged
+use Rattle.message_slots.specs.declared.replies.Judged.TheVariants as judged
 use Rattle.am_core.proofs.Knowing.{last_found}
 use Rattle.am_core.proofs.node.Core.is_last_run.Goals as goal
 

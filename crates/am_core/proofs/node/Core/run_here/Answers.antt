@@ -1,5 +1,5 @@
 use Rattle.std.proofs.Common.{ap, take, ◌≡◌, ◌∙◌, refl, sym, subst, rules, length, None}
-use Rattle.hsl_locks.proofs.Laws.{unblocked_parts}
+use Rattle.handler_rules.proofs.LockLaws.{unblocked_parts}
 use Rattle.handler_rules.specs.Registered.{reply_locks}
 use Rattle.am_core.specs.HandlerRuns.{listed_for}
 use Rattle.am_core.specs.AskedFor.{asking_of}

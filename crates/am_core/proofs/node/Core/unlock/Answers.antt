@@ -1,6 +1,6 @@
 use Rattle.std.proofs.Common.{rules, ap, ◌∙◌}
-use Rattle.hsl_locks.specs.declared.answer.Owner.TheVariants as owner
-use Rattle.hsl_locks.specs.Locks.{holds}
+use Rattle.handler_rules.specs.declared.lock_answer.Owner.TheVariants as owner
+use Rattle.handler_rules.specs.Locks.{holds}
 use Rattle.am_core.proofs.ThreadLocks.{unlock_unheld}
 use Rattle.am_core.proofs.CoreSteps.{unlock_step, unlock_step_quiet}
 use Rattle.am_core.proofs.node.Core.unlock.Goals as goal

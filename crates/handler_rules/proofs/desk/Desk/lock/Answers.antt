@@ -1,6 +1,6 @@
 -- No thread comes to hold a lock that the handler may take.
 use Rattle.std.proofs.Common.{sym, ◌∙◌}
-use Rattle.hsl_locks.proofs.Laws.{never_held}
+use Rattle.handler_rules.proofs.LockLaws.{never_held}
 use Rattle.handler_rules.proofs.Locked.{taking, unblocked-after_lock}
 use Rattle.handler_rules.proofs.desk.Desk.lock.Goals as goal
 

@@ -1,5 +1,0 @@
-use Rattle.credit_slots.proofs.Viewed.{next-vacant}
-use Rattle.credit_slots.proofs.CreditSlots.claim.Goals as goal
-
-pub open-requires : goal.open-requires
-open-requires c = next-vacant c.args.self.now c.args.to c.in-Ok.slot c.in-Ok.number c.requires c.in-Ok.ensures.next

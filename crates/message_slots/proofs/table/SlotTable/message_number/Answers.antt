@@ -1,0 +1,25 @@
+use Rattle.std.proofs.Common.{ap, sym}
+use Rattle.std.proofs.Common.{◌∙◌}
+use Rattle.std.specs.Prelude.{option_and_then}
+use Rattle.message_slots.specs.declared.table.Contents.{Contents}
+use Rattle.message_slots.specs.TableState.{message_number}
+use Rattle.message_slots.specs.TableViews.{slot_view}
+use Rattle.message_slots.proofs.TableViewed.{here}
+use Rattle.message_slots.proofs.TableViewed.{not-message}
+use Rattle.message_slots.proofs.table.SlotTable.message_number.Goals as goal
+
+pub returns-in-Message : goal.returns-in-Message
+returns-in-Message c =
+    let found =
+    here c.args.to c.args.slot c.place_in.result c.self.invariant.0 c.self.invariant.1 c.self.view_is c.requires
+    c.place_in.ensures.place c.index.ensures in
+    sym (ap (option_and_then message_number) found.is
+    ∙ ap (λ (x : Contents). message_number (slot_view x found.buffer)) c.in-Message.is)
+
+pub returns-in_default : goal.returns-in_default
+returns-in_default c =
+    let found =
+    here c.args.to c.args.slot c.place_in.result c.self.invariant.0 c.self.invariant.1 c.self.view_is c.requires
+    c.place_in.ensures.place c.index.ensures in
+    sym (ap (option_and_then message_number) found.is
+    ∙ (not-message c.index.result.now found.buffer 0 c.in_default.not-Message).2)

@@ -1,0 +1,32 @@
+use Rattle.std.proofs.Common.{ap, sym}
+use Rattle.std.proofs.Common.{◌∙◌}
+use Rattle.std.specs.Prelude.{option_and_then}
+use Rattle.message_slots.specs.declared.table.Contents.{Contents}
+use Rattle.message_slots.specs.TableState.{number_of}
+use Rattle.message_slots.specs.TableViews.{slot_view}
+use Rattle.message_slots.proofs.TableViewed.{here}
+use Rattle.message_slots.proofs.table.SlotTable.number.Goals as goal
+
+pub returns-in-Nothing : goal.returns-in-Nothing
+returns-in-Nothing c =
+    let found =
+    here c.args.to c.args.slot c.place_in.result c.self.invariant.0 c.self.invariant.1 c.self.view_is c.requires
+    c.place_in.ensures.place c.index.ensures in
+    sym (ap (option_and_then number_of) found.is
+    ∙ ap (λ (x : Contents). number_of (slot_view x found.buffer)) c.in-Nothing.is)
+
+pub returns-in-Draft : goal.returns-in-Draft
+returns-in-Draft c =
+    let found =
+    here c.args.to c.args.slot c.place_in.result c.self.invariant.0 c.self.invariant.1 c.self.view_is c.requires
+    c.place_in.ensures.place c.index.ensures in
+    sym (ap (option_and_then number_of) found.is
+    ∙ ap (λ (x : Contents). number_of (slot_view x found.buffer)) c.in-Draft.is)
+
+pub returns-in-Message : goal.returns-in-Message
+returns-in-Message c =
+    let found =
+    here c.args.to c.args.slot c.place_in.result c.self.invariant.0 c.self.invariant.1 c.self.view_is c.requires
+    c.place_in.ensures.place c.index.ensures in
+    sym (ap (option_and_then number_of) found.is
+    ∙ ap (λ (x : Contents). number_of (slot_view x found.buffer)) c.in-Message.is)

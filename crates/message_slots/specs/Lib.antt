@@ -1,0 +1,14 @@
+pub mod TableState
+pub mod TableViews
+pub mod TableLending
+pub mod Due
+pub mod CreditLending
+pub mod Order
+pub mod Ring
+pub mod SlotsState
+pub mod CreditViews
+pub mod ReplyLending
+pub mod RepliesState
+pub mod ReplyViews
+pub mod Blocks
+pub mod BlockLending
