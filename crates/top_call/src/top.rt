@@ -17,6 +17,7 @@ use gas_world::World;
 use launch_run::Notes;
 use station_run::NodeAddress;
 use std::alloc::Global;
+use std::mem::forget;
 use std::sync::Wait;
 use std::thread::Threads;
 
@@ -35,12 +36,13 @@ pub struct Status {
 }
 
 impl Status {
-    /// The exit status alone; the world and the nodes are dropped.
+    /// The exit status alone, for a program that ends with it. The world and the nodes keep their memory, which the
+    /// system takes back as the program ends.
     pub fn into_code(self) -> u8
         ensures { result ≡ self.code }
     {
         let code = self.code;
-        drop(self);
+        forget(self);
         code
     }
 }
