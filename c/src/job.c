@@ -133,7 +133,7 @@ uintptr_t gasnet_getMaxGlobalSegmentSize(void) { return gasnet_getMaxLocalSegmen
 
 int gasnet_getSegmentInfo(gasnet_seginfo_t *seginfo_table, int numentries) {
     const struct gasnetl_job *job = &gasnetl_job;
-    if (!job->attached)
+    if (!job->attached && !gasnetl_another_ends())
         return gasnetl_refuse(GASNET_ERR_NOT_INIT, "gasnet_getSegmentInfo is called before gasnet_attach");
     if (!seginfo_table || numentries < 0)
         return gasnetl_refuse(GASNET_ERR_BAD_ARG, "gasnet_getSegmentInfo: there is no table");
@@ -143,8 +143,10 @@ int gasnet_getSegmentInfo(gasnet_seginfo_t *seginfo_table, int numentries) {
 }
 
 int gasnet_set_waitmode(int wait_mode) {
+    if (!gasnetl_job.initialised)
+        return gasnetl_refuse(GASNET_ERR_NOT_INIT, "gasnet_set_waitmode is called before gasnet_init");
     if (wait_mode != GASNET_WAIT_SPIN && wait_mode != GASNET_WAIT_BLOCK && wait_mode != GASNET_WAIT_SPINBLOCK)
         return gasnetl_refuse(GASNET_ERR_BAD_ARG, "gasnet_set_waitmode: %d is no mode", wait_mode);
-    gasnetl_job.progress.wait_mode = wait_mode;
+    atomic_store_explicit(&gasnetl_job.progress.wait_mode, wait_mode, memory_order_relaxed);
     return GASNET_OK;
 }

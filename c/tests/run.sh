@@ -124,6 +124,13 @@ for build in out out/sanitized; do
     check "end one 0$kind" 0 "ends the others: node . hadn't called it after 1 s" env GASNET_EXIT_TIMEOUT=1 bin/gasnetrun -n 3 $build/tests/ends one 0
     check "end fork$kind" 0 "" bin/gasnetrun -n 3 $build/tests/ends fork 0
     check "end handler 6$kind" 6 "" bin/gasnetrun -n 3 $build/tests/ends handler 6
+    check "end alarm 0$kind" 0 "" bin/gasnetrun -n 3 $build/tests/ends alarm 0
+    check "end alarm 7$kind" 7 "" bin/gasnetrun -n 3 $build/tests/ends alarm 7
+    for way in two:0 return:0 handler:0 lock:3; do
+        check "end of threads, ${way%:*}$kind" "${way#*:}" "" bin/gasnetrun -n 2 $build/tests/exits "${way%:*}"
+    done
+    check "end of threads, signals$kind" 0 "" bash -c \
+        "for i in {1..30}; do timeout 20 $build/tests/exits signal \$((1000 + 7 * i)) || exit; done"
     # The node that ends the job has 5, those that handle SIGQUIT have 9: the first of them to end decides.
     check "end quit$kind" 0 "^quit" bash -c "bin/gasnetrun -n 3 $build/tests/ends quit 5; case \$? in 5 | 9) ;; *) false ;; esac"
 done
