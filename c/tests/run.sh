@@ -159,6 +159,9 @@ export -f ended nodes_of until_here
 for signal in TERM:143 INT:130 KILL:137 HUP:129; do
     check "orphans ${signal%:*}" 0 "" bash -c "ended ${signal%:*} ${signal#*:} out/tests/ends"
 done
+# Nodes whose parent is gone: the pipe alone ends them, each of them.
+check "orphans KILL without parents" 0 "" bash -c \
+    'ended KILL 137 sh -c '\''( (sleep 0.3; exec "$0" "$@") & ); exec sleep 60'\'' out/tests/ends'
 check "orphans KILL behind a shell" 0 "" bash -c 'ended KILL 137 sh -c '\''"$0" "$@"; :'\'' out/tests/ends'
 
 # A peer that is gone is found by the others alone, where no gasnetrun looks.
@@ -218,7 +221,10 @@ broken GASNET_ADDRESSES=here "GASNET_ADDRESSES is broken: an address" GASNET_NOD
 broken GASNET_ADDRESSES=127.0.0.1:5,127.0.0.1:5 "GASNET_ADDRESSES is broken: two of" GASNET_NODES=2 GASNET_RANK=0
 # What the system refuses is 71.
 status=71 broken GASNET_ADDRESSES=192.0.2.1:5000,127.0.0.1:5 "node 0 can't have the address 192.0.2.1:5000" GASNET_NODES=2 GASNET_RANK=0
+status=71 broken GASNET_SOCKET=77 "GASNET_SOCKET is 77, which is no socket" GASNET_ADDRESSES=127.0.0.1:5,127.0.0.1:6 \
+    GASNET_NODES=2 GASNET_RANK=0
 check "gasnetrun usage" 64 "usage" bin/gasnetrun -n 65 out/tests/barriers
+check "gasnetrun usage, a long number" 64 "usage" bin/gasnetrun -n 4294967297 out/tests/barriers
 check "gasnetrun of no program" 127 "can't be started" bin/gasnetrun -n 2 out/tests/no-such-program
 
 # The compiler, the example, and other launchers.
