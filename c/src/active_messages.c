@@ -65,6 +65,8 @@ static void run_handler(struct gasnetl_job *job, gasnet_token_t token, const str
         gasnetl_stop(GASNETL_MISUSE, "a message of node %u came for handler %u, which isn't registered here", token->from, run->handler);
     gasnetl_thread.token = token;
     gasnetl_call(handler, token, run);
+    if (gasnetl_another_ends()) /* it had no turn left to wait for */
+        gasnetl_stay_out(&job->turns);
     gasnetl_thread.token = NULL;
     if (gasnetl_thread.locks)
         gasnetl_stop(GASNETL_MISUSE, "handler %u returned while it held a handler-safe lock", run->handler);
@@ -121,7 +123,7 @@ static void run_coming(struct gasnetl_job *job, gasnet_token_t token, const gasn
 
 void gasnetl_message_take(struct gasnetl_job *job, const uint8_t *bytes, size_t length) {
     struct gasnetl_token token;
-    if (job->ended) /* no handler runs any more */
+    if (job->ender) /* no handler runs any more */
         return;
     const gasnet_c_coming coming = gasnet_c_peek(&job->node, bytes, length);
     token_start(&token, (gasnet_node_t)coming.from, coming.runs == 1);
@@ -179,6 +181,11 @@ int gasnetl_reply(gasnet_token_t token, const struct gasnetl_message *message) {
 }
 
 /* ---- Requests. */
+
+/* Whether a call that answers a code comes before gasnet_attach, or behind the end. Within a handler it is misuse. */
+static bool is_out_of_turn(const struct gasnetl_job *job) {
+    return !job->attached && !gasnetl_thread.token && !gasnetl_another_ends();
+}
 
 /* Makes the run of a message to the local node: its payload stands where the handler is to see it. */
 static struct gasnetl_run run_here(struct gasnetl_job *job, gasnet_handler_t handler, uint32_t category, uint64_t offset, gasnet_c_bytes payload, gasnet_c_args args) {
@@ -239,7 +246,7 @@ static void request_there(struct gasnetl_job *job, gasnet_c_ask *ask, const stru
 }
 
 int gasnetl_request(gasnet_node_t node, const struct gasnetl_message *message) {
-    if (!gasnetl_job.attached && !gasnetl_thread.token)
+    if (is_out_of_turn(&gasnetl_job))
         return gasnetl_refuse(GASNET_ERR_NOT_INIT, "gasnet_AMRequest is called before gasnet_attach");
     struct gasnetl_job *job = gasnetl_enter("gasnet_AMRequest");
     gasnet_c_ask ask = { .args = { message->args, message->count }, .payload = NOTHING, .category = (uint32_t)message->category,
@@ -259,7 +266,7 @@ int gasnetl_request(gasnet_node_t node, const struct gasnetl_message *message) {
 /* ---- Polls. */
 
 int gasnet_AMPoll(void) {
-    if (!gasnetl_job.attached && !gasnetl_thread.token)
+    if (is_out_of_turn(&gasnetl_job))
         return gasnetl_refuse(GASNET_ERR_NOT_INIT, "gasnet_AMPoll is called before gasnet_attach");
     struct gasnetl_job *job = gasnetl_enter("gasnet_AMPoll");
     gasnetl_poll(job, POLL_MOST);

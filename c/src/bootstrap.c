@@ -11,6 +11,18 @@
 #include "config.h"
 #include "hosts.h"
 
+/* Has a description of the pipe that is this node's own, as its signals go to one owner of each. All nodes inherit one.
+ * Where the system has no /proc the inherited one it is. */
+static int own_pipe(int inherited) {
+    char name[40];
+    snprintf(name, sizeof name, "/proc/self/fd/%d", inherited);
+    int own = open(name, O_RDONLY | O_NONBLOCK | O_CLOEXEC);
+    if (own < 0)
+        return inherited;
+    close(inherited);
+    return own;
+}
+
 /* The node ends with whoever started it: as its parent ends, and as the last writer of the lifeline's pipe does. */
 static bool hold_lifeline(void) {
     uint64_t line;
@@ -19,10 +31,12 @@ static bool hold_lifeline(void) {
     if (!line)
         return true;
     prctl(PR_SET_PDEATHSIG, SIGKILL);
-    int pipe = (int)line;
+    int pipe = own_pipe((int)line);
     if (fcntl(pipe, F_SETFD, FD_CLOEXEC) || fcntl(pipe, F_SETOWN, getpid()) || fcntl(pipe, F_SETSIG, SIGKILL) ||
         fcntl(pipe, F_SETFL, O_ASYNC | O_NONBLOCK)) {
-        fprintf(stderr, "gasnet: GASNET_LIFELINE is %d, which is no pipe: unset it, or start the program by gasnetrun\n", pipe);
+        fprintf(stderr,
+                "gasnet: GASNET_LIFELINE is %d, which is no pipe: unset it, or start the program by gasnetrun\n",
+                (int)line);
         return false;
     }
     char byte;

@@ -49,9 +49,11 @@ static bool job_number(const char *key, uint32_t *number) {
     PMIX_LOAD_PROCID(&job, own.nspace, PMIX_RANK_WILDCARD);
     if (fails(key, PMIx_Get(&job, key, NULL, 0, &value)))
         return false;
-    *number = value->data.uint32;
+    bool is_number = value->type == PMIX_UINT32;
+    if (is_number)
+        *number = value->data.uint32;
     PMIX_VALUE_RELEASE(value);
-    return true;
+    return !fails(key, is_number ? PMIX_SUCCESS : PMIX_ERR_TYPE_MISMATCH);
 }
 
 /* The first address of this host that isn't its loopback's; the loopback's where there is none. */

@@ -128,11 +128,11 @@ static void take_end(struct gasnetl_job *job, uint16_t from, const struct datagr
     control->has_left[from] = true;
     if (end->flags & HEARD)
         control->knows_we_left[from] = true;
-    if ((job->ended || end->flags & FORCED) && !(end->flags & IS_ANSWER)) {
+    if ((job->ender || end->flags & FORCED) && !(end->flags & IS_ANSWER)) {
         struct datagram answer = { .kind = END, .flags = HEARD | IS_ANSWER, .first = (uint64_t)control->code };
         send_datagram(job, from, &answer);
     }
-    if (end->flags & FORCED && !job->ended)
+    if (end->flags & FORCED && !job->ender)
         gasnetl_end_by_peer(job, (int)end->first);
 }
 

@@ -74,15 +74,26 @@ static void end_with_others(struct gasnetl_job *job, bool forced) {
     linger(job, true, job->config.end_timeout);
 }
 
-/* Leaves the job. It is done once; whatever is called after it finds the job ended. */
-static void leave(struct gasnetl_job *job, int status, bool forced) {
-    if (job->ended || !job->initialised)
-        return;
-    bool interrupts = gasnetl_thread.has_turn && !gasnetl_thread.token && !gasnetl_thread.ends_itself;
-    if (!gasnetl_thread.has_turn)
-        gasnetl_take_turn(&job->turns);
-    gasnetl_thread.leaves = true;
-    job->ended = true;
+/* Begins the end. The thread has the turn then, unless whoever has it never gives it: the end interrupts that one.
+ * False where another thread ends the process. */
+static bool begin_end(struct gasnetl_job *job, bool *interrupts) {
+    struct gasnetl_thread *self = &gasnetl_thread, *nobody = NULL;
+    if (gasnetl_another_ends())
+        return false;
+    *interrupts = self->has_turn && !self->token && !self->ends_itself;
+    if (!self->has_turn && !gasnetl_take_last_turn(&job->turns))
+        *interrupts = true;
+    return atomic_compare_exchange_strong(&job->ender, &nobody, self);
+}
+
+/* Leaves the job. It is done once; whatever the thread calls after it finds the job left. False where another thread
+ * ends the process: this one is to wait for that. */
+static bool leave(struct gasnetl_job *job, int status, bool forced) {
+    bool interrupts;
+    if (job->ender == &gasnetl_thread || !job->initialised)
+        return true;
+    if (!begin_end(job, &interrupts))
+        return false;
     job->control.code = status;
     if (interrupts)
         gasnetl_network_forget(&job->network);
@@ -104,20 +115,37 @@ static void leave(struct gasnetl_job *job, int status, bool forced) {
         gasnetl_bootstrap_abort(&job->start, status);
     gasnetl_bootstrap_end(&job->start);
     gasnetl_give_turn(&job->turns);
+    job->is_left = true;
+    return true;
+}
+
+/* Waits for the end, which another thread brings, though this one called exit. A C library may let that thread's exit
+ * wait for this one's. So this one goes on, a second after the job was left. */
+static void wait_in_exit(struct gasnetl_job *job) {
+    gasnetl_give_turn(&job->turns);
+    while (!job->is_left)
+        usleep(AGAIN);
+    sleep(1);
 }
 
 /* Not in a child that the client forked: the node is its parent. */
 static void at_exit(int status, void *parent) {
-    if ((intptr_t)parent == getpid())
-        leave(&gasnetl_job, status, status != 0);
+    if ((intptr_t)parent == getpid() && !leave(&gasnetl_job, status, status != 0))
+        wait_in_exit(&gasnetl_job);
+}
+
+/* Leaves the job and ends the process, or waits for that where another thread does it. */
+static _Noreturn void end_process(struct gasnetl_job *job, int status, bool forced) {
+    if (!leave(job, status, forced))
+        gasnetl_stay_out(&job->turns);
+    exit(status);
 }
 
 void gasnetl_exit_start(void) { on_exit(at_exit, (void *)(intptr_t)getpid()); }
 
 void gasnetl_end_all(struct gasnetl_job *job, int status) {
     gasnetl_thread.ends_itself = true;
-    leave(job, status, true);
-    exit(status);
+    end_process(job, status, true);
 }
 
 void gasnetl_raise_quit(void) {
@@ -129,11 +157,7 @@ void gasnetl_raise_quit(void) {
 
 void gasnetl_end_by_peer(struct gasnetl_job *job, int status) {
     gasnetl_raise_quit();
-    leave(job, status, true);
-    exit(status);
+    end_process(job, status, true);
 }
 
-void gasnet_exit(int exitcode) {
-    leave(&gasnetl_job, exitcode, exitcode != 0);
-    exit(exitcode);
-}
+void gasnet_exit(int exitcode) { end_process(&gasnetl_job, exitcode, exitcode != 0); }

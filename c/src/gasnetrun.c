@@ -27,7 +27,7 @@ struct run {
     int sockets[NODES];
     char addresses[NODES * TEXT];
     pid_t children[NODES];
-    int lifeline[2]; /* a pipe whose writing end this process alone has: the nodes end as it does */
+    int lifeline[2]; /* a pipe whose writing end, until it is -1, this process alone has: the nodes end as it does */
     int signals;
     int status;      /* the first that isn't 0 */
     bool is_told;    /* a node told by SIGUSR1 that it ended the job with status 0: that is the job's */
@@ -123,7 +123,9 @@ static void end_more(struct run *run) {
     if (run->ends == 2)
         end_all(run, SIGTERM);
     if (run->ends == 3) {
-        close(run->lifeline[1]);
+        if (run->lifeline[1] >= 0)
+            close(run->lifeline[1]);
+        run->lifeline[1] = -1;
         end_all(run, SIGKILL);
     }
 }
@@ -211,9 +213,10 @@ int main(int argc, char **argv) {
     char *end;
     if (argc < 4 || strcmp(argv[1], "-n"))
         return usage();
-    run.nodes = (int)strtol(argv[2], &end, 10);
-    if (*end || run.nodes < 1 || run.nodes > NODES)
+    long nodes = strtol(argv[2], &end, 10);
+    if (*end || nodes < 1 || nodes > NODES)
         return usage();
+    run.nodes = (int)nodes;
     run.grace = read_grace();
     catch_signals(&run);
     make_sockets(&run);

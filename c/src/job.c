@@ -50,6 +50,10 @@ static int judge_attach(const struct gasnetl_job *job, uintptr_t segsize) {
         return gasnetl_refuse(GASNET_ERR_NOT_INIT, "gasnet_attach is called a second time");
     if (segsize % PAGE)
         return gasnetl_refuse(GASNET_ERR_BAD_ARG, "gasnet_attach: %zu bytes of a segment aren't a multiple of GASNET_PAGESIZE", (size_t)segsize);
+    if (job->nodes > 1 && job->control.has_size && segsize != job->segment.size)
+        return gasnetl_refuse(GASNET_ERR_BAD_ARG,
+                              "gasnet_attach: a call that failed told the others of %zu bytes: ask for as many again",
+                              (size_t)job->segment.size);
     if (segsize > gasnet_getMaxLocalSegmentSize())
         return gasnetl_refuse(GASNET_ERR_BAD_ARG, "gasnet_attach: a segment of %zu bytes is more than gasnet_getMaxLocalSegmentSize(), which is %zu; GASNET_MAX_SEGSIZE sets it",
                               (size_t)segsize, (size_t)gasnet_getMaxLocalSegmentSize());
@@ -62,7 +66,27 @@ static bool leaves_heap(const struct gasnetl_job *job, uintptr_t minheapoffset) 
     return base < end || base - end >= minheapoffset;
 }
 
-/* Makes the endpoint. All nodes' segments are as long as the longest, and the layer's part is behind it. */
+/* Makes the endpoint over the segment, and the collectives over it. */
+static int fill_segment(struct gasnetl_job *job, const gasnet_c_setup *setup, uintptr_t minheapoffset) {
+    if (!leaves_heap(job, minheapoffset))
+        return gasnetl_refuse(GASNET_ERR_RESOURCE, "gasnet_attach: the segment is nearer than %zu bytes above the heap",
+                              (size_t)minheapoffset);
+    switch (gasnet_c_new(&job->node, setup, (gasnet_c_memory){ job->segment.base })) {
+    case 0:
+        break;
+    case 2:
+        return gasnetl_refuse(GASNET_ERR_RESOURCE, "gasnet_attach: there is no memory for the messages of %u nodes",
+                              job->nodes);
+    default:
+        return gasnetl_refuse(GASNET_ERR_BAD_ARG, "gasnet_attach: a limit of the endpoint is broken");
+    }
+    if (gasnetl_collectives_open(job))
+        return GASNET_OK;
+    gasnet_c_free(&job->node);
+    return gasnetl_refuse(GASNET_ERR_RESOURCE, "gasnet_attach: there is no memory for collectives");
+}
+
+/* Opens the segment, and fills it. All nodes' segments are as long as the longest, with the layer's part behind it. */
 static int open_endpoint(struct gasnetl_job *job, uintptr_t minheapoffset) {
     uintptr_t longest = 0;
     for (int node = 0; node < job->nodes; node++)
@@ -73,19 +97,10 @@ static int open_endpoint(struct gasnetl_job *job, uintptr_t minheapoffset) {
                                    .nodes = job->nodes, .me = job->me, .credits = (uint16_t)job->progress.credits };
     if (!gasnetl_segment_open(&job->segment, setup.segment))
         return gasnetl_refuse(GASNET_ERR_RESOURCE, "gasnet_attach: the system has no segment of %zu bytes", (size_t)setup.segment);
-    if (!leaves_heap(job, minheapoffset))
-        return gasnetl_refuse(GASNET_ERR_RESOURCE, "gasnet_attach: the segment is nearer than %zu bytes above the heap", (size_t)minheapoffset);
-    switch (gasnet_c_new(&job->node, &setup, (gasnet_c_memory){ job->segment.base })) {
-    case 0:
-        break;
-    case 2:
-        return gasnetl_refuse(GASNET_ERR_RESOURCE, "gasnet_attach: there is no memory for the messages of %u nodes", job->nodes);
-    default:
-        return gasnetl_refuse(GASNET_ERR_BAD_ARG, "gasnet_attach: a limit of the endpoint is broken");
-    }
-    if (!gasnetl_collectives_open(job))
-        return gasnetl_refuse(GASNET_ERR_RESOURCE, "gasnet_attach: there is no memory for collectives");
-    return GASNET_OK;
+    int code = fill_segment(job, &setup, minheapoffset);
+    if (code != GASNET_OK)
+        gasnetl_segment_close(&job->segment, setup.segment);
+    return code;
 }
 
 int gasnet_attach(gasnet_handlerentry_t *table, int numentries, uintptr_t segsize, uintptr_t minheapoffset) {
@@ -133,7 +148,7 @@ uintptr_t gasnet_getMaxGlobalSegmentSize(void) { return gasnet_getMaxLocalSegmen
 
 int gasnet_getSegmentInfo(gasnet_seginfo_t *seginfo_table, int numentries) {
     const struct gasnetl_job *job = &gasnetl_job;
-    if (!job->attached)
+    if (!job->attached && !gasnetl_another_ends())
         return gasnetl_refuse(GASNET_ERR_NOT_INIT, "gasnet_getSegmentInfo is called before gasnet_attach");
     if (!seginfo_table || numentries < 0)
         return gasnetl_refuse(GASNET_ERR_BAD_ARG, "gasnet_getSegmentInfo: there is no table");
@@ -143,8 +158,10 @@ int gasnet_getSegmentInfo(gasnet_seginfo_t *seginfo_table, int numentries) {
 }
 
 int gasnet_set_waitmode(int wait_mode) {
+    if (!gasnetl_job.initialised)
+        return gasnetl_refuse(GASNET_ERR_NOT_INIT, "gasnet_set_waitmode is called before gasnet_init");
     if (wait_mode != GASNET_WAIT_SPIN && wait_mode != GASNET_WAIT_BLOCK && wait_mode != GASNET_WAIT_SPINBLOCK)
         return gasnetl_refuse(GASNET_ERR_BAD_ARG, "gasnet_set_waitmode: %d is no mode", wait_mode);
-    gasnetl_job.progress.wait_mode = wait_mode;
+    atomic_store_explicit(&gasnetl_job.progress.wait_mode, wait_mode, memory_order_relaxed);
     return GASNET_OK;
 }

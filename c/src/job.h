@@ -3,6 +3,7 @@
 #ifndef GASNETL_JOB_H
 #define GASNETL_JOB_H
 
+#include <stdatomic.h>
 #include <stdbool.h>
 #include <stdint.h>
 
@@ -27,7 +28,10 @@ enum { GASNETL_OWN = (GASNETL_STAGE + GASNETL_BLOCKS_OWN + GASNETL_COLLECTIVES_O
 
 struct gasnetl_job {
     gasnet_node_t me, nodes;
-    bool initialised, attached, ended;
+    bool initialised;
+    atomic_bool attached;                   /* false again from some moment of the end on */
+    struct gasnetl_thread *_Atomic ender;   /* the thread that ends the process; NULL before */
+    atomic_bool is_left;                    /* that thread told the peers, and goes on to exit */
     struct gasnetl_start start;
     struct gasnetl_config config;
     struct gasnetl_network network;

@@ -2,6 +2,7 @@
 
 #include <errno.h>
 #include <fcntl.h>
+#include <linux/errqueue.h>
 #include <netinet/in.h>
 #include <netinet/udp.h>
 #include <stdio.h>
@@ -30,16 +31,29 @@ int gasnetl_network_bind(const struct sockaddr *address, socklen_t length) {
     return -1;
 }
 
+/* Whether an entry of the error queue says that nobody has the socket. Others say what is wrong with the way. */
+static bool is_refusal(struct msghdr *message) {
+    for (struct cmsghdr *part = CMSG_FIRSTHDR(message); part; part = CMSG_NXTHDR(message, part)) {
+        struct sock_extended_err error;
+        if (!(part->cmsg_level == IPPROTO_IP && part->cmsg_type == IP_RECVERR) &&
+            !(part->cmsg_level == IPPROTO_IPV6 && part->cmsg_type == IPV6_RECVERR))
+            continue;
+        memcpy(&error, CMSG_DATA(part), sizeof error);
+        return error.ee_errno == ECONNREFUSED;
+    }
+    return false;
+}
+
 /* Takes what hosts told of datagrams that nobody there wanted. */
 static void take_refusals(struct gasnetl_network *network) {
     for (;;) {
         struct sockaddr_storage address;
-        char control[512];
+        _Alignas(struct cmsghdr) char control[512];
         struct msghdr message = { .msg_name = &address, .msg_namelen = sizeof address, .msg_control = control, .msg_controllen = sizeof control };
         if (recvmsg(network->socket, &message, MSG_ERRQUEUE | MSG_DONTWAIT) < 0)
             return;
         uint16_t node = gasnetl_places_find(&network->places, &address);
-        if (node != GASNETL_NO_NODE)
+        if (node != GASNETL_NO_NODE && is_refusal(&message))
             network->is_refused[node] = true;
     }
 }
@@ -61,14 +75,23 @@ static void ask_for_groups(struct gasnetl_network *network) {
                           !setsockopt(network->socket, IPPROTO_UDP, UDP_GRO, &yes, sizeof yes);
 }
 
+/* Takes the socket that the node was started with. */
+static bool take_given(struct gasnetl_network *network, int socket) {
+    int type;
+    socklen_t length = sizeof type;
+    if (getsockopt(socket, SOL_SOCKET, SO_TYPE, &type, &length) || fcntl(socket, F_SETFD, FD_CLOEXEC)) {
+        fprintf(stderr, "gasnet: GASNET_SOCKET is %d, which is no socket: unset it\n", socket);
+        return false;
+    }
+    network->socket = socket;
+    return true;
+}
+
 static bool take_socket(struct gasnetl_network *network, int socket) {
     const struct gasnetl_place *own = &network->places.of[network->me];
     char text[80];
-    if (socket >= 0) {
-        network->socket = socket;
-        fcntl(socket, F_SETFD, FD_CLOEXEC);
-        return true;
-    }
+    if (socket >= 0)
+        return take_given(network, socket);
     network->socket = gasnetl_network_bind((const struct sockaddr *)&own->address, own->length);
     if (network->socket >= 0)
         return true;
@@ -136,6 +159,11 @@ static void send_singly(struct gasnetl_network *network) {
     }
 }
 
+/* Whether the way has no room for the datagrams of a group, or a device on it can't cut them. */
+static bool is_no_way_for_groups(int error) {
+    return error == EMSGSIZE || error == EINVAL || error == EIO || error == EOPNOTSUPP;
+}
+
 /* Sends what waits; the next datagram may stand behind it already. */
 static void send_waiting(struct gasnetl_network *network) {
     struct gasnetl_going *going = &network->going;
@@ -145,9 +173,9 @@ static void send_waiting(struct gasnetl_network *network) {
         send_singly(network);
     else if (send_bytes(network, going->to, going->bytes + going->first, going->end - going->first, going->each))
         network->sent += going->count;
-    else if (errno == EAGAIN)
+    else if (!is_no_way_for_groups(errno))
         network->unsent += going->count;
-    else { /* its datagrams are longer than the way has room for, or a device on it can't cut them */
+    else {
         network->takes_single[going->to] = true;
         send_singly(network);
     }

@@ -60,7 +60,7 @@ static void check_silence(struct gasnetl_job *job, uint16_t node) {
 }
 
 void gasnetl_peers_look(struct gasnetl_job *job) {
-    if (!job->attached || job->ended || job->progress.now < job->peers.next_look)
+    if (!job->attached || job->ender || job->progress.now < job->peers.next_look)
         return;
     job->peers.next_look = job->progress.now + LOOK;
     for (uint16_t node = 0; node < job->nodes; node++)

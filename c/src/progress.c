@@ -45,7 +45,7 @@ void gasnetl_progress_start(struct gasnetl_job *job) {
     progress->credits = GASNET_C_MAX_CREDITS;
     while (progress->credits > 1 && job->nodes * (job->nodes - 1u) * progress->credits > GASNET_C_ALL_CREDITS)
         progress->credits--;
-    progress->wait_mode = GASNET_WAIT_SPINBLOCK;
+    atomic_init(&progress->wait_mode, GASNET_WAIT_SPINBLOCK);
     progress->spin = SPIN;
     if (job->config.spin >= 0)
         progress->spin = (unsigned)job->config.spin;
@@ -179,7 +179,7 @@ bool gasnetl_poll(struct gasnetl_job *job, int most) {
         take(job, from, bytes, length);
         came++;
     }
-    if (job->attached && !job->ended)
+    if (job->attached && !job->ender)
         gasnetl_collectives_advance(job);
     /* What came is taken before anything goes again; but whoever sends without end doesn't hold that up. */
     if (!bytes)
@@ -216,8 +216,8 @@ void gasnetl_wait(struct gasnetl_job *job, unsigned *turn) {
         return;
     }
     ++*turn;
-    bool sleeps = progress->wait_mode == GASNET_WAIT_BLOCK ||
-                  (progress->wait_mode == GASNET_WAIT_SPINBLOCK && *turn >= progress->spin);
+    int mode = atomic_load_explicit(&progress->wait_mode, memory_order_relaxed);
+    bool sleeps = mode == GASNET_WAIT_BLOCK || (mode == GASNET_WAIT_SPINBLOCK && *turn >= progress->spin);
     if (sleeps)
         gasnetl_sleep(&job->turns, job->network.socket, sleep_time(job));
     else if (gasnetl_is_wanted(&job->turns))

@@ -2,6 +2,7 @@
 #ifndef GASNETL_PROGRESS_H
 #define GASNETL_PROGRESS_H
 
+#include <stdatomic.h>
 #include <stdbool.h>
 #include <stddef.h>
 #include <stdint.h>
@@ -21,7 +22,7 @@ struct gasnetl_progress {
     unsigned credits;        /* how many may be out to one peer */
     bool has_notes;          /* a note of the barrier may be due */
     unsigned since_poll;     /* requests since the last poll */
-    int wait_mode;
+    atomic_int wait_mode;    /* a client's thread sets it without a turn */
     unsigned spin;           /* the empty looks of a call that waits, before it sleeps */
 };
 

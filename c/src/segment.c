@@ -12,6 +12,11 @@ bool gasnetl_segment_open(struct gasnetl_segment *segment, uint64_t length) {
     return true;
 }
 
+void gasnetl_segment_close(struct gasnetl_segment *segment, uint64_t length) {
+    munmap(segment->base, length);
+    segment->base = NULL;
+}
+
 bool gasnetl_far(const struct gasnetl_job *job, gasnet_node_t node, const void *at, size_t nbytes, uint64_t *offset) {
     uintptr_t from = (uintptr_t)at, base = (uintptr_t)job->segment.bases[node], size = job->segment.sizes[node];
     if (from < base || from - base > size || nbytes > size - (from - base))

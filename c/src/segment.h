@@ -22,6 +22,9 @@ struct gasnetl_segment {
  * since a thread may use them until then. False where the system has none. */
 bool gasnetl_segment_open(struct gasnetl_segment *segment, uint64_t length);
 
+/* Gives these pages back, where gasnet_attach fails behind that. */
+void gasnetl_segment_close(struct gasnetl_segment *segment, uint64_t length);
+
 /* Where these bytes lie in a node's segment, whose client's part has all of them. False where it hasn't. */
 bool gasnetl_far(const struct gasnetl_job *job, gasnet_node_t node, const void *at, size_t nbytes, uint64_t *offset);
 

@@ -4,6 +4,7 @@
 #include <poll.h>
 #include <string.h>
 #include <sys/eventfd.h>
+#include <time.h>
 #include <unistd.h>
 
 #include "errors.h"
@@ -21,11 +22,25 @@ bool gasnetl_turns_start(struct gasnetl_turns *turns, bool threaded) {
     return turns->alarm >= 0 && !pthread_mutex_init(&turns->mutex, NULL);
 }
 
-/* Another thread ends the process: this one waits for that. */
-static _Noreturn void stay_out(struct gasnetl_turns *turns) {
+bool gasnetl_another_ends(void) {
+    const struct gasnetl_thread *ender = gasnetl_job.ender;
+    return ender && ender != &gasnetl_thread;
+}
+
+void gasnetl_stay_out(struct gasnetl_turns *turns) {
     gasnetl_give_turn(turns);
     for (;;)
         pause();
+}
+
+bool gasnetl_take_last_turn(struct gasnetl_turns *turns) {
+    struct timespec until;
+    clock_gettime(CLOCK_REALTIME, &until);
+    until.tv_sec++;
+    atomic_fetch_add(&turns->queued, 1);
+    gasnetl_thread.has_turn = !turns->threaded || !pthread_mutex_timedlock(&turns->mutex, &until);
+    atomic_fetch_sub(&turns->queued, 1);
+    return gasnetl_thread.has_turn;
 }
 
 void gasnetl_take_turn(struct gasnetl_turns *turns) {
@@ -35,11 +50,13 @@ void gasnetl_take_turn(struct gasnetl_turns *turns) {
         atomic_fetch_sub(&turns->queued, 1);
     }
     gasnetl_thread.has_turn = true;
-    if (gasnetl_job.ended && !gasnetl_thread.leaves)
-        stay_out(turns);
+    if (gasnetl_another_ends())
+        gasnetl_stay_out(turns);
 }
 
 void gasnetl_give_turn(struct gasnetl_turns *turns) {
+    if (!gasnetl_thread.has_turn)
+        return;
     gasnetl_thread.has_turn = false;
     if (turns->threaded)
         pthread_mutex_unlock(&turns->mutex);
@@ -61,9 +78,11 @@ static _Noreturn void misuse(const char *call) {
 
 struct gasnetl_job *gasnetl_enter(const char *call) {
     const struct gasnetl_thread *self = &gasnetl_thread;
-    if (self->token || self->locks || self->sections || !gasnetl_job.attached)
+    if (self->token || self->locks || self->sections)
         misuse(call);
-    gasnetl_take_turn(&gasnetl_job.turns);
+    gasnetl_take_turn(&gasnetl_job.turns); /* it doesn't come back where another thread ended the job */
+    if (!gasnetl_job.attached)
+        misuse(call);
     return &gasnetl_job;
 }
 
@@ -74,18 +93,22 @@ void gasnetl_leave(struct gasnetl_job *job) {
 
 void gasnetl_sleep(struct gasnetl_turns *turns, int socket, int milliseconds) {
     struct pollfd ready[2] = { { .fd = socket, .events = POLLIN }, { .fd = turns->alarm, .events = POLLIN } };
+    bool had_turn = gasnetl_thread.has_turn;
     uint64_t count;
     turns->sleepers++;
     gasnetl_give_turn(turns);
     poll(ready, 2, milliseconds);
     if (ready[1].revents & POLLIN && read(turns->alarm, &count, sizeof count) < 0 && errno != EAGAIN)
         gasnetl_stop(GASNETL_BROKEN, "an eventfd can't be read (%s)", strerror(errno));
-    gasnetl_take_turn(turns);
+    if (had_turn && gasnetl_job.ender == &gasnetl_thread)
+        gasnetl_take_last_turn(turns);
+    else if (had_turn)
+        gasnetl_take_turn(turns);
     turns->sleepers--;
 }
 
 void gasnetl_wake(struct gasnetl_turns *turns) {
     const uint64_t one = 1;
-    if (turns->sleepers && write(turns->alarm, &one, sizeof one) < 0 && errno != EAGAIN)
+    if (turns->threaded && turns->sleepers && write(turns->alarm, &one, sizeof one) < 0 && errno != EAGAIN)
         gasnetl_stop(GASNETL_BROKEN, "an eventfd can't be written (%s)", strerror(errno));
 }

@@ -26,7 +26,6 @@ struct gasnetl_thread {
     gasnet_hsl_t *locks;            /* the lock that it took last, and still holds */
     unsigned sections;              /* 1 inside a section without interrupts */
     bool has_turn;
-    bool leaves;                    /* it ends the process: the others get no turn any more */
     bool ends_itself;               /* the layer ends the job: no signal of the client's interrupted a call */
     struct gasnetl_op *puts, *gets; /* its implicit operations, or NULL; they outlive it, as pieces lead to them */
     struct gasnetl_op *region;      /* the access region that it has begun */
@@ -44,14 +43,24 @@ bool gasnetl_turns_start(struct gasnetl_turns *turns, bool threaded);
 struct gasnetl_job *gasnetl_enter(const char *call);
 void gasnetl_leave(struct gasnetl_job *job);
 
-/* The same by parts: takes the turn, and gives it away. */
+/* The same by parts: takes the turn, and gives it away where the thread has it. */
 void gasnetl_take_turn(struct gasnetl_turns *turns);
 void gasnetl_give_turn(struct gasnetl_turns *turns);
+
+/* Takes the turn for the end of the process. False where it isn't had in a second: whoever has it never gives it. */
+bool gasnetl_take_last_turn(struct gasnetl_turns *turns);
+
+/* Whether another thread ends the process. */
+bool gasnetl_another_ends(void);
+
+/* Waits for the end of the process, which another thread brings. The thread gives away the turn that it has. */
+_Noreturn void gasnetl_stay_out(struct gasnetl_turns *turns);
 
 /* Whether another thread waits for a turn. */
 bool gasnetl_is_wanted(struct gasnetl_turns *turns);
 
-/* Sleeps without the turn until a datagram may have come, another thread saw progress, or the time is over. */
+/* Sleeps without the turn until a datagram may have come, another thread saw progress, or the time is over. A thread
+ * that had no turn has none behind it. */
 void gasnetl_sleep(struct gasnetl_turns *turns, int socket, int milliseconds);
 
 /* Wakes the threads that sleep. */

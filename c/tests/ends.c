@@ -19,6 +19,13 @@ static void quit(int signal) {
     gasnet_exit(9);
 }
 
+static volatile sig_atomic_t alarm_status;
+
+static void alarmed(int signal) {
+    (void)signal;
+    gasnet_exit(alarm_status);
+}
+
 static _Noreturn void poll_on(void) {
     for (;;)
         GASNET_BLOCKUNTIL(false);
@@ -49,6 +56,11 @@ int main(int argc, char **argv) {
         raise(status);
     if (!strcmp(way, "quit") && last)
         gasnet_exit(status);
+    if (!strcmp(way, "alarm")) { /* a signal comes while a call sleeps */
+        alarm_status = status;
+        signal(SIGALRM, alarmed);
+        ualarm(200000, 0);
+    }
     if (!strcmp(way, "fork")) { /* a child that the client forked is no node */
         if (!fork())
             exit(3);

@@ -20,6 +20,7 @@ static void test_before(void) {
     CHECK(gasnet_getSegmentInfo(segments, 1) == GASNET_ERR_NOT_INIT);
     CHECK(gasnet_AMPoll() == GASNET_ERR_NOT_INIT);
     CHECK(gasnet_AMRequestShort0(0, 128) == GASNET_ERR_NOT_INIT);
+    CHECK(gasnet_set_waitmode(GASNET_WAIT_SPIN) == GASNET_ERR_NOT_INIT);
 }
 
 static void test_tables(void) {
@@ -64,7 +65,9 @@ int main(int argc, char **argv) {
     CHECK(!gasnet_getenv("GASNET_NO_SUCH_VARIABLE") && gasnet_getenv("PATH"));
     test_tables();
     uintptr_t own = GASNET_PAGESIZE * (uintptr_t)(me + 1); /* nodes may differ */
-    CHECK(gasnet_attach(full, 128, own, 1 << 20) == GASNET_OK);
+    CHECK(gasnet_attach(full, 128, own, UINTPTR_MAX / 2) == GASNET_ERR_RESOURCE);
+    CHECK(nodes == 1 || gasnet_attach(full, 128, own + GASNET_PAGESIZE, 0) == GASNET_ERR_BAD_ARG);
+    CHECK(gasnet_attach(full, 128, own, 1 << 20) == GASNET_OK); /* a call that failed may be made again */
     CHECK(gasnet_attach(NULL, 0, own, 0) == GASNET_ERR_NOT_INIT);
     CHECK(gasnet_getSegmentInfo(NULL, 1) == GASNET_ERR_BAD_ARG);
     CHECK(gasnet_getSegmentInfo(segments, nodes) == GASNET_OK);

@@ -124,6 +124,13 @@ for build in out out/sanitized; do
     check "end one 0$kind" 0 "ends the others: node . hadn't called it after 1 s" env GASNET_EXIT_TIMEOUT=1 bin/gasnetrun -n 3 $build/tests/ends one 0
     check "end fork$kind" 0 "" bin/gasnetrun -n 3 $build/tests/ends fork 0
     check "end handler 6$kind" 6 "" bin/gasnetrun -n 3 $build/tests/ends handler 6
+    check "end alarm 0$kind" 0 "" bin/gasnetrun -n 3 $build/tests/ends alarm 0
+    check "end alarm 7$kind" 7 "" bin/gasnetrun -n 3 $build/tests/ends alarm 7
+    for way in two:0 return:0 handler:0 lock:3; do
+        check "end of threads, ${way%:*}$kind" "${way#*:}" "" bin/gasnetrun -n 2 $build/tests/exits "${way%:*}"
+    done
+    check "end of threads, signals$kind" 0 "" bash -c \
+        "for i in {1..30}; do timeout 20 $build/tests/exits signal \$((1000 + 7 * i)) || exit; done"
     # The node that ends the job has 5, those that handle SIGQUIT have 9: the first of them to end decides.
     check "end quit$kind" 0 "^quit" bash -c "bin/gasnetrun -n 3 $build/tests/ends quit 5; case \$? in 5 | 9) ;; *) false ;; esac"
 done
@@ -152,6 +159,9 @@ export -f ended nodes_of until_here
 for signal in TERM:143 INT:130 KILL:137 HUP:129; do
     check "orphans ${signal%:*}" 0 "" bash -c "ended ${signal%:*} ${signal#*:} out/tests/ends"
 done
+# Nodes whose parent is gone: the pipe alone ends them, each of them.
+check "orphans KILL without parents" 0 "" bash -c \
+    'ended KILL 137 sh -c '\''( (sleep 0.3; exec "$0" "$@") & ); exec sleep 60'\'' out/tests/ends'
 check "orphans KILL behind a shell" 0 "" bash -c 'ended KILL 137 sh -c '\''"$0" "$@"; :'\'' out/tests/ends'
 
 # A peer that is gone is found by the others alone, where no gasnetrun looks.
@@ -211,7 +221,10 @@ broken GASNET_ADDRESSES=here "GASNET_ADDRESSES is broken: an address" GASNET_NOD
 broken GASNET_ADDRESSES=127.0.0.1:5,127.0.0.1:5 "GASNET_ADDRESSES is broken: two of" GASNET_NODES=2 GASNET_RANK=0
 # What the system refuses is 71.
 status=71 broken GASNET_ADDRESSES=192.0.2.1:5000,127.0.0.1:5 "node 0 can't have the address 192.0.2.1:5000" GASNET_NODES=2 GASNET_RANK=0
+status=71 broken GASNET_SOCKET=77 "GASNET_SOCKET is 77, which is no socket" GASNET_ADDRESSES=127.0.0.1:5,127.0.0.1:6 \
+    GASNET_NODES=2 GASNET_RANK=0
 check "gasnetrun usage" 64 "usage" bin/gasnetrun -n 65 out/tests/barriers
+check "gasnetrun usage, a long number" 64 "usage" bin/gasnetrun -n 4294967297 out/tests/barriers
 check "gasnetrun of no program" 127 "can't be started" bin/gasnetrun -n 2 out/tests/no-such-program
 
 # The compiler, the example, and other launchers.

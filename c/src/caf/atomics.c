@@ -9,16 +9,16 @@
 
 /* Where a call works; false where it ends here, and its stat is set. */
 static bool find(struct caf_step *step, int *node, struct caf_token *token, size_t offset, int image, int kind, int *stat) {
+    const struct caf_report report = { stat, NULL, 0 };
     *node = image ? caf_node(image) : caf_state.me;
-    uintptr_t at = caf_token_at(token, *node, offset, stat);
+    uintptr_t at = caf_token_at(token, *node, offset, &report);
     if (kind != 1 && kind != 2 && kind != 4 && kind != 8)
         caf_die("an atomic variable is of kind %d", kind);
     if (!at)
         return false;
     caf_settle_all();
     *step = (struct caf_step){ .at = at, .size = (uint32_t)kind };
-    if (stat)
-        *stat = 0;
+    caf_report_success(&report);
     return true;
 }
 

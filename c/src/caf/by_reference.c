@@ -6,12 +6,13 @@
 #include "state.h"
 
 static bool start(struct caf_far *far, struct caf_token *token, int image, int type, int kind, int *stat) {
+    const struct caf_report report = { stat, NULL, 0 };
     far->node = caf_node(image);
     far->type = (struct caf_type){ type, kind, 0 };
-    uintptr_t base = caf_token_at(token, far->node, 0, stat);
+    uintptr_t base = caf_token_at(token, far->node, 0, &report);
     far->section = caf_section_bytes(base, base ? token->bytes : 0);
-    if (base && stat)
-        *stat = 0;
+    if (base)
+        caf_report_success(&report);
     return base != 0;
 }
 

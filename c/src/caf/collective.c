@@ -313,10 +313,12 @@ static void end_exchange(struct exchange *exchange) {
         caf_heap_give(&caf_state.heap, exchange->room);
 }
 
-/* Pairs would send all once more; where there are none, halves take fewer messages. */
+/* Pairs would send all once more; where there are none, halves take fewer messages. The room has as many elements as
+ * the part. A member's share of all others fits there, where each share has as many elements as there are members. */
 static bool goes_by_shares(const struct exchange *exchange) {
     size_t members = (size_t)exchange->operation->team->size;
-    return exchange->pairs.rest && exchange->room && exchange->count >= members && exchange->count * exchange->combiner->type.size / members >= SHARE;
+    return exchange->pairs.rest && exchange->room && exchange->count / members >= members &&
+           exchange->count * exchange->combiner->type.size / members >= SHARE;
 }
 
 /* Of more members than a power of two, those of a pair come first. */

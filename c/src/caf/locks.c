@@ -10,10 +10,11 @@
 
 enum { CELL = 8, LEAST_PAUSE = 1000, MOST_PAUSE = 256000 }; /* nanoseconds between two tries for a lock */
 
-/* The step on a cell; false where the call ends here, and its stat is set. */
-static bool find(struct caf_step *step, int *node, const struct caf_token *token, size_t index, int image, int *stat) {
+/* The step on a cell; false where the call ends here, and its error is reported. */
+static bool find(struct caf_step *step, int *node, const struct caf_token *token, size_t index, int image,
+                 const struct caf_report *report) {
     *node = image ? caf_node(image) : caf_state.me;
-    uintptr_t at = caf_token_at(token, *node, index * CELL, stat);
+    uintptr_t at = caf_token_at(token, *node, index * CELL, report);
     *step = (struct caf_step){ .at = at, .size = CELL };
     return at != 0;
 }
@@ -85,7 +86,7 @@ void _gfortran_caf_lock(struct caf_token *token, size_t index, int image, int *a
     struct caf_step step;
     int node;
     caf_settle_all();
-    if (!find(&step, &node, token, index, image, stat))
+    if (!find(&step, &node, token, index, image, &report))
         return;
     step.operation = CAF_SWAP;
     step.value = (uint64_t)caf_state.me + 1;
@@ -100,7 +101,7 @@ void _gfortran_caf_unlock(struct caf_token *token, size_t index, int image, CAF_
     struct caf_step step;
     int node;
     caf_settle_all();
-    if (!find(&step, &node, token, index, image, stat))
+    if (!find(&step, &node, token, index, image, &report))
         return;
     step.operation = CAF_SWAP;
     step.compare = (uint64_t)caf_state.me + 1;
@@ -120,7 +121,7 @@ void _gfortran_caf_event_post(struct caf_token *token, size_t index, int image, 
     struct caf_step step;
     int node;
     caf_settle_all();
-    if (!find(&step, &node, token, index, image, stat))
+    if (!find(&step, &node, token, index, image, &report))
         return;
     step.operation = CAF_ADD;
     step.value = 1;
@@ -139,7 +140,7 @@ void _gfortran_caf_event_wait(struct caf_token *token, size_t index, int until, 
     struct caf_step step;
     int node;
     caf_settle_all();
-    if (!find(&step, &node, token, index, 0, stat))
+    if (!find(&step, &node, token, index, 0, &report))
         return;
     GASNET_BLOCKUNTIL(has_posts(&step, wanted) || (caf_state.gone && caf_state.gone == caf_state.images - 1));
     if (has_posts(&step, wanted)) {
@@ -152,12 +153,12 @@ void _gfortran_caf_event_wait(struct caf_token *token, size_t index, int until, 
 }
 
 void _gfortran_caf_event_query(struct caf_token *token, size_t index, int image, int *count, int *stat) {
+    const struct caf_report report = { stat, NULL, 0 };
     struct caf_step step;
     int node;
-    if (!find(&step, &node, token, index, image, stat))
+    if (!find(&step, &node, token, index, image, &report))
         return;
     step.operation = CAF_READ;
     *count = (int)caf_step_do(node, &step);
-    if (stat)
-        *stat = 0;
+    caf_report_success(&report);
 }

@@ -98,7 +98,7 @@ void caf_round_handler(gasnet_token_t from, int32_t low, int32_t high, int32_t r
     struct caf_team *team = caf_team_find(caf_join(low, high));
     uint32_t *latest = &team->rounds[round];
     caf_sender_counted(from);
-    if (sequence - (int32_t)*latest > 0)
+    if ((int32_t)((uint32_t)sequence - *latest) > 0)
         *latest = (uint32_t)sequence;
 }
 

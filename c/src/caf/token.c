@@ -12,11 +12,10 @@
 
 enum { CELL = 8, NOWHERE = 1 }; /* the bytes of a lock or an event; an address that stands for none */
 
-uintptr_t caf_token_at(const struct caf_token *token, int node, size_t offset, int *stat) {
-    const struct caf_report report = { stat, NULL, 0 };
+uintptr_t caf_token_at(const struct caf_token *token, int node, size_t offset, const struct caf_report *report) {
     bool has_failed = caf_state.peers[node].condition == CAF_FAILED && node != caf_state.me;
     if (has_failed && !(token && token->is_critical)) {
-        caf_report_error(&report, CAF_STAT_FAILED_IMAGE, "a coarray of a failed image is referred to");
+        caf_report_error(report, CAF_STAT_FAILED_IMAGE, "a coarray of a failed image is referred to");
         return 0;
     }
     if (!token || token->is_component || !token->bases[node])

@@ -5,6 +5,7 @@
 #include <stdbool.h>
 
 #include "abi.h"
+#include "errors.h"
 #include "gasnet.h"
 
 enum { CAF_PARTS = 16 };
@@ -25,9 +26,9 @@ struct caf_token {
     unsigned part;                    /* how many there were */
 };
 
-/* The address at a node of a coarray's byte. Where the node has no such coarray, or has failed, the answer is 0 and stat is
- * set; where stat is null all images end. */
-uintptr_t caf_token_at(const struct caf_token *token, int node, size_t offset, int *stat);
+/* The address at a node of a coarray's byte. Where the node has failed, the error is reported and the answer is 0.
+ * Where it has no such coarray, all images end. */
+uintptr_t caf_token_at(const struct caf_token *token, int node, size_t offset, const struct caf_report *report);
 
 /* A token of a component: memory of malloc, which the token frees. */
 struct caf_token *caf_token_component(void *memory, size_t bytes);

@@ -144,15 +144,15 @@ struct named {
 
 /* The section of a coarray that a call names; false where the call ends here, and its stat is set. */
 static bool find(struct caf_far *far, const struct named *named, size_t wanted, int *stat) {
+    const struct caf_report report = { stat, NULL, 0 };
     far->node = caf_node(named->image);
     far->type = caf_type_of(named->array, named->kind);
-    uintptr_t base = caf_token_at(named->token, far->node, named->offset, stat);
+    uintptr_t base = caf_token_at(named->token, far->node, named->offset, &report);
     if (!base)
         return false;
     far->section = named->subscripts ? chosen(named->array, base, named->subscripts, wanted) : caf_section_of(named->array, base);
     mend_place(far, named->token);
-    if (stat)
-        *stat = 0;
+    caf_report_success(&report);
     return true;
 }
 

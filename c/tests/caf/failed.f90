@@ -44,12 +44,14 @@ program failed
   call check(st == stat_failed_image, 'a get')
   sync images (n, stat=st)
   call check(st == stat_failed_image, 'sync images')
-  event post (event_var[n], stat=st)
-  call check(st == stat_failed_image, 'a post')
+  text = 'as it was'
+  event post (event_var[n], stat=st, errmsg=text)
+  call check(st == stat_failed_image .and. text(1:9) == 'a coarray', 'a post')
   call atomic_define(number[n], 4, stat=st)
   call check(st == stat_failed_image, 'an atomic')
-  lock (guard[n], stat=st)
-  call check(st == stat_failed_image, 'a lock of it')
+  text = 'as it was'
+  lock (guard[n], stat=st, errmsg=text)
+  call check(st == stat_failed_image .and. text(1:9) == 'a coarray', 'a lock of it')
   total = 1
   call co_sum(total, stat=st, errmsg=text)
   call check(st == stat_failed_image, 'co_sum')

@@ -73,6 +73,18 @@ for build in out out/sanitized; do
     done
 done
 
+# Reductions of few long elements, where images aren't a power of two.
+for build in out out/sanitized; do
+    kind=${build#out}
+    kind=${kind:+ sanitized}
+    for n in 5 7; do
+        for loss in 0 20; do
+            check "shares n=$n loss=$loss$kind" 0 "shares: done" env GASNET_DROP="$loss" GASNET_TWICE="$loss" \
+                GASNET_SWAP="$loss" GASNET_SEED="$n" bin/cafrun -n "$n" "$build/tests/caf/shares"
+        done
+    done
+done
+
 # Images that wait in a short collective see that one stops, or fails.
 for which in sum words broadcast; do
     for how in stops fails; do

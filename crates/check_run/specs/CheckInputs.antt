@@ -241,8 +241,8 @@ pub record TakesInput (old new : Option (List ℕ)) (job : JobState) (outputs : 
   pub ended : IsAtEnd new
   pub is_input : IsInput bytes job outputs
 
--- more bytes were read than an input may have (`input_limit`); or it was read to its end, and its bytes are no input, by
--- this line, for this reason
+-- more bytes were read than an input may have (`input_limit`); or it was read to its end, and its bytes are no input,
+-- by this line, for this reason
 pub record TakesNone (old new : Option (List ℕ)) (line : ℕ) (reason : LineWhy) : Type 0 where
   pub bytes : List ℕ
   pub read : Consumes old new bytes

@@ -46,8 +46,8 @@ abbrev pub state_after : JobState → (rank turns : ℕ) → List Entry → Reco
 state_after job rank turns entries =
     replayed record_steps (opening_record job rank) (take turns (struck_entries job rank entries))
 
--- this is what the output of the node of this rank tells: what its machine keeps after the turns that it took, which may
--- be fewer than all, with the lines of the steps that ended in them and what they sent
+-- this is what the output of the node of this rank tells: what its machine keeps after the turns that it took, which
+-- may be fewer than all, with the lines of the steps that ended in them and what they sent
 pub record ReplaysOutput (job : JobState) (rank : ℕ) (output : Output) (found : NodeReplay)
     (turns : Replayed) : Type 0 where
   pub status_is : found.status ≡ output.status

@@ -208,8 +208,8 @@ pub record IsStepTold (job : JobState) (traces : List Trace) (order : RunOrder) 
       ≡ (machine_after job at.rank (machine_at job at.rank trace place) entry).node
   pub words_are : words ≡ step_line job at (records_after job (first_turns (suc turn) order.turns) at.rank) answer
 
--- one turn of the run is later than another: all that happened up to the end of the earlier one stands before the events
--- of the later one
+-- one turn of the run is later than another: all that happened up to the end of the earlier one stands before the
+-- events of the later one
 pub record IsLater (order : RunOrder) (turn later : ℕ) : Type 0 where
   pub more : turn < later
   pub between : List (Timed OtherCall)
@@ -282,8 +282,8 @@ run_told {job} {traces} {order} told = first_turns (suc told.turn) order.turns
 
 -- each line of the steps of a run of these traces tells how its step ended. So an `ok` of a step that waits for
 -- transfers, of a blocking transfer, and an `ok` or a `mismatch` of one that waits at the barrier, is what the laws of
--- transfers and of the barrier speak of, in the very turn of the line. And of two lines of one node the later one is of a
--- later turn
+-- transfers and of the barrier speak of, in the very turn of the line. And of two lines of one node the later one is of
+-- a later turn
 pub record LinesTell (job : JobState) (traces : List Trace) (order : RunOrder) : Type 0 where
   pub each : (line : ℕ) (words : Line) → slice_get (steps_from job 0 traces) line ≡ Some words
       → IsStepTold job traces order line words

@@ -13,8 +13,8 @@ use Rattle.check_run.specs.TracesRun.{AreNodesAfter, AreNoRun, RunOfTraces}
 use Rattle.check_run.specs.declared.run.TracesEnd.{TracesEnd}
 use Rattle.check_run.specs.declared.run.TracesEnd.TheVariants as ends
 
--- they are a run, all its lines went in, and these nodes are left: those of the run, and so those that each node's trace
--- leaves, as it was read
+-- they are a run, all its lines went in, and these nodes are left: those of the run, and so those that each node's
+-- trace leaves, as it was read
 pub record EndsTold (job : JobState) (traces : List Trace) (old new : Outbox) (violated : Bool)
     (nodes : List EndpointState) : Type 0 where
   pub run : RunOfTraces job (struck_traces job traces)

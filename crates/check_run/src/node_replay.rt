@@ -90,8 +90,8 @@ fn first_refused(endpoint: &Endpoint, entries: &[Entry]) -> Option<Refusal>
     None
 }
 
-/// Replays the trace of an output of the node of this rank of the job, without the bytes that it refuses, up to the first entry that is of none of its
-/// threads, or hands a datagram to one that holds a lock then.
+/// Replays the trace of an output of the node of this rank of the job, without the bytes that it refuses, up to the
+/// first entry that is of none of its threads, or hands a datagram to one that holds a lock then.
 ///
 /// It is refused for want of memory alone.
 pub fn replay_output(

@@ -124,8 +124,8 @@ pub fn struck_trace<N: Notes>(
     })
 }
 
-/// The traces of the nodes of these recorders, without the bytes that their nodes refuse. How many turns of each node got
-/// such bytes is told.
+/// The traces of the nodes of these recorders, without the bytes that their nodes refuse. How many turns of each node
+/// got such bytes is told.
 ///
 /// Memory is taken for the list, and for each trace in which something is refused.
 pub fn struck_traces<N: Notes>(

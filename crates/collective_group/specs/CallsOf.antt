@@ -6,7 +6,8 @@ use Rattle.endpoint_rules.specs.EndpointRules.{OtherCall, OnCore, timed}
 use Rattle.transfer_laws.specs.Chunks.{EndpointJob}
 use Rattle.collective_area.specs.Area.{Area}
 use Rattle.collective_area.specs.declared.shape.Shape.{Shape}
-use Rattle.gas_collectives.specs.Progress.{end_refusal, is_left, is_open, start_ask, start_refusal, step_ask, writes_from}
+use Rattle.gas_collectives.specs.Progress.{end_refusal, is_left, is_open, start_ask, start_refusal, step_ask}
+use Rattle.gas_collectives.specs.Progress.{writes_from}
 use Rattle.gas_collectives.specs.declared.answers.EndAnswer.{EndAnswer}
 use Rattle.gas_collectives.specs.declared.answers.EndAnswer.TheVariants as end_answers
 use Rattle.collective_laws.specs.Groups.{Group, GroupEvent, Other, Start, Step, End, Stops, GoesOn, asked_in}
@@ -35,7 +36,8 @@ calls_from job area group now node thread to (suc many) =
     let records = world_after job group.records event in
     event ∷ elim (step_goes (group.progress node) to (asked_in (world_answer job group.records event))) [
       | Stops answer progress ↦ []
-      | GoesOn progress ↦ calls_from job area (with_progress (record group { records = records }) node progress) now node
+      | GoesOn progress ↦ calls_from job area
+          (with_progress (record group { records = records }) node progress) now node
           thread (suc to) many
     ])
     else calls_from job area group now node thread (suc to) many

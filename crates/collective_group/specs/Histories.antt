@@ -97,8 +97,8 @@ try_behind meaning it history at is there = record {
   dest = at.dest;
 }
 
--- Ended: all nodes started the phase with one shape, and the node has its result at `dest`. Mismatch: all started it, and
--- this is the first node whose shape isn't the local one
+-- Ended: all nodes started the phase with one shape, and the node has its result at `dest`. Mismatch: all started it,
+-- and this is the first node whose shape isn't the local one
 abbrev pub TellsResult : {job : EndpointJob} {area : Area} → Try job area → EndAnswer → Type 0
 TellsResult try end_answers.Ended = EndsOk try
 TellsResult try (end_answers.Mismatch other) = EndsApart try other

@@ -7,8 +7,8 @@ use handler_rules::Handlers;
 use node_caller::{Called, Caller};
 use raw_segment::Segment;
 
-/// A node of a group. What it stands for is the group of the laws, with the most buffers that each node held so far. Its
-/// calls leave the collectives as they are.
+/// A node of a group. What it stands for is the group of the laws, with the most buffers that each node held so far.
+/// Its calls leave the collectives as they are.
 #[derive(Drop)]
 pub struct AtGroup<'a, H: Handlers> {
     /// The group.

@@ -38,8 +38,8 @@ impl Group {
 
     /// `Collectives::step` of a node, by its thread at the time `now`.
     ///
-    /// The answer is that of the group's step which tries all nodes. Where `NoMemory` comes it did what a step does that
-    /// tries only some first nodes.
+    /// The answer is that of the group's step which tries all nodes. Where `NoMemory` comes it did what a step does
+    /// that tries only some first nodes.
     pub fn coll_step<H: Handlers>(
         &mut self,
         handlers: &H,
@@ -62,9 +62,9 @@ impl Group {
     /// `Collectives::try_end` of a node, by its thread at the time `now`. Its result goes to `dest`.
     ///
     /// The answer is that of the group's try, in the order of `Collectives::try_end`; `NoMemory` never comes. Whatever
-    /// happened to the group before, `Ended` says that all nodes have started that phase with one shape, and that the bytes at `dest`
-    /// are the node's result; `Mismatch(k)` says that all have started it, and that `k` is the first node whose shape isn't
-    /// the local one.
+    /// happened to the group before, `Ended` says that all nodes have started that phase with one shape, and that the
+    /// bytes at `dest` are the node's result; `Mismatch(k)` says that all have started it, and that `k` is the first
+    /// node whose shape isn't the local one.
     pub fn coll_end<H: Handlers>(
         &mut self,
         handlers: &H,

@@ -43,9 +43,9 @@ impl Group {
     /// A world in which nothing happened, whose nodes have started no collective. In each segment their area begins at
     /// `base`, and each part has room for `room` bytes of data.
     ///
-    /// There is such an area, as `Collectives::new` has it, and the table has the handler of collectives. Want of memory
-    /// is its one error. In each run from here, by any lawful handlers that serve collectives, a try to end a phase tells
-    /// what the law of results says.
+    /// There is such an area, as `Collectives::new` has it, and the table has the handler of collectives. Want of
+    /// memory is its one error. In each run from here, by any lawful handlers that serve collectives, a try to end a
+    /// phase tells what the law of results says.
     pub fn new(
         alloc: Global,
         settings: &Settings,
@@ -76,9 +76,9 @@ impl Group {
 
     /// One event of the world at the time `now`, answered as `World::step` does. It leaves the collectives as they are.
     ///
-    /// The node on which a call or a tick falls, and both nodes of a delivery, are there; so is the thread of a call, and
-    /// a list of registers has at most 256. A history goes on by it where it writes nothing into an area but what the
-    /// messages of collectives bring, and asks nobody for their handler (`IsGroupEvent`).
+    /// The node on which a call or a tick falls, and both nodes of a delivery, are there; so is the thread of a call,
+    /// and a list of registers has at most 256. A history goes on by it where it writes nothing into an area but what
+    /// the messages of collectives bring, and asks nobody for their handler (`IsGroupEvent`).
     pub fn event<H: Handlers>(
         &mut self,
         handlers: &H,

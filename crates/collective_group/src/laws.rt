@@ -14,12 +14,12 @@ use node_caller::Caller;
 
 /// Carries, for the check alone, what joins the contracts of `gas_collectives` with the laws. It has no code.
 ///
-/// `start`, of a start at a node of a group: where it is refused, the group's start is refused so and leaves the group as
-/// it is; else its call is the event of the group's start, and its answer is the group's.
-/// `step`, of each call of a step: it is the event of the group's step, which ends with the same answer or goes on to the
-/// next node, and the node is as far. `end`, of a try: its answer is the group's, its calls are events that leave the
-/// group's records, and the nodes are as far. `made`, of any event of a group: what it leaves of the records is what a run
-/// of its calls leaves of them.
+/// `start`, of a start at a node of a group: where it is refused, the group's start is refused so and leaves the group
+/// as it is; else its call is the event of the group's start, and its answer is the group's. `step`, of each call of a
+/// step: it is the event of the group's step, which ends with the same answer or goes on to the next node, and the node
+/// is as far. `end`, of a try: its answer is the group's, its calls are events that leave the group's records, and the
+/// nodes are as far. `made`, of any event of a group: what it leaves of the records is what a run of its calls leaves
+/// of them.
 pub fn calls_are_of_a_group()
     ensures start { StartIsOfGroup }
     ensures step { StepIsOfGroup }

@@ -57,8 +57,8 @@ impl WorldNodes {
 
     /// `Collectives::step` of a node, by its thread at the time `now`.
     ///
-    /// The answer is that of the group's step which tries all nodes. Where `NoMemory` comes it did what a step does that
-    /// tries only some first nodes.
+    /// The answer is that of the group's step which tries all nodes. Where `NoMemory` comes it did what a step does
+    /// that tries only some first nodes.
     pub fn step<H: Handlers>(
         &mut self,
         handlers: &H,

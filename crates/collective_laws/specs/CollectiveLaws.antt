@@ -10,7 +10,8 @@ use Rattle.transfer_laws.specs.Chunks.{EndpointJob, segment_at}
 use Rattle.collective_area.specs.Area.{Area, IsArea}
 use Rattle.collective_area.specs.Served.{HasCollectives, ServesCollectives}
 use Rattle.collective_area.specs.Results.{Contribution, result_of}
-use Rattle.collective_laws.specs.Groups.{Group, GroupEvent, GroupAnswer, OfEnd, End, opening_group, group_does, group_after}
+use Rattle.collective_laws.specs.Groups.{Group, GroupEvent, GroupAnswer, OfEnd, End, opening_group, group_does}
+use Rattle.collective_laws.specs.Groups.{group_after}
 use Rattle.collective_laws.specs.Groups.{AreGroupEvents}
 use Rattle.gas_collectives.specs.declared.answers.EndAnswer.TheVariants as end_answers
 
@@ -80,7 +81,8 @@ pub record EndsApart {job : EndpointJob} {area : Area} (try : Try job area) (oth
 
 pub record CollectivesHold (job : EndpointJob) (area : Area) : Type 0 where
   pub ok : (try : Try job area) → (tried try).0 ≡ OfEnd end_answers.Ended → EndsOk try
-  pub apart : (try : Try job area) (other : ℕ) → (tried try).0 ≡ OfEnd (end_answers.Mismatch other) → EndsApart try other
+  pub apart : (try : Try job area) (other : ℕ) → (tried try).0 ≡ OfEnd (end_answers.Mismatch other)
+      → EndsApart try other
 
 -- so it is of each job with settings in range and lawful handlers that has collectives: the handler is registered, and
 -- runs as `serve` does; and of each area in its segments

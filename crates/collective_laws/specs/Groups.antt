@@ -1,7 +1,8 @@
 -- The nodes of a job that run collectives: their records, how far each is, and what it gave to each phase. What each
 -- event of these leaves.
 -- Origin: this project's profile, over GASNet 1.8.1, core API, active messages.
-use Rattle.std.specs.Prelude.{ℕ, zero, suc, ◌≡◌, ◌≢◌, ◌+◌, ◌<◌, ◌≤◌, ◌==◌, if◌then◌else◌, true, false, List, [], ◌∷◌, ◌++◌}
+use Rattle.std.specs.Prelude.{ℕ, zero, suc, ◌≡◌, ◌≢◌, ◌+◌, ◌<◌, ◌≤◌, ◌==◌, if◌then◌else◌, true, false, List, [], ◌∷◌}
+use Rattle.std.specs.Prelude.{◌++◌}
 use Rattle.std.specs.Prelude.{Option, None, Some, fold}
 use Rattle.datagram_grammar.specs.Parameters.{Parameters}
 use Rattle.datagram_grammar.specs.Content.{Content}
@@ -30,7 +31,8 @@ use Rattle.collective_area.specs.Served.{collective_handler, header_for}
 use Rattle.collective_area.specs.Results.{Contribution, pieces_of}
 use Rattle.gas_collectives.specs.Progress.{Progress, idle, is_open}
 use Rattle.gas_collectives.specs.Progress.{start_refusal, start_ask, start_answer}
-use Rattle.gas_collectives.specs.Progress.{has_started, after_start, step_ask, is_left, with_sent, with_exhausted, end_refusal}
+use Rattle.gas_collectives.specs.Progress.{has_started, after_start, step_ask, is_left, with_sent, with_exhausted}
+use Rattle.gas_collectives.specs.Progress.{end_refusal}
 use Rattle.gas_collectives.specs.Progress.{end_answer, after_end, data_of_all, writes_from}
 use Rattle.gas_collectives.specs.declared.answers.EndAnswer.{EndAnswer}
 use Rattle.gas_collectives.specs.declared.answers.StartAnswer.{StartAnswer}
@@ -165,7 +167,8 @@ ended_group job area group now node thread dest polled answer = record group { r
 
 -- where its poll was answered so
 abbrev pub end_by : EndpointJob → Area → Group → (now node thread dest : ℕ) → WorldAnswer Answer → EndAnswer
-end_by job area group now node thread dest (OfNode (OfCall (answers.Forbidden forbidden))) = end_answers.Forbidden forbidden
+end_by job area group now node thread dest (OfNode (OfCall (answers.Forbidden forbidden))) =
+    end_answers.Forbidden forbidden
 end_by job area group now node thread dest other =
     end_answer area node (group.progress node) (segment_at job group.records node)
 

@@ -132,7 +132,8 @@ pub record PairHolds (now : Phases) (from to : ℕ) : Type 0 where
   -- a part has no stamp but of a phase that ran, and that of the last one with its remainder
   pub stands : (phase : ℕ) → now.stands to (phase % 2) from ≡ phase + 1 → now.ran from to phase ≡ true
   pub latest : (phase : ℕ) → now.ran from to phase ≡ true → phase < now.stands to (phase % 2) from
-  pub parity : (parity : ℕ) → parity < 2 → (now.stands to parity from ≡ 0) ⊎ ((now.stands to parity from + 1) % 2 ≡ parity)
+  pub parity : (parity : ℕ) → parity < 2
+      → (now.stands to parity from ≡ 0) ⊎ ((now.stands to parity from + 1) % 2 ≡ parity)
 
 pub record AllHold (nodes : ℕ) (now : Phases) : Type 0 where
   pub node : (node : ℕ) → node < nodes → NodeHolds now node

@@ -1,6 +1,5 @@
--- What one try of a step does with the collectives of its node: the calls that are made, what the step is answered, and how
--- far the node is then.
--- Origin: this project's profile, over GASNet 1.8.1, core API, active messages.
+-- What one try of a step does with the collectives of its node: the calls that are made, what the step is answered, and
+-- how far the node is then. Origin: this project's profile, over GASNet 1.8.1, core API, active messages.
 use Rattle.std.specs.Prelude.{ℕ, zero, suc, Bool, true, false, ◌&&◌, is_none, List, [], ◌∷◌}
 use Rattle.std.specs.Prelude.{Option, None, Some}
 use Rattle.node_record.specs.Record.{Node}
@@ -91,7 +90,8 @@ end_outcome site node it asked =
 -- how the last of these calls is answered; this one, where there is none
 abbrev pub last_from : Site → Option Answer → Node EndpointLocal → List ThreadCall → Option Answer
 last_from site last node [] = last
-last_from site last node (call ∷ later) = last_from site (Some (answer_at site node call)) (node_then site node call) later
+last_from site last node (call ∷ later) =
+    last_from site (Some (answer_at site node call)) (node_then site node call) later
 
 -- the slot of the message that the call of this answer sent
 abbrev pub sent_by : Option Answer → Option SlotRef

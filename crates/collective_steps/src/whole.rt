@@ -97,8 +97,8 @@ pub fn begin_whole<H: Handlers>(
     (tried, caller.last)
 }
 
-/// How a later try went whose step didn't end the collective, and whose try to end was answered so. `quiet` says that the
-/// step changed nothing.
+/// How a later try went whose step didn't end the collective, and whose try to end was answered so. `quiet` says that
+/// the step changed nothing.
 fn went_on(sent: Option<SlotRef>, quiet: bool, answer: EndAnswer) -> PartTried
     ensures { result ≡ went_on sent quiet answer }
 {

@@ -28,7 +28,8 @@ pub record DrillStage : Type 0 where
 abbrev pub drill_stage : WorldState → (counts : List ℕ) → DrillStage
 drill_stage world counts = record { world = world; counts = counts }
 
--- of all nodes for whose records the world stood: it stands for those after these events, and their answers were counted
+-- of all nodes for whose records the world stood: it stands for those after these events, and their answers were
+-- counted
 abbrev pub Counts : WorldJob → (events : Nodes → List (Timed OtherCall)) → (answers : Nodes → List Line)
     → (old new : DrillStage) → Type 0
 Counts job events answers old new =

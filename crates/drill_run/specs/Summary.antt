@@ -41,7 +41,8 @@ counted_word counted.Unsent = codes "unsent"
 -- in the order in which they are told
 unfoldable pub all_counted : List Counted
 all_counted =
-    counted.Accepted ∷ counted.Chunk ∷ counted.Retransmission ∷ counted.Ran ∷ counted.Duplicate ∷ counted.Stale ∷ counted.Returned
+    counted.Accepted ∷ counted.Chunk ∷ counted.Retransmission ∷ counted.Ran ∷ counted.Duplicate ∷ counted.Stale ∷
+    counted.Returned
     ∷ counted.Late ∷ counted.NotYet ∷ counted.Unsent ∷ []
 
 -- the words begin with this one

@@ -17,9 +17,9 @@ impl Batch {
     /// A thread of the caller's node asks the batch of its target: a Medium request to handler 252. The batch was made
     /// with the settings of the caller's job.
     ///
-    /// It is answered as a Medium request: `Accepted`, and the batch is on its way; `Ran`, where it is for the local node
-    /// and was done in the call; or why not, as `NotYet` where all credits of the pair are out. `NoMemory` comes only
-    /// from a caller that may lack memory.
+    /// It is answered as a Medium request: `Accepted`, and the batch is on its way; `Ran`, where it is for the local
+    /// node and was done in the call; or why not, as `NotYet` where all credits of the pair are out. `NoMemory` comes
+    /// only from a caller that may lack memory.
     #[tactic(auto, using(crate::proofs::Spelling::batch_again))]
     pub fn ask<K: Caller>(&self, caller: &mut K, thread: u16) -> Called
         requires there { IsThere (K.site caller.old) }

@@ -173,7 +173,8 @@ is_bad_dest area segment me shape dest =
 abbrev pub end_refusal : Area → (segment me : ℕ) → Progress → (dest : ℕ) → Option EndAnswer
 end_refusal area segment me progress dest =
     if not (is_open progress) then Some end_answers.NotStarted
-    else (if is_bad_dest area segment me progress.shape dest then Some (end_answers.BadArg arguments.Destination) else None)
+    else (if is_bad_dest area segment me progress.shape dest then Some (end_answers.BadArg arguments.Destination)
+    else None)
 
 -- the answer of a try that may poll, where the local segment has these bytes
 abbrev pub end_answer : Area → (me : ℕ) → Progress → (segment : List ℕ) → EndAnswer

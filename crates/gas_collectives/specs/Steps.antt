@@ -1,5 +1,6 @@
 -- What a step does: the calls that it makes, in their order, how they are answered, and how far the node is then.
-use Rattle.std.specs.Prelude.{ℕ, zero, suc, ◌≡◌, if◌then◌else◌, Bool, true, false, List, [], Option, None, Some, slice_set}
+use Rattle.std.specs.Prelude.{ℕ, zero, suc, ◌≡◌, if◌then◌else◌, Bool, true, false, List, [], Option, None, Some}
+use Rattle.std.specs.Prelude.{slice_set}
 use Rattle.node_record.specs.declared.answer.Asked.TheVariants as asked
 use Rattle.node_record.specs.Behaviour.{PayloadFrom, Lent, Own}
 use Rattle.endpoint_rules.specs.declared.answer.Answer.{Answer}

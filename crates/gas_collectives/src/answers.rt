@@ -64,7 +64,7 @@ pub enum EndAnswer {
     Exhausted(u16),
     /// The rule table forbids the poll; a violation was noted.
     Forbidden(Forbidden),
-    /// Memory ran out; the phase isn't ended. It never comes where the caller stands for a record of a run, whose segment
-    /// has the length of the settings.
+    /// Memory ran out; the phase isn't ended. It never comes where the caller stands for a record of a run, whose
+    /// segment has the length of the settings.
     NoMemory,
 }

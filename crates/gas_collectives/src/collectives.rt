@@ -13,8 +13,8 @@ use std::marker::Model;
 /// The most bytes of a part: those of a payload.
 const MAX_ROOM: u64 = MAX_PAYLOAD as u64;
 
-/// The collectives of a node: the settings of its job, its area, and how far it is. The node runs them in order, phase 0
-/// first, one at a time.
+/// The collectives of a node: the settings of its job, its area, and how far it is. The node runs them in order, phase
+/// 0 first, one at a time.
 #[derive(Drop)]
 pub struct Collectives {
     /// The settings of the job.

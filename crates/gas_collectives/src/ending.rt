@@ -20,13 +20,14 @@ use raw_segment::Segment;
 impl Collectives {
     /// Tries to end the phase that is open, and writes the local result at `dest` where it ends with one shape.
     ///
-    /// It is ready where it has sent to all others and has heard from all. The answer is the first of these that applies.
+    /// It is ready where it has sent to all others and has heard from all. The answer is the first of these that
+    /// applies.
     /// - `NotStarted`: no phase is open; nothing changed.
     /// - `BadArg(Destination)`: the result's range at `dest` passes the end of the segment, or shares a byte with the
     ///   area, or for a reduction's result isn't at a multiple of 8; nothing changed.
     /// - `Forbidden`: so the poll is answered that it makes.
-    /// - `Mismatch(k)`, where ready: `k` is the first node whose shape isn't the local one. The phase ends, and nothing is
-    ///   written.
+    /// - `Mismatch(k)`, where ready: `k` is the first node whose shape isn't the local one. The phase ends, and nothing
+    ///   is written.
     /// - `Ended`, where ready: the phase ends, and the result is written.
     /// - `Exhausted(k)`: `k` is the first node not sent to whose request was answered so last in this phase.
     /// - `NotReady`: else.

@@ -1,6 +1,7 @@
 //! What stands in the parts of the local segment.
 
-ghost use Rattle.std.specs.Prelude.{◌≡◌, ◌≢◌, ◌<◌, ◌≤◌, ◌+◌, ◌*◌, ◌%◌, length, true, is_none, IfSome, IfNone, ℕ, List, Some};
+ghost use Rattle.std.specs.Prelude.{◌≡◌, ◌≢◌, ◌<◌, ◌≤◌, ◌+◌, ◌*◌, ◌%◌, length, true, is_none};
+ghost use Rattle.std.specs.Prelude.{IfSome, IfNone, ℕ, List, Some};
 ghost use Rattle.std.specs.Prelude.{slice_get, take};
 ghost use Rattle.std.specs.Int.{w64, from_le_bytes};
 ghost use Rattle.raw_segment.specs.Bytes.{part};
@@ -129,7 +130,8 @@ impl Collectives {
         None
     }
 
-    /// Whether no node is left that wasn't sent to and for which no number was left when it was asked last in the phase.
+    /// Whether no node is left that wasn't sent to and for which no number was left when it was asked last in the
+    /// phase.
     pub fn is_unexhausted(&self) -> bool
         ensures { result ≡ is_none
             (exhausted_node self.now.area self.now.me (progress_of self.now)) }

@@ -21,7 +21,8 @@ impl Collectives {
     /// in rising order, until one accepts. The data goes along where that node's result uses it.
     ///
     /// - `Sent` names the node that accepted.
-    /// - `Nothing`: no phase is open, it was sent to all others, or all of the rest were answered `NotYet` or `Exhausted`.
+    /// - `Nothing`: no phase is open, it was sent to all others, or all of the rest were answered `NotYet` or
+    ///   `Exhausted`.
     /// - `Forbidden`, `NoMemory`: so it is of a request; those before it have had their effect.
     ///
     /// The caller is at this node of a job with these settings, and the thread is one of its.

@@ -68,10 +68,11 @@ pub(crate) fn is_past(offset: u64, len: u64, segment: u64) -> bool
 }
 
 impl Collectives {
-    /// Starts the next phase with the bytes at `from`: brings them to the local part, by a Long request to the local node.
+    /// Starts the next phase with the bytes at `from`: brings them to the local part, by a Long request to the local
+    /// node.
     ///
-    /// The answer is the first of these that applies. Of those before `Forbidden` no call was made, and nothing changed; of
-    /// the others but `Started` nothing is started.
+    /// The answer is the first of these that applies. Of those before `Forbidden` no call was made, and nothing
+    /// changed; of the others but `Started` nothing is started.
     /// - `Busy`: the phase before isn't ended.
     /// - `BadArg(Root)`: the root isn't a node, or it isn't 0 for a kind without a root.
     /// - `BadArg(Length)`: the length is above the room of a part, or for a reduction isn't a multiple of 8.

@@ -34,7 +34,6 @@ use Rattle.datagram_grammar.specs.declared.note.BarrierNote.{BarrierNote}
 use Rattle.endpoint_rules.specs.BarrierCalls.{has_ranges}
 use Rattle.endpoint_rules.specs.EndpointLocal.{EndpointLocal, core_of}
 use Rattle.endpoint_rules.specs.EndpointRules.{transition, after_note}
-use Rattle.endpoint_rules.specs.declared.answer.Answer.{Answer}
 use Rattle.endpoint_rules.specs.declared.answer.Answer.TheVariants as answers
 use Rattle.endpoint_rules.proofs.Over.{endpoint_over}
 use Rattle.gas_endpoint.specs.declared.extended.Extended.{Extended}

@@ -1,10 +1,11 @@
 -- Flags by node.
-use Rattle.std.proofs.Common.{◌≡◌, ◌≢◌, inl, inr, ℕ, ◌+◌, ◌<◌, ◌≤◌, Bool, false, List, length}
+use Rattle.std.proofs.Common.{◌≡◌, ◌≢◌, inl, inr, ℕ, ◌+◌, ◌<◌, ◌≤◌, Bool, false, List, length, take}
 use Rattle.std.proofs.Common.{sym, ap, ◌∙◌, subst, arith}
 use Rattle.std.specs.Prelude.{slice_set, replicate, unwrap_or, nat_le}
 use Rattle.std.proofs.lemmas.Bool.{cases_lt, cases_eq, lt-leb}
 use Rattle.std.proofs.lemmas.Option.{slice_get_past}
 use Rattle.std.proofs.lemmas.List.{length-replicate}
+use Rattle.lists.proofs.Cut.{get-take}
 use Rattle.lists.proofs.Indexes.{get-set_same, get-set_other}
 use Rattle.lists.proofs.Places.{slice_get-replicate}
 use Rattle.put_get.specs.Syncs.{flag_at}
@@ -46,6 +47,10 @@ pub flags_above : (flags : List Bool) (node : ℕ) (flag : Bool)
     → (to : ℕ) → node + 1 ≤ to → flag_at (slice_set flags node flag) to ≡ false
 flags_above flags node flag after to above =
     flag-other flags node flag to (λ e. omega (arith, e, above)) ∙ after to (omega (arith, above))
+
+-- the flags at the front alone
+pub flags_front : (flags : List Bool) (count to : ℕ) → to < count → flag_at (take count flags) to ≡ flag_at flags to
+flags_front flags count to low = ap (λ o. unwrap_or o false) (get-take count to flags low)
 
 -- the local node's numbers aren't used up
 pub own_exhausted : (core : CoreState) (extended : Extended) (node : Node EndpointLocal)

@@ -1,6 +1,6 @@
 -- A step that runs no handler is one whatever the handlers mean.
 use Rattle.std.proofs.Common.{◌≡◌, ℕ, Bool, true, false, eqb, Option, None, Some, refl, subst, inl, inr}
-use Rattle.std.specs.Prelude.{◌==◌, if◌then◌else◌, Result, Ok, Err}
+use Rattle.std.specs.Prelude.{if◌then◌else◌, Result, Ok, Err}
 use Rattle.std.proofs.lemmas.Bool.{cases_Bool, eqb-true}
 use Rattle.handler_rules.specs.Runs.{Meaning}
 use Rattle.handler_rules.specs.declared.rules.Forbidden.{Forbidden}
@@ -9,8 +9,8 @@ use Rattle.node_record.specs.declared.answer.Asked.{Asked}
 use Rattle.node_record.specs.declared.answer.Asked.TheVariants as asked
 use Rattle.node_record.specs.Record.{Node}
 use Rattle.node_record.specs.Behaviour.{Ask}
-use Rattle.node_record.specs.Step.{request_answer, after_request, unless_forbidden, unless_bad, own_answer}
-use Rattle.node_record.specs.NodeStep.{Job, site_of}
+use Rattle.node_record.specs.Step.{request_answer, after_request, unless_forbidden, unless_bad}
+use Rattle.node_record.specs.NodeStep.{site_of}
 use Rattle.node_record.specs.Transition.{Transition}
 use Rattle.endpoint_rules.specs.EndpointLocal.{EndpointLocal}
 use Rattle.endpoint_rules.specs.EndpointRules.{transition}

@@ -1,5 +1,5 @@
 -- Synchronisation by flags is that by the record.
-use Rattle.std.proofs.Common.{◌≡◌, ℕ, suc, ◌<◌, Bool, List, [], ◌∷◌, Some, refl, sym, ap, ◌∙◌, subst}
+use Rattle.std.proofs.Common.{◌≡◌, ℕ, suc, ◌<◌, ◌≤◌, Bool, List, [], ◌∷◌, take, Some, refl, sym, ap, ◌∙◌, subst, arith}
 use Rattle.std.specs.Prelude.{◌==◌, ◌||◌, if◌then◌else◌, map}
 use Rattle.std.specs.List.{slice_get, list_all, list_any, AllByRecursion}
 use Rattle.std.proofs.lemmas.Bool.{cases_Bool}
@@ -26,6 +26,7 @@ use Rattle.endpoint_rules.specs.TransferCalls.{SyncHandle, SyncImplicit, transfe
 use Rattle.endpoint_rules.specs.TransferCalls.{emptied_by, whole_registers}
 use Rattle.endpoint_rules.specs.declared.answer.Answer.TheVariants as answers
 use Rattle.gas_endpoint.specs.declared.extended.Extended.{Extended}
+use Rattle.gas_endpoint.proofs.Flags.{flags_front}
 use Rattle.gas_endpoint.specs.EndpointState.{EndpointStands, ForItsRecord}
 use Rattle.gas_endpoint.specs.Parts.{EndpointOutcome, PartDoes, endpoint_of}
 
@@ -70,6 +71,12 @@ abbrev pub AreExhausted : CoreState → Extended → List Bool → Type 0
 AreExhausted core extended flags =
     ForItsRecord (endpoint_of core extended) (λ node. (to : ℕ) → to < core.settings.nodes
     → flag_at flags to ≡ is_exhausted core.settings node to)
+
+-- those at the front, where they are as many as the nodes
+pub front_exhausted : (core : CoreState) (extended : Extended) (flags : List Bool) (count : ℕ)
+    → core.settings.nodes ≤ count → AreExhausted core extended flags → AreExhausted core extended (take count flags)
+front_exhausted core extended flags count all are = λ node S to low.
+    flags_front flags count to (omega (arith, low, all)) ∙ are node S to low
 
 agreed : (core : CoreState) (extended : Extended) (flags : List Bool) → AreExhausted core extended flags
     → (node : Node EndpointLocal) → EndpointStands (endpoint_of core extended) node

@@ -35,8 +35,10 @@ fn remote_fits(segment: &Segment, transfer: &Transfer) -> bool
         || not (has_byte transfer.now)) }
 {
     match *transfer {
-        Transfer::Put { remote, len, .. } => segment.contains(remote, len),
-        Transfer::Get { remote, len, .. } => segment.contains(remote, len),
+        Transfer::Put { remote, len, .. } | Transfer::Get { remote, len, .. } => {
+            segment.contains(remote, len)
+        }
+        // That a byte is below 256 is for the proof: the record's transfer has a number.
         Transfer::Memset {
             remote,
             len,

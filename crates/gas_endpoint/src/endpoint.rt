@@ -168,7 +168,8 @@ impl Endpoint {
         self.core.is_last_run(from, slot, number)
     }
 
-    /// What a delivery of these bytes would be answered, at any time and whatever the handlers mean. It changes nothing.
+    /// What a delivery of these bytes would be answered, at any time and whatever the handlers mean. It changes
+    /// nothing.
     pub fn would_deliver(&self, bytes: &[u8]) -> Delivered
         ensures told { WouldDeliver self.now bytes.now result }
         ensures agrees { IsAnsweredAlways self.now bytes.now result }

@@ -68,7 +68,10 @@ impl Extended {
             (record { core = core.now; extended = self.new }) }
     {
         let exhausted = self.exhausted(core);
-        Answer::Synced(self.transfers.try_sync(&exhausted, thread, handle))
+        Answer::Synced(
+            self.transfers
+                .try_sync(&exhausted[..usize::from(self.nodes)], thread, handle),
+        )
     }
 
     /// Tries to synchronise the operations of all of these registers.
@@ -81,9 +84,11 @@ impl Extended {
     {
         let exhausted = self.exhausted(core);
         let handles = handles_in(&self.registers, regs);
-        let says = self
-            .transfers
-            .try_sync_all(&exhausted, thread, &handles[..regs.len()]);
+        let says = self.transfers.try_sync_all(
+            &exhausted[..usize::from(self.nodes)],
+            thread,
+            &handles[..regs.len()],
+        );
         if let Synced::Ok = says {
             empty(&mut self.registers, regs);
         }
@@ -101,9 +106,11 @@ impl Extended {
         let exhausted = self.exhausted(core);
         let handles = handles_in(&self.registers, regs);
         let whole = self.whole_registers(regs);
-        let says = self
-            .transfers
-            .try_sync_some(&exhausted, thread, &handles[..regs.len()]);
+        let says = self.transfers.try_sync_some(
+            &exhausted[..usize::from(self.nodes)],
+            thread,
+            &handles[..regs.len()],
+        );
         if let Synced::Ok = says {
             empty(&mut self.registers, whole.as_slice());
         }
@@ -122,7 +129,10 @@ impl Extended {
             return Answer::Region(Region::InRegion);
         }
         let exhausted = self.exhausted(core);
-        Answer::Synced(self.transfers.try_sync_implicit(&exhausted, thread, which))
+        Answer::Synced(
+            self.transfers
+                .try_sync_implicit(&exhausted[..usize::from(self.nodes)], thread, which),
+        )
     }
 
     /// A thread begins a region.

@@ -1,5 +1,5 @@
 -- What a world delivers is held by its sender: a request that didn't run, and the reply to one that isn't back.
-use Rattle.std.proofs.Common.{◌≡◌, ◌≢◌, ℕ, ◌+◌, ◌*◌, ◌<◌, true, false, List, Some, refl, sym, ap, ◌∙◌, subst}
+use Rattle.std.proofs.Common.{◌≡◌, ◌≢◌, ℕ, ◌+◌, ◌*◌, ◌<◌, List, Some, sym, ap, ◌∙◌, subst}
 use Rattle.std.specs.List.{slice_get}
 use Rattle.std.proofs.lemmas.Option.{same_Some}
 use Rattle.node_record.specs.Executed.{run_of}
@@ -10,7 +10,7 @@ use Rattle.endpoint_rules.specs.EndpointRules.{Records}
 use Rattle.gas_world.specs.ExchangesState.{ExchangesState}
 use Rattle.gas_endpoint.specs.EndpointState.{EndpointState}
 use Rattle.gas_world.specs.WorldState.{WorldState}
-use Rattle.gas_world.specs.EventScopes.{HoldsMessage, HoldsRequest, HoldsReply, IsHeld, IsBetween}
+use Rattle.gas_world.specs.EventScopes.{HoldsMessage, HoldsRequest, HoldsReply, IsHeld}
 use Rattle.gas_world.specs.EventScopes.{request_envelope, reply_envelope}
 use Rattle.gas_world.specs.Stands.{WorldStands, StandsForPair}
 use Rattle.gas_world.specs.declared.exchanges.Exchange.{Exchange}

@@ -1,5 +1,6 @@
 -- Lists of events, one after the other.
-use Rattle.std.proofs.Common.{◌≡◌, ℕ, ◌+◌, suc, List, [], ◌∷◌, ◌++◌, refl, subst, ◌∙◌, arith}
+use Rattle.std.proofs.Common.{◌≡◌, ℕ, zero, suc, ◌+◌, ◌-◌, ◌<◌, ◌≤◌, List, [], ◌∷◌, ◌++◌}
+use Rattle.std.proofs.Common.{refl, sym, subst, ◌∙◌, arith}
 use Rattle.datagram_grammar.specs.Parameters.{Parameters}
 use Rattle.handler_rules.specs.declared.table.Entry.{Entry}
 use Rattle.std.specs.Prelude.{Option}
@@ -7,7 +8,7 @@ use Rattle.handler_rules.specs.Runs.{Meaning}
 use Rattle.plain_world.specs.World.{Timed, world_after, run}
 use Rattle.plain_world.specs.MostHeld.{most_then, most_after}
 use Rattle.endpoint_rules.specs.EndpointRules.{OtherCall, Records, RecordsEvent, timed, transition, job_of}
-use Rattle.gas_world.specs.Events.{StepsInWorld, job_in}
+use Rattle.gas_world.specs.Events.{ForItsRecords, StepsInWorld, job_in}
 use Rattle.gas_world.specs.Stands.{WorldStands}
 use Rattle.gas_world.specs.WorldState.{WorldState}
 use Rattle.gas_world.specs.Settling.{WorldJob, Moves, in_turn}
@@ -93,6 +94,34 @@ turns_next meaning old mid new events count T settings table M =
       moves = subst (λ n. Moves job (in_turn job (events job) n) old new) next
           (moves_then job (in_turn job (events job) count) (events job count) old mid new T.moves more);
     }
+
+-- those of more numbers happened too, where they are none
+turns_more : (meaning : Meaning) (old new : WorldState)
+    (events : WorldJob → ℕ → Records → List (Timed OtherCall)) (count more : ℕ) → Turns meaning old events count new
+    → ((k : ℕ) → count ≤ k → k < count + more
+    → ForItsRecords new (λ records most. events (job_in meaning new) k records ≡ []))
+    → Turns meaning old events (count + more) new
+turns_more meaning old new events count zero T none =
+    subst (λ n. Turns meaning old events n new) (let e : count ≡ count + 0 = omega arith in e) T
+turns_more meaning old new events count (suc more) T none =
+    let before = turns_more meaning old new events count more T (λ k low high. none k low (omega (arith, high))) in
+    let next : count + more + 1 ≡ count + suc more = omega arith in
+    subst (λ n. Turns meaning old events n new) next
+    (turns_next meaning old new new events (count + more) before refl refl
+    (λ w most stands. subst (λ es. StandsAfter (job_in meaning new) new es w most)
+    (sym (none (count + more) (omega arith) (omega arith) w most stands)) stands))
+
+-- up to a number from which on the others are none
+pub turns_to : (meaning : Meaning) (old new : WorldState)
+    (events : WorldJob → ℕ → Records → List (Timed OtherCall)) (count next : ℕ) → count ≤ next
+    → Turns meaning old events count new
+    → ((k : ℕ) → count ≤ k → k < next
+    → ForItsRecords new (λ records most. events (job_in meaning new) k records ≡ []))
+    → Turns meaning old events next new
+turns_to meaning old new events count next le T none =
+    let all : count + (next - count) ≡ next = omega (arith, le) in
+    subst (λ n. Turns meaning old events n new) all
+    (turns_more meaning old new events count (next - count) T (λ k low high. none k low (omega (arith, le, high))))
 
 -- all of them happened
 pub turns_all : (meaning : Meaning) (old new : WorldState) (events : WorldJob → ℕ → Records → List (Timed OtherCall))

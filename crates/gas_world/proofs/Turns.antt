@@ -24,7 +24,7 @@ use Rattle.plain_world.specs.World.{world_after, run}
 use Rattle.endpoint_rules.specs.EndpointRules.{OtherCall, Records, timed}
 use Rattle.plain_world.specs.Plain.{IsFirstOut, plain_of, is_back}
 use Rattle.plain_world.proofs.PlainReadings.{is_back_says}
-use Rattle.gas_world.specs.Settling.{WorldJob, Moves, exchange_events, turn_events, open_numbers}
+use Rattle.gas_world.specs.Settling.{AreBack, WorldJob, Moves, exchange_events, turn_events, open_numbers}
 use Rattle.plain_world.specs.MostHeld.{most_after}
 use Rattle.gas_world.proofs.Moving.{StandsAfter, run_append, most_append}
 
@@ -310,3 +310,24 @@ turn_begins turn v first h out = record {
     skipped =
         events_skip turn (first - 1)
         (λ k low. back_listed (requests_of turn) k (out.before (suc k) (omega arith) (omega (arith, low))))
+
+-- where each request is back none is open
+none_open : (number : ℕ) (xs : List Request) → ((k : ℕ) → k < length xs → back_at xs k ≡ Some true)
+    → open_numbers number xs ≡ []
+none_open number [] back = refl
+none_open number (x ∷ xs) back =
+    let t = same_Some x.back true (back 0 (omega arith)) in
+    rw t (none_open (suc number) xs (λ k low. back (suc k) (omega (arith, low))))
+
+-- each request of a pair is back where the lowest number that is out is above their count
+pub are_back : (w : Records) (from to first count : ℕ) → IsFirstOut (plain_of w) from to first
+    → count ≡ length ((plain_of w).requests from to) → count < first → AreBack ((w from).asked to)
+are_back w from to first count out is high =
+    let xs = (w from).asked to in
+    none_open 1 xs
+    (λ k low. back_listed xs k
+    (out.before (suc k) (omega arith) (omega (arith, accepted_is w from to count is, low, high))))
+
+-- then the turn of the pair has no event
+pub no_turn : (now from to : ℕ) (requests : List Request) → AreBack requests → turn_events now from to requests ≡ []
+no_turn now from to requests back = ap (flat_map (exchange_events now from to)) back

@@ -2,7 +2,6 @@
 use Rattle.std.proofs.Common.{◌≡◌, ◌≢◌, ◌<◌, ℕ, List, Some, refl, sym, ap, ◌∙◌, subst}
 use Rattle.std.specs.Prelude.{slice_get}
 use Rattle.handler_rules.specs.Runs.{Meaning}
-use Rattle.node_record.specs.Transition.{Transition}
 use Rattle.endpoint_rules.specs.EndpointRules.{transition}
 use Rattle.gas_endpoint.specs.EndpointState.{EndpointState}
 use Rattle.gas_world.specs.declared.event.WorldEvent.{WorldEvent}

@@ -52,7 +52,8 @@ MostIs old endpoint new =
 -- ---- an event of one node
 
 -- an event that sends no request
-pub record AloneFalls (meaning : Meaning) (old : EventScope) (step : Transition Event Answer) (new : EventScope) : Type 0 where
+pub record AloneFalls (meaning : Meaning) (old : EventScope) (step : Transition Event Answer)
+    (new : EventScope) : Type 0 where
   pub steps : EndpointSteps meaning old.endpoint step new.endpoint
   pub list : new.exchanges.list ≡ old.exchanges.list
   pub most_is : MostIs old.most new.endpoint new.most
@@ -81,7 +82,8 @@ pub record IsAskedInScope (meaning : Meaning) (old : EventScope) (step : Transit
   pub most_is : MostIs old.most new.endpoint new.most
 
 -- a request of the pair that wouldn't be accepted
-pub record IsDeclined (meaning : Meaning) (old : EventScope) (step : Transition Event Answer) (new : EventScope) : Type 0 where
+pub record IsDeclined (meaning : Meaning) (old : EventScope) (step : Transition Event Answer)
+    (new : EventScope) : Type 0 where
   pub falls : AloneFalls meaning old step new
   pub declined : WouldAcceptAt old.endpoint (transition step.now step.event false)
 
@@ -100,8 +102,8 @@ AskFalls meaning old step new = elim step.answer [
 
 -- ---- a delivery
 
--- a message that goes from one node to another: a request or the reply to one, the node that keeps it in a slot, the node
--- to which it is delivered, and the number of the request
+-- a message that goes from one node to another: a request or the reply to one, the node that keeps it in a slot, the
+-- node to which it is delivered, and the number of the request
 pub record Envelope : Type 0 where
   pub side : Side
   pub sender : ℕ
@@ -148,14 +150,16 @@ repeated from slot true = delivered.Duplicate (reply_slot from slot)
 repeated from slot false = delivered.Stale
 
 -- a request that ran
-pub record RequestRepeats (slot : ℕ) (old : EventScope) (step : Transition Envelope Answer) (new : EventScope) : Type 0 where
+pub record RequestRepeats (slot : ℕ) (old : EventScope) (step : Transition Envelope Answer)
+    (new : EventScope) : Type 0 where
   pub same : IsSame old new
   pub is_last : Bool
   pub told : IsLastRun old.endpoint.core step.event.sender slot step.event.number is_last
   pub is_answer : step.answer ≡ answers.Delivered (repeated step.event.sender slot is_last)
 
 -- a request that was sent comes
-pub record RequestComes (meaning : Meaning) (sender : EndpointState) (old : EventScope) (step : Transition Envelope Answer)
+pub record RequestComes (meaning : Meaning) (sender : EndpointState) (old : EventScope)
+    (step : Transition Envelope Answer)
     (new : EventScope) : Type 0 where
   pub exchange : Exchange
   pub sent : numbered old.exchanges.list step.event.number ≡ Some exchange
@@ -201,7 +205,8 @@ pub record ReplyIsLate (old : EventScope) (answer : Answer) (new : EventScope) :
   pub late : answer ≡ answers.Delivered delivered.Late
 
 -- a reply that was sent comes
-pub record ReplyComes (meaning : Meaning) (sender : EndpointState) (old : EventScope) (step : Transition Envelope Answer)
+pub record ReplyComes (meaning : Meaning) (sender : EndpointState) (old : EventScope)
+    (step : Transition Envelope Answer)
     (new : EventScope) : Type 0 where
   pub exchange : Exchange
   pub sent : numbered old.exchanges.list step.event.number ≡ Some exchange
@@ -267,7 +272,8 @@ CallFalls meaning old true step new = AskFalls meaning old step new
 CallFalls meaning old false step new = AloneFallsIn meaning old step new
 
 -- a tick, which is a request of the pair where it sends one
-pub record TickFalls (meaning : Meaning) (old : EventScope) (step : Transition Event WorldAnswer) (new : EventScope) : Type 0
+pub record TickFalls (meaning : Meaning) (old : EventScope) (step : Transition Event WorldAnswer)
+    (new : EventScope) : Type 0
   where
     pub target : Option ℕ
     pub sends : IsTickTarget old.endpoint step.now target
@@ -304,7 +310,8 @@ HoldsDelivered exchanges sender (world_event.Reply from to number) =
 HoldsDelivered exchanges sender (world_event.Tick node) = ⊥
 
 -- the message that an event delivers comes from that sender
-abbrev pub DeliveredFalls : Meaning → EndpointState → EventScope → Transition WorldEvent WorldAnswer → EventScope → Type 0
+abbrev pub DeliveredFalls : Meaning → EndpointState → EventScope → Transition WorldEvent WorldAnswer → EventScope
+    → Type 0
 DeliveredFalls meaning sender old step new = elim step.event [
   | world_event.Call node thread call ↦ ⊥
   | world_event.Request from to number ↦
@@ -315,7 +322,8 @@ DeliveredFalls meaning sender old step new = elim step.event [
 ]
 
 -- an event does this to the scope on which it falls, among these endpoints
-abbrev pub EventScopeSteps : Meaning → List EndpointState → EventScope → Transition WorldEvent WorldAnswer → EventScope → Type 0
+abbrev pub EventScopeSteps : Meaning → List EndpointState → EventScope → Transition WorldEvent WorldAnswer
+    → EventScope → Type 0
 EventScopeSteps meaning endpoints old step new = elim step.event [
   | world_event.Call node thread call ↦
       CallFalls meaning old (is_to_other node call) (transition step.now (event.Call thread call) step.answer) new

@@ -1,5 +1,5 @@
 -- Rounds of ticks and deliveries.
-use Rattle.std.specs.Prelude.{ℕ, zero, suc, List, [], ◌∷◌, ◌++◌, if◌then◌else◌}
+use Rattle.std.specs.Prelude.{◌≡◌, ℕ, zero, suc, List, [], ◌∷◌, ◌++◌, if◌then◌else◌}
 use Rattle.std.specs.List.{flat_map}
 use Rattle.node_record.specs.Record.{Request}
 use Rattle.node_record.specs.NodeStep.{Job}
@@ -37,6 +37,10 @@ abbrev pub open_numbers : (number : ℕ) → List Request → List ℕ
 open_numbers number [] = []
 open_numbers number (request ∷ requests) =
     if request.back then open_numbers (suc number) requests else number ∷ open_numbers (suc number) requests
+
+-- each of these requests is back
+abbrev pub AreBack : List Request → Type 0
+AreBack requests = open_numbers 1 requests ≡ []
 
 -- the request of this number comes, and then its reply
 abbrev pub exchange_events : (now from to number : ℕ) → List (Timed OtherCall)

@@ -81,7 +81,8 @@ impl World {
         Ok(())
     }
 
-    /// The turns of the pairs of one node, in rising order of the other one.
+    /// The turns of the pairs of one node, in rising order of the other one. A pair all of whose
+    /// requests are back has nothing to deliver, and its turn isn't made.
     fn row<H: Handlers>(&mut self, handlers: &H, now: u64, from: u16) -> Result<(), AllocError>
         requires { from < self.old.settings.nodes }
         ensures settings { self.new.settings ≡ self.old.settings }
@@ -90,8 +91,10 @@ impl World {
         ensures moves { OnOk result (Moves (job_in (H.meaning handlers.now) self.old)
             (row_events (job_in (H.meaning handlers.now) self.old) now from) self.old self.new) }
     {
-        for to in 0..self.nodes() {
+        let mut to = self.next_out(from, 0);
+        while to < self.nodes() {
             self.turn(handlers, now, from, to)?;
+            to = self.next_out(from, to + 1);
         }
         Ok(())
     }

@@ -17,6 +17,7 @@ ghost use Rattle.gas_world.specs.Events.{RunsHaveTheLaws};
 ghost use Rattle.transfer_laws.specs.TransferLaws.{TransfersHold};
 ghost use Rattle.barrier_laws.specs.BarrierLaws.{BarrierHolds};
 ghost use Rattle.gas_world.specs.Events.{StepsInWorld, StepsPlainly};
+ghost use Rattle.gas_world.specs.Settling.{AreBack};
 
 use crate::event::{WorldAnswer, WorldEvent};
 use crate::exchanges::Exchanges;
@@ -179,6 +180,24 @@ impl World {
             (λ records most. IsFirstOut (plain_of records) from to result) }
     {
         self.exchanges[place_of(&self.settings, from, to)].first_out()
+    }
+
+    /// A node from `to` on, or the number of nodes: all requests of `from` to the nodes from `to` up
+    /// to it are back. It looks at two numbers of each pair.
+    pub(crate) fn next_out(&self, from: u16, to: u16) -> u16
+        requires from { from < self.now.settings.nodes }
+        requires to { to ≤ self.now.settings.nodes }
+        ensures first { to ≤ result }
+        ensures last { result ≤ self.now.settings.nodes }
+        ensures back { ForItsRecords self.now (λ records most.
+            (other : ℕ) → to ≤ other → other < result → AreBack ((records from).asked other)) }
+    {
+        for other in to..self.nodes() {
+            if self.first_out(from, other) <= self.accepted(from, other) {
+                return other;
+            }
+        }
+        self.nodes()
     }
 
     /// Whether the request of `from` to `to` with that number was accepted and is back.

@@ -23,13 +23,13 @@
 //!     node.step(&handlers, now, &Event::Deliver { bytes: &datagram });
 //!     node.step(&handlers, now, &Event::Tick);
 //!
-//! A layer of its own takes a `Caller` for the calls of a node's threads, as `Plan::begin` does, which begins the pieces
-//! of a strided or indexed transfer; `AtEndpoint` is the caller at an endpoint.
+//! A layer of its own takes a `Caller` for the calls of a node's threads, as `Plan::begin` does, which begins the
+//! pieces of a strided or indexed transfer; `AtEndpoint` is the caller at an endpoint.
 //!
-//! `docs/LIBRARY.md` is the guide, and `crates/gas_ring` a whole program. A program lists this crate in `crates.txt`, and
-//! imports its types from here, the definitions that its clauses cite from `Rattle.gasnet.specs`, and the lemmas for its
-//! handlers from `Rattle.gasnet.proofs.Lawful`. There is no code here: each item is that of a crate below, whose page says
-//! what is proved of it.
+//! `docs/LIBRARY.md` is the guide, and `crates/gas_ring` a whole program. A program lists this crate in `crates.txt`,
+//! and imports its types from here, the definitions that its clauses cite from `Rattle.gasnet.specs`, and the lemmas
+//! for its handlers from `Rattle.gasnet.proofs.Lawful`. There is no code here: each item is that of a crate below,
+//! whose page says what is proved of it.
 #![tactic(auto)]
 
 pub use am_core::{Asked, Delivered, Payload, Side, SlotRef, Why};

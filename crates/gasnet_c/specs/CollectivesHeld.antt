@@ -10,4 +10,5 @@ use Rattle.gas_collectives.specs.contracts.collectives.Collectives as collective
 -- the place of boxed collectives, with the right to free its block; nothing where none are held
 abbrev pub collectives_slot_owns : Ptr → Option CollectivesState → Fml
 collectives_slot_owns at None = ftrue
-collectives_slot_owns at (Some x) = box_owns (ghosts.dealloc_token (record { memory = record { seal = tt } })) collectives.the_row at x
+collectives_slot_owns at (Some x) =
+    box_owns (ghosts.dealloc_token (record { memory = record { seal = tt } })) collectives.the_row at x

@@ -10,7 +10,8 @@ use Rattle.handler_rules.proofs.Lawful.{medium_reply-content, short_reply-conten
 use Rattle.gasnet_c.specs.declared.replay.Reply.{Reply}
 use Rattle.gasnet_c.specs.declared.replay.Run.{Run}
 use Rattle.gasnet_c.specs.declared.replay.OwnRuns.{OwnRuns}
-use Rattle.gasnet_c.specs.Replayed.{answering, both_replayed, left_write, leaving, mark_of, marked, replayed, writing_if}
+use Rattle.gasnet_c.specs.Replayed.{answering, both_replayed, left_write, leaving, mark_of, marked, replayed}
+use Rattle.gasnet_c.specs.Replayed.{writing_if}
 
 lawful-kept : {frame : Frame} {start : Start} {outcome : Outcome} (write : Write) (none far : Bool)
     → nat_lt (length start.segment) (write.offset + length write.bytes) ≡ far → IsLawfulRun frame start outcome
@@ -25,7 +26,8 @@ lawful-left frame start None bytes = lawful-untouched frame start
 lawful-left frame start (Some place) bytes =
     lawful-kept (record { offset = place.0; bytes = bytes }) _ _ refl (lawful-untouched frame start)
 
-pub leaving_lawful : (left : List ℕ) (frame : Frame) (start : Start) → IsLawfulRun frame start (leaving left frame start)
+pub leaving_lawful : (left : List ℕ) (frame : Frame) (start : Start)
+    → IsLawfulRun frame start (leaving left frame start)
 leaving_lawful left frame start = lawful-left frame start frame.arrival.place left
 
 lawful-either : {frame : Frame} {start : Start} {one other : Outcome} (test : Bool) → IsLawfulRun frame start one
@@ -58,7 +60,8 @@ other-cells segment locks lawful = record {
   locks = rw locks at lawful.locks;
 }
 
-pub both_lawful : (it : OwnRuns) (frame : Frame) (start : Start) → IsLawfulRun frame start (both_replayed it frame start)
+pub both_lawful : (it : OwnRuns) (frame : Frame) (start : Start)
+    → IsLawfulRun frame start (both_replayed it frame start)
 both_lawful it frame start =
     lawful-either (int_eq (mark_of start.cells) it.mark)
     (other-cells refl refl (replayed_lawful it.request frame (marked it.mark start)))

@@ -12,10 +12,10 @@ use crate::told::{DEAD, Told, dead};
 use std::alloc::Global;
 
 /// Makes the collectives of a node, of which it has started none. Their area begins at `base` in each segment, and each
-/// of its parts has room for `room` bytes of data: it is 2 parts for each node, of 16 and `room` bytes. It answers 0; or
-/// 1 where `base` or `room` isn't a multiple of 8, `room` is 0 or above 8,192, or the area passes the end of a segment;
-/// 2 for want of memory, 3 where the handle of the collectives is live already, and `GASNET_C_DEAD` where the node's is
-/// dead. After it no call of the collectives takes memory.
+/// of its parts has room for `room` bytes of data: it is 2 parts for each node, of 16 and `room` bytes. It answers 0;
+/// or 1 where `base` or `room` isn't a multiple of 8, `room` is 0 or above 8,192, or the area passes the end of a
+/// segment; 2 for want of memory, 3 where the handle of the collectives is live already, and `GASNET_C_DEAD` where the
+/// node's is dead. After it no call of the collectives takes memory.
 ///
 /// C owes that all nodes of the job name one area, into which nothing else writes, and that it uses these collectives
 /// with this node alone, and frees them before the node.
@@ -135,8 +135,8 @@ pub extern "C" fn gasnet_c_coll_step(
 
 /// Tries to end the collective that is started. It is `GASNET_C_OK` where it ends, and the node's result stands at
 /// `dest`; `GASNET_C_MISMATCH` where it ends without one, as the node that is told, the first of these, started it with
-/// another kind, root or length; `GASNET_C_NOT_READY`; `GASNET_C_WORN_OUT` where it isn't ready, and no numbers are left
-/// for the node that is told; or `GASNET_C_BAD` where none is started, or the result's place passes the end of the
+/// another kind, root or length; `GASNET_C_NOT_READY`; `GASNET_C_WORN_OUT` where it isn't ready, and no numbers are
+/// left for the node that is told; or `GASNET_C_BAD` where none is started, or the result's place passes the end of the
 /// segment, shares a byte with the area, or is that of words that this node has and isn't a multiple of 8.
 ///
 /// Deliveries bring what the other nodes give: C makes them between two tries.

@@ -10,8 +10,8 @@ use std::mem::replace;
 
 /// What C holds of a node: `gasnet_c_node`.
 ///
-/// It is dead or whole: whole where a node is in its slot, and `live` says so. C begins with zeros, which is a dead one,
-/// and neither copies, reads nor writes it.
+/// It is dead or whole: whole where a node is in its slot, and `live` says so. C begins with zeros, which is a dead
+/// one, and neither copies, reads nor writes it.
 #[repr(C)]
 #[derive(Drop)]
 pub struct Handle {

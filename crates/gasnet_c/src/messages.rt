@@ -118,13 +118,13 @@ pub extern "C" fn gasnet_c_request(
     )
 }
 
-/// A request to the local node, which sends nothing: C ran its handler before this call, and then that of its reply where
-/// it asked for one, and made no other call of the handle in between. It is `GASNET_C_RAN_HERE`, and the runs are part
-/// of the node's record; or `GASNET_C_BAD` where a part of the request is bad, and nothing happened.
+/// A request to the local node, which sends nothing: C ran its handler before this call, and then that of its reply
+/// where it asked for one, and made no other call of the handle in between. It is `GASNET_C_RAN_HERE`, and the runs are
+/// part of the node's record; or `GASNET_C_BAD` where a part of the request is bad, and nothing happened.
 ///
-/// `run` is what the request's handler did, and `reply_left` are the bytes at the place of a Long reply. C owes that both
-/// places are told as they stand when both handlers are done. What else the handlers wrote into the segment is what a
-/// call `Set` before this one would write.
+/// `run` is what the request's handler did, and `reply_left` are the bytes at the place of a Long reply. C owes that
+/// both places are told as they stand when both handlers are done. What else the handlers wrote into the segment is
+/// what a call `Set` before this one would write.
 #[unsafe(no_mangle)]
 pub extern "C" fn gasnet_c_request_own(
     alloc: Global,
@@ -162,7 +162,8 @@ pub extern "C" fn gasnet_c_request_own(
 
 /// Which handler of the client's a delivery of these bytes would run, and with what. It changes nothing.
 ///
-/// A delivery of the same bytes is answered as this call foretold, where no other call of the handle is made in between.
+/// A delivery of the same bytes is answered as this call foretold, where no other call of the handle is made in
+/// between.
 #[unsafe(no_mangle)]
 pub extern "C" fn gasnet_c_peek(alloc: Global, handle: &mut Handle, bytes: &[u8]) -> Coming
     requires { IsWhole handle.old }
@@ -187,8 +188,8 @@ pub extern "C" fn gasnet_c_peek(alloc: Global, handle: &mut Handle, bytes: &[u8]
 /// `GASNET_C_LATE`, `GASNET_C_DEFERRED` or `GASNET_C_REFUSED`, and nothing happened.
 ///
 /// C owes that the payload of a Long stood at its place before its handler ran, and that `run.left` is a copy of what
-/// stood there when it was done. What else the handler wrote into the segment is what a call `Set` before this one would
-/// write.
+/// stood there when it was done. What else the handler wrote into the segment is what a call `Set` before this one
+/// would write.
 #[unsafe(no_mangle)]
 pub extern "C" fn gasnet_c_deliver(
     alloc: Global,

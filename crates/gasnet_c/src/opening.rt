@@ -88,8 +88,8 @@ fn made(
 /// It does nothing, and is there for its bound: what C holds may go to another thread.
 fn may_cross<T: Send>(_held: &T) {}
 
-/// Makes a node, which did nothing yet, over the memory of its segment. It answers 0; or 1 where a limit of the setup is
-/// broken, 2 for want of memory, 3 where the handle is live already. After it no call of the handle takes memory.
+/// Makes a node, which did nothing yet, over the memory of its segment. It answers 0; or 1 where a limit of the setup
+/// is broken, 2 for want of memory, 3 where the handle is live already. After it no call of the handle takes memory.
 ///
 /// C owes a handle that it began as zeros, or that this library left, and memory of at least `setup.segment` bytes, all
 /// zeros. From the answer 0 on the library reads and writes that memory while a call of the handle runs, and C between

@@ -41,8 +41,8 @@ impl Handlers for OwnHandlers {
     }
 }
 
-/// Delivers a datagram for one of the two handlers of operations, 252 and 253, or for that of collectives, 254. They run
-/// in the call: C runs nothing before it. It is answered as `gasnet_c_deliver`.
+/// Delivers a datagram for one of the two handlers of operations, 252 and 253, or for that of collectives, 254. They
+/// run in the call: C runs nothing before it. It is answered as `gasnet_c_deliver`.
 ///
 /// A datagram for another handler runs one that does nothing.
 #[unsafe(no_mangle)]

@@ -79,9 +79,9 @@ fn moved_call(what: &Move) -> Call<'static>
 }
 
 /// Begins a transfer. It is `GASNET_C_HANDLE`, and its handle is told; or `GASNET_C_DONE` where it has no bytes or its
-/// target is the local node, `GASNET_C_TOO_MANY` where `GASNET_C_OPERATIONS` stand, and `GASNET_C_BAD` where the target or
-/// a range is bad; of the last two nothing happened. Its chunks are sent by `gasnet_c_tick`: a chunk of a put is read
-/// out of the local segment by the tick that sends it.
+/// target is the local node, `GASNET_C_TOO_MANY` where `GASNET_C_OPERATIONS` stand, and `GASNET_C_BAD` where the target
+/// or a range is bad; of the last two nothing happened. Its chunks are sent by `gasnet_c_tick`: a chunk of a put is
+/// read out of the local segment by the tick that sends it.
 #[unsafe(no_mangle)]
 pub extern "C" fn gasnet_c_begin(alloc: Global, handle: &mut Handle, now: u64, what: &Move) -> Told
     requires { IsWhole handle.old }
@@ -152,9 +152,9 @@ fn region_call(ends: bool) -> Call<'static>
     }
 }
 
-/// Begins an access region, or ends it: implicit operations that begin in between are synchronised by its handle. A begin
-/// is `GASNET_C_DONE`. An end is `GASNET_C_HANDLE`, and its handle is told, or `GASNET_C_DONE` where no operation joined.
-/// `GASNET_C_BAD` is a begin inside a region, or an end outside; then nothing happened.
+/// Begins an access region, or ends it: implicit operations that begin in between are synchronised by its handle. A
+/// begin is `GASNET_C_DONE`. An end is `GASNET_C_HANDLE`, and its handle is told, or `GASNET_C_DONE` where no operation
+/// joined. `GASNET_C_BAD` is a begin inside a region, or an end outside; then nothing happened.
 #[unsafe(no_mangle)]
 pub extern "C" fn gasnet_c_region(alloc: Global, handle: &mut Handle, now: u64, ends: bool) -> Told
     requires { IsWhole handle.old }

@@ -1,5 +1,6 @@
 -- What is told of the replays of the outputs of nodes.
-use Rattle.std.specs.Prelude.{◌≡◌, ℕ, ◌+◌, ◌-◌, ◌^◌, min, ◌==◌, not, List, [], length, Option, Some, None, MatchOption, slice_get}
+use Rattle.std.specs.Prelude.{◌≡◌, ℕ, ◌+◌, ◌-◌, ◌^◌, min, ◌==◌, not, List, [], length, Option, Some, None, MatchOption}
+use Rattle.std.specs.Prelude.{slice_get}
 use Rattle.check_run.specs.Turned.{turned_at}
 use Rattle.check_run.specs.declared.node_replay.NodeReplay.{NodeReplay}
 use Rattle.check_run.specs.declared.outputs.NodeReplays.{NodeReplays}

@@ -11,9 +11,9 @@
 //! The environment sets the hosts of the nodes, the key of the job, and what `launch` starts and
 //! keeps ([`settings`]). Where it sets them wrongly no command runs: the exit status is 2.
 //!
-//! Standard error has what a person is told: why words, a job or the environment are refused, why a
-//! link or a launch failed, which nodes of it failed and what their threads wait for, help, each step beside its answer, what a long command is at, and how many
-//! datagrams a node dropped.
+//! Standard error has what a person is told: why words, a job or the environment are refused, why a link or a launch
+//! failed, which nodes of it failed and what their threads wait for, help, each step beside its answer, what a long
+//! command is at, and how many datagrams a node dropped.
 //!
 //! What is proved of it stands on `run_streams` of `top_call`, which `run` calls with the words of
 //! the command line and the two streams, whose bytes it looks at as they go by. A launch without a

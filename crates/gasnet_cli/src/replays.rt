@@ -1,7 +1,8 @@
 //! The replays of the outputs of nodes, for `run_report`.
 
 ghost use Rattle.std.specs.Prelude.{◌≡◌, length};
-ghost use Rattle.gasnet_cli.specs.Replays.{IsFinding, IsFindingOf, IsGap, IsGapOf, IsSentMessage, IsSentOf, lines_at, rank_at, sends_at};
+ghost use Rattle.gasnet_cli.specs.Replays.{IsFinding, IsFindingOf, IsGap, IsGapOf, IsSentMessage};
+ghost use Rattle.gasnet_cli.specs.Replays.{IsSentOf, lines_at, rank_at, sends_at};
 
 use check_run::{GivenOutput, NodeReplay, NodeReplays, replay_given, replay_input};
 use machine::Entry;

@@ -449,7 +449,9 @@ alone front = if length front.rest == 0 then Ok front.job else Err (record { lin
 -- what a text is read as
 unfoldable pub job_of : List ℕ → Result Job BadLine
 job_of bytes =
-    if nat_lt MAX_JOB_BYTES (length bytes) then Err (record { line = 0; why = Size }) else of_front alone (read start 1 bytes)
+    if nat_lt MAX_JOB_BYTES (length bytes)
+    then Err (record { line = 0; why = Size })
+    else of_front alone (read start 1 bytes)
 
 -- the job at the front of so many bytes, and the size of its text, which is not too long
 abbrev pub sized : (count : ℕ) → Front → Result (Job × ℕ) BadLine

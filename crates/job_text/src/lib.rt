@@ -1,12 +1,12 @@
 //! The text of a job: its sections, what each of its lines may say there, and reading it.
 //!
-//! Words and lines are read by `text_lines`, the forms of lines stand in `line_forms`, and what handlers and threads do is
-//! read by `line_forms`, `vis_text` and `step_text`.
+//! Words and lines are read by `text_lines`, the forms of lines stand in `line_forms`, and what handlers and threads do
+//! is read by `line_forms`, `vis_text` and `step_text`.
 //!
-//! What is proved of `read_job` [`found`, `one`, `bad`, `meant`, `told`, `none`]: a job that is read has the bytes as its
-//! text (`JobText`: the printing of the job's value, and the ranges), and is the one job that has them; else the fault
-//! names the first bad line and the first reason that applies to it, as the reading function on lines says (`job_of`),
-//! and no job has the bytes as its text; or memory ran out.
+//! What is proved of `read_job` [`found`, `one`, `bad`, `meant`, `told`, `none`]: a job that is read has the bytes as
+//! its text (`JobText`: the printing of the job's value, and the ranges), and is the one job that has them; else the
+//! fault names the first bad line and the first reason that applies to it, as the reading function on lines says
+//! (`job_of`), and no job has the bytes as its text; or memory ran out.
 //!
 //! What a refusal means apart from that function [`meant`: `Means`]: some job's text, its size apart, begins with the
 //! lines before the bad one. They say at which place of a text the line stands, and what the job is so far (`Before`).
@@ -15,9 +15,9 @@
 //! memory ran out: so no text has two bad lines, and no line two reasons.
 //!
 //! `read_job_front` is the same reader where any bytes may stand behind a job's text [`found`, `one`, `bad`, `meant`,
-//! `told`, `none`]: it tells the one job with whose text the bytes begin, and the size of that text (`BeginsWith`); else
-//! the first bad line of the front (`front_of`), with what that means (`FrontMeans`), or that the text at the front is
-//! too long.
+//! `told`, `none`]: it tells the one job with whose text the bytes begin, and the size of that text (`BeginsWith`);
+//! else the first bad line of the front (`front_of`), with what that means (`FrontMeans`), or that the text at the
+//! front is too long.
 #![tactic(auto)]
 
 mod atomics_line;

@@ -1,7 +1,7 @@
 //! The forms of calls: the one place in code that has their names, and how many words follow them.
 //!
-//! Each line of a schedule looks its name up. So `named` tests the names one after the other, each of which is a constant
-//! there: a loop over a list of them takes some six times as long.
+//! Each line of a schedule looks its name up. So `named` tests the names one after the other, each of which is a
+//! constant there: a loop over a list of them takes some six times as long.
 
 ghost use Rattle.std.specs.Prelude.{◌≡◌, false};
 ghost use Rattle.line_forms.specs.Calls.{call_form_row, call_named, form_name, own_forms, sync_forms};

@@ -1,4 +1,5 @@
-//! Reading the words of calls that no other node hears of: polls, and what is done to locks, cells and the local segment.
+//! Reading the words of calls that no other node hears of: polls, and what is done to locks, cells and the local
+//! segment.
 #![tactic(auto, unfolding(crate::specs::Calls::form_at))]
 
 ghost use Rattle.line_forms.specs.Calls.{form_at};

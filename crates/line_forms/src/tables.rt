@@ -1,7 +1,7 @@
 //! Tables of forms in code: how many words may follow the name of a form.
 //!
-//! A crate of lines has an enumeration of its forms. Its function `row` is the one place in code where the name of a form
-//! and the count of its words stand: reading, refusing and printing ask it.
+//! A crate of lines has an enumeration of its forms. Its function `row` is the one place in code where the name of a
+//! form and the count of its words stand: reading, refusing and printing ask it.
 
 ghost use Rattle.std.specs.Prelude.{◌≡◌};
 ghost use Rattle.line_forms.specs.Tables.{fits};

@@ -1,4 +1,4 @@
--- The value of a table, by what it keeps.
+-- The value of a requester's slots, by the table under them.
 use Rattle.std.proofs.Common.{ℕ, ◌≡◌, ◌≢◌, ◌+◌, ◌<◌, Option, Some, None, Bool, List, [], ◌∷◌, length}
 use Rattle.std.proofs.Common.{suc, zero, refl, sym, ap, subst, ◌∙◌, inl, inr, arith, true, cond}
 use Rattle.std.specs.Prelude.{slice_get, slice_set, count_by, sum_by, option_and_then, nat_le, IsSomeAnd, IfSome}

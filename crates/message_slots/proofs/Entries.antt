@@ -2,19 +2,27 @@
 use Rattle.std.proofs.Common.{ℕ, ◌≡◌, ◌≢◌, ◌+◌, ◌-◌, ◌<◌, ◌≤◌, Bool, true, false, Option, Some, None, List, length}
 use Rattle.std.proofs.Common.{cond, refl, sym, ap, subst, ◌∙◌, inl, inr, arith, length-set, replicate, zero}
 use Rattle.std.proofs.Common.{suc, ◌∷◌}
+use Rattle.std.proofs.Common.{[], ◌++◌, get_or, length-append}
 use Rattle.std.specs.Prelude.{slice_get, slice_set, map}
 use Rattle.std.specs.Option.{option_map}
 use Rattle.std.proofs.lemmas.Option.{slice_get_within, get_or_from_slice_get, slice_get-map}
-use Rattle.std.proofs.lemmas.List.{map-set}
+use Rattle.std.proofs.lemmas.Option.{slice_get_cases}
+use Rattle.std.proofs.lemmas.List.{map-set, length-replicate}
 use Rattle.std.proofs.Math.Seq.{map-set_same}
-use Rattle.lists.proofs.Indexes.{get-set_same, get-set_other}
+use Rattle.lists.specs.Update.{update}
+use Rattle.lists.proofs.Cases.{cases_option}
+use Rattle.lists.proofs.Update.{update-Some, update-None, length-update}
+use Rattle.lists.proofs.Indexes.{get-set_same, get-set_other, get-append_left, read-as}
 use Rattle.message_slots.specs.declared.order.Due.{Due}
 use Rattle.message_slots.specs.declared.order.DueEntry.{DueEntry}
 use Rattle.message_slots.specs.Ring.{put, IsOn, IsBefore, IsRing}
 use Rattle.lists.proofs.Put.{put_other}
+use Rattle.lists.proofs.Places.{slice_get-replicate, slice_get_last, slice_get_there}
 use Rattle.std.proofs.Math.Path.{fun_ext}
+use Rattle.message_slots.specs.PaddedLists.{padded}
 use Rattle.message_slots.specs.Order.{due_of, due_view, next_at, previous_at, time_at, listed_at, head_of, IsOrder}
-use Rattle.message_slots.specs.Order.{IsSpot}
+use Rattle.message_slots.specs.Order.{blank_entry, IsSpot}
+use Rattle.message_slots.proofs.Blanks.{length-padded, get-blank, update-last, update-written}
 use Rattle.message_slots.proofs.Ring.{put-same, same?, ring-without, ring-with, ring-first}
 
 -- a field of each entry
@@ -301,11 +309,19 @@ pub read-time : (entries : List DueEntry) (index : ℕ) (entry : DueEntry) → s
     → time_at entries index ≡ entry.time
 read-time entries index entry at = field-at (λ each. each.time) 0 entries index entry at
 
--- a place of the ring, where what is behind it comes after a place with this time
-pub record IsBehind (entries : List DueEntry) (place time at : ℕ) : Type 0 where
+-- a place of the ring, where what is behind it is `next`, and comes after a place with this time
+pub record IsBehind (entries : List DueEntry) (place time at next : ℕ) : Type 0 where
   pub on : IsOn (head_of entries) (listed_at entries) at
+  pub next_is : next_at entries at ≡ next
   pub after : next_at entries at ≢ head_of entries
       → IsBefore time place (time_at entries (next_at entries at)) (next_at entries at)
+
+-- a place of the ring is not one that is not listed
+pub behind-apart : (entries : List DueEntry) (at place : ℕ) → listed_at entries place ≡ false → place ≢ head_of entries
+    → IsOn (head_of entries) (listed_at entries) at → at ≢ place
+behind-apart entries at place off no_head (inl head) = λ same. no_head (sym same ∙ head)
+behind-apart entries at place off no_head (inr on) = λ same.
+    let both : listed_at entries at ≡ false = ap (listed_at entries) same ∙ off in absurd cc
 
 -- what is listed, by the order's value
 pub listed-view : (entries : List DueEntry) (index : ℕ) (due : Due)
@@ -409,7 +425,247 @@ none-view entries entry order same at index due is =
     let off : listed_at entries (head_of entries) ≡ false = order.ring.apart in
     absurd cc
 
-pub view-new : (entry : DueEntry) (count : ℕ)
-    → map due_view (replicate count entry) ≡ replicate count (due_view entry)
-view-new entry zero = refl
-view-new entry (suc count) = ap (λ (dues : List (Option Due)). due_view entry ∷ dues) (view-new entry count)
+pub view-new : (head : DueEntry) (places : ℕ) → head.listed ≡ false
+    → map due_view (replicate places blank_entry ++ head ∷ []) ≡ replicate (places + 1) None
+view-new head zero off = ap (λ (flag : Bool). cond flag (Some (due_of head)) None ∷ []) off
+view-new head (suc places) off =
+    let more : suc places + 1 ≡ suc (places + 1) = omega arith in
+    ap (λ (dues : List (Option Due)). None ∷ dues) (view-new head places off)
+    ∙ ap (λ (count : ℕ). replicate count None) (sym more)
+
+-- new entries are in order: none is listed, and the head is behind and before itself
+pub order-new : (head : DueEntry) (places : ℕ) → places ≤ 65536 → head.next ≡ places → head.previous ≡ places
+    → head.listed ≡ false → IsOrder (replicate places blank_entry ++ head ∷ [])
+order-new head places small is_next is_previous off = record {
+  some = omega (arith, long);
+  small = omega (arith, long);
+  ring = record {
+    apart = never (head_of entries);
+    below = λ index on. absurd (clash index on);
+    next_on = λ index on. inl (next_head index on);
+    previous_on = λ index on. inl (previous_head index on);
+    there = λ index on. ap (previous_at entries) (next_head index on) ∙ (previous_head (head_of entries) (inl refl)
+        ∙ sym (at_head index on));
+    back = λ index on. ap (next_at entries) (previous_head index on) ∙ (next_head (head_of entries) (inl refl)
+        ∙ sym (at_head index on));
+    rising = λ index on apart other. absurd (apart (at_head index on));
+  };
+} where
+  entries : List DueEntry
+  entries = replicate places blank_entry ++ head ∷ []
+
+  bare : length (replicate places blank_entry) ≡ places
+  bare = length-replicate places blank_entry
+
+  long : length entries ≡ places + 1
+  long = omega (arith, length-append (replicate places blank_entry) (head ∷ []), bare)
+
+  is_head : head_of entries ≡ places
+  is_head = omega (arith, long)
+
+  at : slice_get entries places ≡ Some head
+  at = ap (slice_get entries) (sym bare) ∙ slice_get_last (replicate places blank_entry) head
+
+  blank : (index : ℕ) → index < places → slice_get entries index ≡ Some blank_entry
+  blank index low =
+      get-append_left (replicate places blank_entry) (head ∷ []) index (omega (arith, low, bare))
+      ∙ slice_get-replicate places index blank_entry low
+
+  never : (index : ℕ) → listed_at entries index ≡ false
+  never index = elim ((slice_get_cases entries index).1) [
+    | inl found ↦ elim (same? index places) [
+      | inl same ↦
+          field-at (λ each. each.listed) false entries index head (ap (slice_get entries) same ∙ at) ∙ off
+      | inr apart ↦
+          field-at (λ each. each.listed) false entries index blank_entry
+          (blank index (omega (arith, found.1, long, apart)))
+    ]
+    | inr past ↦
+        ap (λ (o : Option DueEntry). elim o as (λ _. Bool) [ Some each ↦ each.listed | None ↦ false ]) past.1
+  ]
+
+  clash : (index : ℕ) → listed_at entries index ≡ true → ⊥
+  clash index on = let not : listed_at entries index ≡ false = never index in absurd cc
+
+  at_head : (index : ℕ) → IsOn (head_of entries) (listed_at entries) index → index ≡ head_of entries
+  at_head index on = elim on [ inl same ↦ same | inr listed ↦ absurd (clash index listed) ]
+
+  next_head : (index : ℕ) → IsOn (head_of entries) (listed_at entries) index → next_at entries index ≡ head_of entries
+  next_head index on =
+      ap (next_at entries) (at_head index on ∙ is_head)
+      ∙ (field-at (λ each. each.next) 0 entries places head at ∙ (is_next ∙ sym is_head))
+
+  previous_head : (index : ℕ) → IsOn (head_of entries) (listed_at entries) index
+      → previous_at entries index ≡ head_of entries
+  previous_head index on =
+      ap (previous_at entries) (at_head index on ∙ is_head)
+      ∙ (field-at (λ each. each.previous) 0 entries places head at ∙ (is_previous ∙ sym is_head))
+
+-- ---- the entries as they are kept
+
+-- a place of the ring that is not the head was written
+on-written : (written : List DueEntry) (places : ℕ) (head : DueEntry) (index : ℕ) → length written ≤ places
+    → IsOn (head_of (padded written blank_entry places ++ head ∷ []))
+    (listed_at (padded written blank_entry places ++ head ∷ [])) index → index ≢ places → index < length written
+on-written written places head index inside on apart = elim ((slice_get_cases written index).1) [
+  | inl found ↦ found.1
+  | inr past ↦ absurd (elim on [
+    | inl same ↦ apart (omega (arith, same, long))
+    | inr listed ↦ let not : listed_at entries index ≡ false = never past.0 in absurd cc
+  ])
+] where
+  entries : List DueEntry
+  entries = padded written blank_entry places ++ head ∷ []
+
+  long : length entries ≡ places + 1
+  long =
+      omega (
+        arith,
+        length-append (padded written blank_entry places) (head ∷ []),
+        length-padded written blank_entry places inside,
+      )
+
+  never : length written ≤ index → listed_at entries index ≡ false
+  never past = elim ((slice_get_cases entries index).1) [
+    | inl found ↦
+        field-at (λ each. each.listed) false entries index blank_entry
+        (get-blank written blank_entry places head index past (omega (arith, found.1, long, apart)))
+    | inr none ↦
+        ap (λ (o : Option DueEntry). elim o as (λ _. Bool) [ Some each ↦ each.listed | None ↦ false ]) none.1
+  ]
+
+-- the head is changed
+pub head-changed : (written : List DueEntry) (places : ℕ) (head : DueEntry) (index : ℕ) (change : DueEntry → DueEntry)
+    (entries : List DueEntry) → length written ≤ places → index ≡ places
+    → padded written blank_entry places ++ head ∷ [] ≡ entries
+    → padded written blank_entry places ++ change head ∷ [] ≡ update entries index change
+head-changed written places head index change entries inside same is =
+    sym (ap (λ (list : List DueEntry). update list index change) (sym is)
+    ∙ (ap (λ (place : ℕ). update (padded written blank_entry places ++ head ∷ []) place change) same
+    ∙ update-last written blank_entry places head change inside))
+
+-- the entry of a place that is on the ring is changed
+pub entry-changed : (written : List DueEntry) (places : ℕ) (head : DueEntry) (index : ℕ) (change : DueEntry → DueEntry)
+    (was : DueEntry) (entries : List DueEntry) → length written ≤ places
+    → IsOn (head_of entries) (listed_at entries) index → index ≢ places → was ≡ get_or written index was
+    → padded written blank_entry places ++ head ∷ [] ≡ entries
+    → padded (slice_set written index (change was)) blank_entry places ++ head ∷ [] ≡ update entries index change
+entry-changed written places head index change was entries inside on apart at is =
+    let low : index < length written =
+    on-written written places head index inside
+    (subst (λ (list : List DueEntry). IsOn (head_of list) (listed_at list) index) (sym is) on) apart in
+    update-written written blank_entry places head change index was low (read-as written index was was low at refl)
+    ∙ ap (λ (list : List DueEntry). update list index change) is
+
+-- ---- several writes
+
+field-update : {X : Type 0} (field_of : DueEntry → X) (blank : X) (entries : List DueEntry) (index : ℕ)
+    (change : DueEntry → DueEntry) → ((each : DueEntry) → field_of (change each) ≡ field_of each)
+    → field field_of blank (update entries index change) ≡ field field_of blank entries
+field-update field_of blank entries index change keeps = elim (cases_option (slice_get entries index)) [
+  | inl none ↦ ap (field field_of blank) (update-None entries index change none)
+  | inr some ↦
+      ap (field field_of blank) (update-Some entries index change some.0 some.1)
+      ∙ (field-set field_of blank entries index (change some.0) (slice_get_within entries index some.0 some.1)
+      ∙ put-self (field field_of blank entries) index (field_of (change some.0))
+      (field-at field_of blank entries index some.0 some.1 ∙ sym (keeps some.0)))
+]
+
+-- which places are listed is the same after a change that keeps it
+pub listed-kept : (entries new : List DueEntry) (index : ℕ) (change : DueEntry → DueEntry)
+    → ((each : DueEntry) → (change each).listed ≡ each.listed) → new ≡ update entries index change
+    → listed_at new ≡ listed_at entries
+listed-kept entries new index change keeps is =
+    ap listed_at is ∙ field-update (λ each. each.listed) false entries index change keeps
+
+pub head-kept : (entries new : List DueEntry) (index : ℕ) (change : DueEntry → DueEntry)
+    → new ≡ update entries index change → head_of new ≡ head_of entries
+head-kept entries new index change is = ap head_of is ∙ ap (λ (long : ℕ). long - 1) (length-update entries index change)
+
+-- a place is still on the ring after a change of another kind
+pub on-kept : (entries new : List DueEntry) (index : ℕ) (change : DueEntry → DueEntry) (place : ℕ)
+    → ((each : DueEntry) → (change each).listed ≡ each.listed) → new ≡ update entries index change
+    → IsOn (head_of entries) (listed_at entries) place → IsOn (head_of new) (listed_at new) place
+on-kept entries new index change place keeps is on =
+    subst (λ (head : ℕ). IsOn head (listed_at new) place) (sym (head-kept entries new index change is))
+    (subst (λ (listed : ℕ → Bool). IsOn (head_of entries) listed place)
+    (sym (listed-kept entries new index change keeps is)) on)
+
+-- a place is still on the ring after another was listed
+pub on-listed : (entries new : List DueEntry) (index : ℕ) (entry : DueEntry) (place : ℕ) → index < length entries
+    → entry.listed ≡ true → new ≡ slice_set entries index entry
+    → IsOn (head_of entries) (listed_at entries) place → IsOn (head_of new) (listed_at new) place
+on-listed entries new index entry place inside listed is on =
+    let same : head_of new ≡ head_of entries =
+    ap head_of is ∙ ap (λ (long : ℕ). long - 1) (length-set entries index entry) in
+    let shown : listed_at new ≡ put (listed_at entries) index entry.listed =
+    ap listed_at is ∙ field-set (λ each. each.listed) false entries index entry inside in
+    elim on [
+      | inl head ↦ inl (head ∙ sym same)
+      | inr found ↦ inr (ap (λ (values : ℕ → Bool). values place) shown ∙ elim (same? place index) [
+        | inl here ↦ put-same (listed_at entries) index entry.listed place here ∙ listed
+        | inr apart ↦ put_other (listed_at entries) index entry.listed place apart ∙ found
+      ])
+    ]
+
+-- what stood where an entry is changed, and what is written there
+updated : (entries : List DueEntry) (index : ℕ) (change : DueEntry → DueEntry) → index < length entries
+    → (was : DueEntry) × (slice_get entries index ≡ Some was)
+    × (update entries index change ≡ slice_set entries index (change was))
+updated entries index change inside =
+    let there = slice_get_there entries index inside in
+    (there.0, there.1, update-Some entries index change there.0 there.1)
+
+-- a place is taken out by three changes
+pub unlinked-by : (entries : List DueEntry) (place : ℕ) (entry : DueEntry) (first second third : List DueEntry)
+    → IsOrder entries → listed_at entries place ≡ true → slice_get entries place ≡ Some entry
+    → first ≡ update entries entry.previous (λ (each : DueEntry). record each { next = entry.next })
+    → second ≡ update first entry.next (λ (each : DueEntry). record each { previous = entry.previous })
+    → third ≡ update second place (λ (each : DueEntry). record each { listed = false })
+    → IsOrder third × (map due_view third ≡ slice_set (map due_view entries) place None)
+unlinked-by entries place entry first second third order on at is₁ is₂ is₃ =
+    let change₁ : DueEntry → DueEntry = λ each. record each { next = entry.next } in
+    let change₂ : DueEntry → DueEntry = λ each. record each { previous = entry.previous } in
+    let change₃ : DueEntry → DueEntry = λ each. record each { listed = false } in
+    let long₁ : length first ≡ length entries =
+    ap (λ (list : List DueEntry). length list) is₁ ∙ length-update entries entry.previous change₁ in
+    let long₂ : length second ≡ length first =
+    ap (λ (list : List DueEntry). length list) is₂ ∙ length-update first entry.next change₂ in
+    let u₁ = updated entries entry.previous change₁ (previous-inside entries place entry order (inr on) at) in
+    let u₂ = updated first entry.next change₂ (omega (arith, next-inside entries place entry order (inr on) at, long₁)) in
+    let u₃ = updated second place change₃ (omega (arith, slice_get_within entries place entry at, long₁, long₂)) in
+    let done =
+    unlinked entries place entry u₁.0 u₂.0 u₃.0 first second order on at u₁.1 (is₁ ∙ u₁.2) u₂.1 (is₂ ∙ u₂.2) u₃.1 in
+    let is : third ≡ slice_set second place (record u₃.0 { listed = false }) = is₃ ∙ u₃.2 in
+    (subst IsOrder (sym is) done.0, ap (map due_view) is ∙ done.1)
+
+-- what is behind a place of the ring is an entry
+pub next-low : (entries : List DueEntry) (at next : ℕ) → IsOrder entries → IsOn (head_of entries) (listed_at entries) at
+    → next_at entries at ≡ next → next < length entries
+next-low entries at next order on is =
+    subst (λ (index : ℕ). index < length entries) is
+    (on-inside entries (next_at entries at) order (order.ring.next_on at on))
+
+-- a place is listed by a write and two changes
+pub linked-by : (entries : List DueEntry) (place at next : ℕ) (entry : DueEntry) (first second third : List DueEntry)
+    → IsOrder entries → place + 1 < length entries → listed_at entries place ≡ false
+    → IsSpot entries place entry.time at → next_at entries at ≡ next → entry.previous ≡ at → entry.next ≡ next
+    → entry.listed ≡ true → first ≡ slice_set entries place entry
+    → second ≡ update first at (λ (each : DueEntry). record each { next = place })
+    → third ≡ update second next (λ (each : DueEntry). record each { previous = place })
+    → IsOrder third × (map due_view third ≡ slice_set (map due_view entries) place (Some (due_of entry)))
+linked-by entries place at next entry first second third order inside off spot is_n is_previous is_next listed is₁ is₂ is₃ =
+    let change₂ : DueEntry → DueEntry = λ each. record each { next = place } in
+    let change₃ : DueEntry → DueEntry = λ each. record each { previous = place } in
+    let long₁ : length first ≡ length entries =
+    ap (λ (list : List DueEntry). length list) is₁ ∙ length-set entries place entry in
+    let long₂ : length second ≡ length first =
+    ap (λ (list : List DueEntry). length list) is₂ ∙ length-update first at change₂ in
+    let low : next < length entries = next-low entries at next order spot.on is_n in
+    let u₂ = updated first at change₂ (omega (arith, on-inside entries at order spot.on, long₁)) in
+    let u₃ = updated second next change₃ (omega (arith, low, long₁, long₂)) in
+    let done =
+    linked entries place at next entry u₂.0 u₃.0 first second order inside off spot (sym is_n) is_previous is_next listed
+    is₁ u₂.1 (is₂ ∙ u₂.2) u₃.1 in
+    let is : third ≡ slice_set second next (record u₃.0 { previous = place }) = is₃ ∙ u₃.2 in
+    (subst IsOrder (sym is) done.0, ap (map due_view) is ∙ done.1)

@@ -20,3 +20,4 @@ pub mod KeptReplies
 pub mod ReplyShape
 pub mod RepliesViewed
 pub mod Placed
+pub mod Blanks

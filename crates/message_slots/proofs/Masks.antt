@@ -1,6 +1,6 @@
 -- What a table keeps of its slots, when the contents of one change.
 use Rattle.std.proofs.Common.{ℕ, ◌≡◌, ◌≢◌, ◌+◌, ◌*◌, ◌^◌, ◌<◌, ◌≤◌, Option, Some, None, Bool, List, [], ◌∷◌, length}
-use Rattle.std.proofs.Common.{get_or, suc, zero, refl, sym, ap, subst, ◌∙◌, inl, inr, arith, true, false, cond}
+use Rattle.std.proofs.Common.{get_or, suc, zero, refl, sym, ap, ◌∙◌, inl, inr, arith, true, false, cond}
 use Rattle.std.specs.Prelude.{slice_get, slice_set, count_by, map}
 use Rattle.std.specs.Option.{option_map}
 use lib.Lanes.{mask_l}
@@ -17,7 +17,7 @@ use Rattle.lists.proofs.Indexes.{read-at, get-set_same, get-set_other}
 use Rattle.lists.specs.Update.{update}
 use Rattle.lists.specs.Cut.{start_of, count_at, total_of, part_of}
 use Rattle.lists.proofs.Update.{update-Some, length-update, sum_by-update}
-use Rattle.lists.proofs.Cut.{get-part, start-inside, count-inside, part-update_same, part-update_other, length-part}
+use Rattle.lists.proofs.Cut.{get-part, count-inside, part-update_same, part-update_other, length-part}
 use Rattle.message_slots.specs.declared.table.Contents.{Contents}
 use Rattle.message_slots.specs.declared.table.Contents.TheVariants.{Nothing, Draft, Message}
 use Rattle.message_slots.specs.declared.table.Peer.{Peer}
@@ -229,12 +229,3 @@ held-small peers contents held counted =
 pub peer-at : (peers : List Peer) (to slot : ℕ) (read : Peer) → slot < count_at (peer_counts peers) to
     → read ≡ get_or peers to read → slice_get peers to ≡ Some read
 peer-at peers to slot read inside is = read-at peers to read (peer-inside peers to slot inside) is
-
--- what was read at the slot's place
-pub old-at : (peers : List Peer) (contents : List Contents) (held to slot place : ℕ) (read : Contents)
-    → slot < count_at (peer_counts peers) to → IsCounted peers contents held
-    → place ≡ start_of (peer_counts peers) to + slot → read ≡ get_or contents place read
-    → slice_get contents (start_of (peer_counts peers) to + slot) ≡ Some read
-old-at peers contents held to slot place read inside counted here is =
-    read-at contents _ read (omega (arith, start-inside (peer_counts peers) to slot inside, counted.whole))
-    (subst (λ (i : ℕ). read ≡ get_or contents i read) here is)

@@ -1,4 +1,4 @@
--- What a look-up finds after one slot changed.
+-- What a look-up finds after one of the kept replies changed.
 use Rattle.std.proofs.Common.{ℕ, ◌≡◌, ◌≢◌, Option, Some, None, List, refl, sym, ap, ◌∙◌, inl, inr, ◌⊎◌}
 use Rattle.std.proofs.lemmas.Bool.Decides.{eqb_tells}
 use Rattle.std.specs.Prelude.{slice_get, option_and_then}

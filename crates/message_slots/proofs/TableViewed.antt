@@ -1,6 +1,6 @@
 -- The value of a table, by what it keeps.
 use Rattle.std.proofs.Common.{ℕ, ◌≡◌, ◌+◌, ◌*◌, ◌<◌, ◌≤◌, Option, Some, None, Bool, List, [], ◌∷◌, ◌++◌, length}
-use Rattle.std.proofs.Common.{get_or, take, drop, suc, zero, refl, sym, ap, subst, ◌∙◌, inl, inr, arith, true, false}
+use Rattle.std.proofs.Common.{take, drop, suc, zero, refl, sym, ap, subst, ◌∙◌, inl, inr, arith, true, false}
 use Rattle.std.proofs.Common.{cond, length-set}
 use Rattle.std.specs.Prelude.{slice_get, slice_set, count_by, map, not, position, IsSomeAnd}
 use Rattle.std.specs.List.{prefix_len, refill as refill_to, length_refill}
@@ -27,7 +27,7 @@ use Rattle.message_slots.specs.TableState.{slots_of, HasSlot, with_written, with
 use Rattle.message_slots.specs.TableState.{opened_time, sealed, sent_again, IsOpened, opened_bytes, opened_bytes_in}
 use Rattle.message_slots.specs.TableViews.{slot_view, views, is_nothing, is_something, FitsBuffer, peer_counts, IsCounted}
 use Rattle.message_slots.specs.TableViews.{IsBuffered, table_view}
-use Rattle.message_slots.proofs.Masks.{old-at, count-of_peer}
+use Rattle.message_slots.proofs.Masks.{count-of_peer}
 
 set-get : {A : Type 0} (xs : List A) (place : ℕ) (item : A) → slice_get xs place ≡ Some item
     → slice_set xs place item ≡ xs
@@ -277,13 +277,13 @@ in-range peers contents buffers table to slot view known =
 pub here : {peers : List Peer} {contents : List Contents} {buffers : List (List ℕ)} {table : TableState} {held : ℕ}
     {read : Contents} (to slot place : ℕ) → IsCounted peers contents held → IsBuffered contents buffers
     → table_view peers contents buffers ≡ table → HasSlot table to slot
-    → place ≡ start_of (peer_counts peers) to + slot → read ≡ get_or contents place read
+    → place ≡ start_of (peer_counts peers) to + slot → slice_get contents place ≡ Some read
     → Here peers contents buffers table to slot read
 here {peers = peers} {contents = contents} {buffers = buffers} {table = table} {held = held} {read = read} to slot place
     counted buffered view has is_place was =
     let inside : slot < count_at (peer_counts peers) to = in-range peers contents buffers table to slot view has in
     let at : slice_get contents (start_of (peer_counts peers) to + slot) ≡ Some read =
-    old-at peers contents held to slot place read inside counted is_place was in
+    sym (ap (slice_get contents) is_place) ∙ was in
     let b =
     buffer-there contents buffers (start_of (peer_counts peers) to + slot) buffered
     (slice_get_within contents _ read at) in

@@ -1,4 +1,4 @@
--- What a table, and a claim of it, become while a buffer is lent.
+-- What a requester's slots, and a claim of one, become while a buffer is lent.
 use Rattle.std.specs.Prelude.{ℕ, List, []}
 use Rattle.std.specs.Borrow.{RattleType, GName}
 use mir.Syntax.{named}

@@ -1,4 +1,4 @@
--- How the value of a table is read off what it keeps.
+-- How the value of a requester's slots is read off the table under them.
 use Rattle.std.specs.Prelude.{ℕ, ◌≡◌, ◌+◌, ◌<◌, List, [], ◌∷◌, length, Option, Some, None, slice_get}
 use Rattle.lists.specs.Cut.{cut, start_of, count_at, total_of}
 use Rattle.message_slots.specs.TableState.{TableState}

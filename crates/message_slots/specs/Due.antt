@@ -1,4 +1,4 @@
--- Which request is sent again next, of the code's table; the record's rule is `next_due` of `node_record`.
+-- Which request a requester's slots send again next; the record's rule is `next_due` of `node_record`.
 use Rattle.std.specs.Prelude.{ℕ, ◌≡◌, ◌≤◌, ◌+◌, Option, Some, None, Bool, true, false, nat_le, if◌then◌else◌}
 use Rattle.std.specs.Prelude.{option_and_then}
 use Rattle.message_slots.specs.SlotsState.{SlotState, SlotsState, Vacant, Opened, Sealed, slot_at}

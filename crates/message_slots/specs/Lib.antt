@@ -1,3 +1,4 @@
+pub mod PaddedLists
 pub mod TableState
 pub mod TableViews
 pub mod TableLending

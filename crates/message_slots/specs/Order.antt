@@ -26,6 +26,10 @@ time_at entries index = elim (slice_get entries index) [ Some entry ↦ entry.ti
 abbrev pub listed_at : List DueEntry → ℕ → Bool
 listed_at entries index = elim (slice_get entries index) [ Some entry ↦ entry.listed | None ↦ false ]
 
+-- the entry of a place that was never listed
+abbrev pub blank_entry : DueEntry
+blank_entry = record { time = 0; node = 0; slot = 0; previous = 0; next = 0; listed = false }
+
 -- the last entry, where the ring begins and ends
 abbrev pub head_of : List DueEntry → ℕ
 head_of entries = length entries - 1

@@ -1,4 +1,4 @@
--- What a table, and a place in it, become while a buffer is lent.
+-- What the kept replies, and a place among them, become while a buffer is lent.
 use Rattle.std.specs.Prelude.{ℕ, List, []}
 use Rattle.std.specs.Borrow.{RattleType, GName}
 use mir.Syntax.{named}

@@ -1,4 +1,4 @@
--- What the table of slots is, as a value, and what each call makes of it.
+-- What a requester's slots are, as a value, and what each call makes of them.
 use Rattle.std.specs.Prelude.{ℕ, ◌≡◌, ◌≤◌, ◌<◌, ◌+◌, Bool, true, List, [], length, Option, Some, None, nat_le}
 use Rattle.std.specs.Prelude.{slice_get, position, IfSome, IsSomeAnd, option_and_then, count_by, sum_by, if◌then◌else◌}
 use Rattle.std.specs.Prelude.{◌==◌}

@@ -2,15 +2,15 @@
 //!
 //! Each ordered pair of nodes has a number of credits, and one slot for each. An accepted request takes the lowest
 //! vacant slot of its target and the pair's next number; its message stands in the slot's buffer until the reply with
-//! that slot and that number gives the credit back. Until then the message is sent again from time to time: the table
-//! knows when each was last sent, and which is due next. Credits, slots, numbers and resending are this library's
+//! that slot and that number gives the credit back. Until then the message is sent again from time to time: when each
+//! was last sent is kept, and which is due next. Credits, slots, numbers and resending are this library's
 //! profile: GASNet 1.8.1, core API, asks only that a request is delivered once.
 //!
 //! What is proved, by the names of clauses (in `src/`) and definitions (in `specs/`):
 //!
 //! - `CreditSlots::claim` [`claimed`, `refused`] takes the lowest vacant slot and the next number of the pair. It
 //!   refuses with `Exhausted` exactly where the numbers are used up, and else with `NotYet` exactly where no slot is
-//!   vacant; the table is then the same [`writes_back`].
+//!   vacant; nothing has changed then [`writes_back`].
 //! - `take_back` [`answer`, `freed`, `same`] frees a slot exactly where it is taken with that number.
 //! - `due` [`next`, `sent`] names the request that is sent again next: of those last sent `resend` or more before now
 //!   the one sent earliest, then of the lower node, then of the lower slot (`IsFirstDue`). It names none exactly where
@@ -82,7 +82,7 @@ impl CreditSlots {
     ghost use Rattle.message_slots.specs.SlotsState.{counts_of, IsNew};
     ghost use Rattle.std.specs.Prelude.{All};
 
-    /// A table with no request in it, for node `me`: for each other node as many vacant slots as its entry of `credits`
+    /// Slots with no request in them, for node `me`: for each other node as many vacant ones as its entry of `credits`
     /// says, and none for `me`, whatever its own entry. There are at most 2,048 entries, and each other node has at
     /// most 32 slots. Requests to a peer are numbered from 1 to `last`. Each slot has a buffer of `BUFFER_BYTES` bytes,
     /// whose memory is reserved and not touched before the slot is first taken; no later call takes memory.

@@ -6,13 +6,15 @@
 //! - `CreditSlots`: the credits of each peer, and the requests that are not back. It tells which is sent again next.
 //! - `ReplySlots`: the last reply that was made in each slot of each other node.
 //! - `SlotTable`: the slots of several peers, under both. Its buffers are a `Block`: parts of one size in one
-//!   allocation, which is reserved, and touched as a part is first written.
+//!   allocation, which is reserved, and touched as a part is first written. What is kept of each slot lies in a list
+//!   that is blank at first, and touched as it is written. A core has two blocks more, of one part each, for requests to
+//!   its own node.
 //!
 //! What is proved, by the names of clauses (in `src/`) and definitions (in `specs/`):
 //!
 //! - `CreditSlots::claim` [`claimed`, `refused`] takes the lowest vacant slot and the next number of the pair. It
 //!   refuses with `Exhausted` exactly where the numbers are used up, and else with `NotYet` exactly where no slot is
-//!   vacant; the table is then the same [`writes_back`].
+//!   vacant; nothing has changed then [`writes_back`].
 //! - `take_back` [`answer`, `freed`, `same`] frees a slot exactly where it is taken with that number.
 //! - `due` [`next`, `sent`] names the request that is sent again next: of those last sent `resend` or more before now
 //!   the one sent earliest, then of the lower node, then of the lower slot (`IsFirstDue`). It names none exactly where
@@ -31,6 +33,7 @@
 mod block;
 mod credits;
 mod order;
+mod padded_list;
 mod replies;
 mod table;
 

@@ -1,13 +1,14 @@
 //! The order in which messages are sent again.
 
 ghost use Rattle.std.specs.Prelude.{◌≡◌, ◌≢◌, ◌+◌, ◌<◌, ◌≤◌, length, map, slice_get, slice_set};
-ghost use Rattle.std.specs.Prelude.{Some, None, IfSome, IfNone, IfOk, true, false, vec_len};
+ghost use Rattle.std.specs.Prelude.{Some, None, IfSome, IfNone, IfOk, true, false, vec_capacity, ◌-◌, ◌++◌, ◌∷◌, []};
 ghost use Rattle.std.proofs.Math.ListN.{replicate};
-ghost use Rattle.std.specs.Bool.{OnTrue, OnFalse};
-ghost use Rattle.message_slots.specs.Ring.{IsBefore};
-ghost use Rattle.message_slots.specs.Order.{due_view, listed_at, head_of, IsOrder, IsSpot};
+ghost use Rattle.lists.specs.Update.{update};
+ghost use Rattle.message_slots.specs.Ring.{IsOn};
+ghost use Rattle.message_slots.specs.Order.{due_view, next_at, listed_at, head_of, blank_entry, IsOrder, IsSpot};
 ghost use Rattle.message_slots.specs.declared.table.TheConstants.{MAX_SLOTS};
 
+use crate::padded_list::append_blanks;
 use std::alloc::{AllocError, Global};
 use std::marker::Model;
 
@@ -30,78 +31,232 @@ struct DueEntry {
     listed: bool,
 }
 
-// Whether what was sent at `other`, at the place `at`, comes after what was sent at `time`, at `place`.
-fn is_after(other: u64, at: usize, time: u64, place: usize) -> bool
-    requires { at ≢ place }
-    ensures later { OnTrue result (IsBefore time place other at) }
-    ensures earlier { OnFalse result (IsBefore other at time place) }
-{
-    other > time || (other == time && at > place)
+// An entry of each place, and behind them the one where the ring begins and ends. Behind the last entry of a place that
+// was written each is blank, and takes no memory that was touched. Its value is the list of all.
+#[derive(Drop)]
+struct Entries {
+    written: Vec<DueEntry>,
+    places: usize,
+    head: DueEntry,
 }
 
-// Behind which place one with this time goes. Most times are the latest, and then it is the last place.
-fn seek(entries: &Vec<DueEntry>, place: usize, time: u64) -> usize
-    requires order { IsOrder entries.now.items }
-    requires inside { place < length entries.now.items }
-    requires unlisted { listed_at entries.now.items place ≡ false }
-    requires no_head { place ≢ head_of entries.now.items }
-    ensures { IsSpot entries.now.items place time result }
+impl Model for Entries {
+    ghost use Rattle.std.specs.Prelude.{List, [], ◌∷◌, ◌++◌, ◌≤◌, vec_len, vec_capacity};
+    ghost use Rattle.message_slots.specs.PaddedLists.{padded};
+    ghost use Rattle.message_slots.specs.Order.{blank_entry};
+    ghost use Rattle.message_slots.specs.declared.order.DueEntry.{DueEntry};
+
+    ghost Value = { List DueEntry };
+
+    ghost view = { λ e. padded e.written.items blank_entry e.places ++ e.head ∷ [] };
+
+    ghost invariant = { λ e. (vec_len e.written ≤ e.places)
+        × (e.places ≤ vec_capacity e.written) };
+}
+
+// The entry of a place that was never listed.
+fn blank_entry() -> DueEntry
+    ensures { result ≡ blank_entry }
 {
-    let head = entries.len() - 1;
-    let mut at = entries[head].previous as usize;
-    while at != head {
-        let entry = entries[at];
-        if !is_after(entry.time, at, time, place) {
-            return at;
+    DueEntry {
+        time: 0,
+        node: 0,
+        slot: 0,
+        previous: 0,
+        next: 0,
+        listed: false,
+    }
+}
+
+// Appends blank entries up to this length. It isn't inlined, since few writes need it.
+#[inline(never)]
+fn append_entries(written: &mut Vec<DueEntry>, len: usize)
+    requires { len ≤ vec_capacity written.old }
+    ensures appended { written.new.items
+        ≡ written.old.items ++ replicate (len - length written.old.items) blank_entry }
+    ensures same { vec_capacity written.new ≡ vec_capacity written.old }
+{
+    append_blanks(written, blank_entry(), len);
+}
+
+// Appends blank entries up to this length, where the list is shorter.
+fn lengthen(written: &mut Vec<DueEntry>, len: usize)
+    requires { len ≤ vec_capacity written.old }
+    ensures appended { written.new.items
+        ≡ written.old.items ++ replicate (len - length written.old.items) blank_entry }
+    ensures same { vec_capacity written.new ≡ vec_capacity written.old }
+{
+    if written.len() < len {
+        append_entries(written, len);
+    }
+}
+
+impl Entries {
+    // Blank entries of `places` places, and this one behind them.
+    fn new(alloc: Global, places: usize, head: DueEntry) -> Result<Entries, AllocError>
+        ensures { IfOk result (λ e. e ≡ replicate places blank_entry ++ head ∷ []) }
+    {
+        let written = Vec::with_capacity(alloc, places)?;
+        Ok(Entries {
+            written,
+            places,
+            head,
+        })
+    }
+
+    // Where the last entry stands.
+    fn head(&self) -> usize
+        ensures { result + 1 ≡ length self.now }
+    {
+        self.places
+    }
+
+    // The entry of a place.
+    fn get(&self, place: usize) -> DueEntry
+        requires { place + 1 < length self.now }
+        ensures { slice_get self.now place ≡ Some result }
+    {
+        if place < self.written.len() {
+            self.written[place]
+        } else {
+            blank_entry()
         }
+    }
+
+    // The entry `index`, which is on the ring.
+    fn on_ring(&self, index: usize) -> DueEntry
+        requires { IsOn (head_of self.now) (listed_at self.now) index }
+        ensures { slice_get self.now index ≡ Some result }
+    {
+        if index == self.places {
+            self.head
+        } else {
+            self.written[index]
+        }
+    }
+
+    // The entry of a place that is listed.
+    fn listed(&self, place: usize) -> DueEntry
+        requires listed { listed_at self.now place ≡ true }
+        requires no_head { place ≢ head_of self.now }
+        ensures { slice_get self.now place ≡ Some result }
+    {
+        self.written[place]
+    }
+
+    // Writes the entry of a place. No other changes.
+    fn set(&mut self, place: usize, entry: DueEntry)
+        requires { place + 1 < length self.old }
+        ensures { self.new ≡ slice_set self.old place entry }
+    {
+        lengthen(&mut self.written, place + 1);
+        self.written[place] = entry;
+    }
+
+    // Writes what is behind the entry `index`, which is on the ring.
+    fn set_next(&mut self, index: usize, next: u32)
+        requires { IsOn (head_of self.old) (listed_at self.old) index }
+        ensures { self.new ≡ update self.old index (λ entry. record entry { next = next }) }
+    {
+        if index == self.places {
+            self.head.next = next;
+        } else {
+            self.written[index].next = next;
+        }
+    }
+
+    // Writes what is before the entry `index`, which is on the ring.
+    fn set_previous(&mut self, index: usize, previous: u32)
+        requires { IsOn (head_of self.old) (listed_at self.old) index }
+        ensures { self.new ≡ update self.old index (λ entry. record entry { previous = previous }) }
+    {
+        if index == self.places {
+            self.head.previous = previous;
+        } else {
+            self.written[index].previous = previous;
+        }
+    }
+
+    // Notes that a listed place no longer is.
+    fn set_unlisted(&mut self, place: usize)
+        requires listed { listed_at self.old place ≡ true }
+        requires no_head { place ≢ head_of self.old }
+        ensures { self.new ≡ update self.old place (λ entry. record entry { listed = false }) }
+    {
+        self.written[place].listed = false;
+    }
+}
+
+// Behind which place one with this time goes, and which is behind that one so far. Most times are the latest, and then
+// it goes behind the last place.
+fn seek(entries: &Entries, place: usize, time: u64) -> (usize, usize)
+    requires order { IsOrder entries.now }
+    requires inside { place < length entries.now }
+    requires unlisted { listed_at entries.now place ≡ false }
+    requires no_head { place ≢ head_of entries.now }
+    ensures spot { IsSpot entries.now place time result.0 }
+    ensures next { next_at entries.now result.0 ≡ result.1 }
+{
+    let head = entries.head();
+    let mut next = head;
+    let mut at = entries.on_ring(head).previous as usize;
+    while at != head {
+        let entry = entries.on_ring(at);
+        if entry.time < time {
+            return (at, next);
+        }
+        if entry.time == time && at < place {
+            return (at, next);
+        }
+        next = at;
         at = entry.previous as usize;
     }
-    at
+    (at, next)
 }
 
-// Lists a place behind another.
-fn link(entries: &mut Vec<DueEntry>, place: usize, at: usize, due: Due)
-    requires order { IsOrder entries.old.items }
-    requires inside { place + 1 < length entries.old.items }
-    requires unlisted { listed_at entries.old.items place ≡ false }
-    requires spot { IsSpot entries.old.items place due.time at }
-    ensures order { IsOrder entries.new.items }
-    ensures listed { map due_view entries.new.items
-        ≡ slice_set (map due_view entries.old.items) place (Some due) }
+// Lists a place behind another, and before the one that was behind that one.
+fn link(entries: &mut Entries, place: usize, at: usize, next: usize, due: Due)
+    requires order { IsOrder entries.old }
+    requires inside { place + 1 < length entries.old }
+    requires unlisted { listed_at entries.old place ≡ false }
+    requires spot { IsSpot entries.old place due.time at }
+    requires next { next_at entries.old at ≡ next }
+    ensures order { IsOrder entries.new }
+    ensures listed { map due_view entries.new
+        ≡ slice_set (map due_view entries.old) place (Some due) }
 {
-    let next = entries[at].next;
-    entries[place] = DueEntry {
+    let entry = DueEntry {
         time: due.time,
         node: due.node,
         slot: due.slot,
         previous: at as u32,
-        next,
+        next: next as u32,
         listed: true,
     };
-    entries[at].next = place as u32;
-    entries[next as usize].previous = place as u32;
+    entries.set(place, entry);
+    entries.set_next(at, place as u32);
+    entries.set_previous(next, place as u32);
 }
 
 // Takes a place out.
-fn unlink(entries: &mut Vec<DueEntry>, place: usize)
-    requires order { IsOrder entries.old.items }
-    requires listed { listed_at entries.old.items place ≡ true }
-    ensures order { IsOrder entries.new.items }
-    ensures unlisted { map due_view entries.new.items
-        ≡ slice_set (map due_view entries.old.items) place None }
+fn unlink(entries: &mut Entries, place: usize)
+    requires order { IsOrder entries.old }
+    requires listed { listed_at entries.old place ≡ true }
+    ensures order { IsOrder entries.new }
+    ensures unlisted { map due_view entries.new
+        ≡ slice_set (map due_view entries.old) place None }
 {
-    let entry = entries[place];
-    entries[entry.previous as usize].next = entry.next;
-    entries[entry.next as usize].previous = entry.previous;
-    entries[place].listed = false;
+    let entry = entries.listed(place);
+    entries.set_next(entry.previous as usize, entry.next);
+    entries.set_previous(entry.next as usize, entry.previous);
+    entries.set_unlisted(place);
 }
 
 /// The places whose messages may be sent again, in the order of their last sending and then of the places. Its value
-/// is, for each place, what is due there, if anything is.
+/// is, for each place, the message that is listed there: its slot, and when it was last sent.
 #[derive(Drop)]
 pub(crate) struct Order {
-    // The last entry is no place: there the ring begins and ends.
-    entries: Vec<DueEntry>,
+    entries: Entries,
 }
 
 impl Model for Order {
@@ -111,9 +266,9 @@ impl Model for Order {
 
     ghost Value = { List (Option Due) };
 
-    ghost view = { λ o. map due_view o.entries.items };
+    ghost view = { λ o. map due_view o.entries };
 
-    ghost invariant = { λ o. IsOrder o.entries.items };
+    ghost invariant = { λ o. IsOrder o.entries };
 }
 
 impl Order {
@@ -138,21 +293,23 @@ impl Order {
             listed: false,
         };
         Ok(Order {
-            entries: vec![in alloc; head; places + 1]?,
+            entries: Entries::new(alloc, places, head)?,
         })
     }
 
     /// Lists a place.
+    #[inline(always)]
     pub(crate) fn insert(&mut self, place: usize, due: Due)
         requires inside { place + 1 < length self.old }
         requires unlisted { slice_get self.old place ≡ Some None }
         ensures { self.new ≡ slice_set self.old place (Some due) }
     {
-        let at = seek(&self.entries, place, due.time);
-        link(&mut self.entries, place, at, due);
+        let (at, next) = seek(&self.entries, place, due.time);
+        link(&mut self.entries, place, at, next, due);
     }
 
     /// Takes a listed place out.
+    #[inline(always)]
     pub(crate) fn remove(&mut self, place: usize, due: Due)
         requires { slice_get self.old place ≡ Some (Some due) }
         ensures { self.new ≡ slice_set self.old place None }
@@ -160,12 +317,12 @@ impl Order {
         unlink(&mut self.entries, place);
     }
 
-    /// Whether a place is listed.
+    /// What is listed at a place, if anything is.
     pub(crate) fn due(&self, place: usize) -> Option<Due>
-        requires { place < length self.now }
+        requires { place + 1 < length self.now }
         ensures { Some result ≡ slice_get self.now place }
     {
-        let entry = self.entries[place];
+        let entry = self.entries.get(place);
         if entry.listed {
             Some(Due {
                 time: entry.time,
@@ -184,12 +341,12 @@ impl Order {
         ensures inside { IfSome result (λ r. r.0 + 1 < length self.now) }
         ensures none { IfNone result (NoneListed self.now) }
     {
-        let head = self.entries.len() - 1;
-        let place = self.entries[head].next as usize;
+        let head = self.entries.head();
+        let place = self.entries.on_ring(head).next as usize;
         if place == head {
             None
         } else {
-            let entry = self.entries[place];
+            let entry = self.entries.on_ring(place);
             let due = Due {
                 time: entry.time,
                 node: entry.node,

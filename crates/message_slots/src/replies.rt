@@ -59,7 +59,7 @@ impl ReplySlots {
     ghost use Rattle.message_slots.specs.RepliesState.{counts_of, IsNew};
     ghost use Rattle.std.specs.Prelude.{All};
 
-    /// A table in which nothing ran, for node `me`: for each other node as many slots as its entry of `credits` says,
+    /// Slots in which nothing ran, for node `me`: for each other node as many slots as its entry of `credits` says,
     /// which are the credits that it has towards `me`, and none for `me`, whatever its own entry. There are at most
     /// 2,048 entries, and each other node has at most 32 slots. Each slot has a buffer of `BUFFER_BYTES` bytes, whose
     /// memory is reserved and not touched before the slot is first taken; no later call takes memory.

@@ -12,10 +12,14 @@ ghost use Rattle.std.specs.Prelude.{Some, map, position, count_by, All, if◌the
 ghost use Rattle.std.specs.Option.{option_copied};
 ghost use Rattle.std.specs.Borrow.{sem, Lends, Array, u8 as byte};
 ghost use Rattle.message_slots.specs.TableViews.{is_nothing, peer_counts, IsLaid, IsCounted, bit, one};
+ghost use Rattle.std.specs.Prelude.{◌-◌, ◌++◌, vec_capacity};
+ghost use Rattle.std.proofs.Math.ListN.{replicate};
+ghost use Rattle.message_slots.specs.declared.table.Contents.TheVariants.{Nothing};
 ghost use Rattle.lists.specs.Update.{update};
 ghost use Rattle.lists.specs.Cut.{start_of, count_at, total_of};
 
 use crate::block::{Block, MAX_PARTS, PART_BYTES};
+use crate::padded_list::append_blanks;
 use std::alloc::{AllocError, Global};
 use std::marker::Model;
 
@@ -44,6 +48,91 @@ impl Contents {
     }
 }
 
+// The contents of each slot. Behind the last slot that was written nothing stands, and takes no memory that was touched.
+// Its value is the list of all.
+#[derive(Drop)]
+struct ContentsList {
+    written: Vec<Contents>,
+    slots: usize,
+}
+
+impl Model for ContentsList {
+    ghost use Rattle.std.specs.Prelude.{List, ◌≤◌, vec_len, vec_capacity};
+    ghost use Rattle.message_slots.specs.PaddedLists.{padded};
+    ghost use Rattle.message_slots.specs.declared.table.Contents.{Contents};
+    ghost use Rattle.message_slots.specs.declared.table.Contents.TheVariants.{Nothing};
+
+    ghost Value = { List Contents };
+
+    ghost view = { λ c. padded c.written.items Nothing c.slots };
+
+    ghost invariant = { λ c. (vec_len c.written ≤ c.slots) × (c.slots ≤ vec_capacity c.written) };
+}
+
+// Appends slots in which nothing stands up to this length. It isn't inlined, since few writes need it.
+#[inline(never)]
+fn append_nothing(written: &mut Vec<Contents>, len: usize)
+    requires { len ≤ vec_capacity written.old }
+    ensures appended { written.new.items
+        ≡ written.old.items ++ replicate (len - length written.old.items) Nothing }
+    ensures same { vec_capacity written.new ≡ vec_capacity written.old }
+{
+    append_blanks(written, Contents::Nothing, len);
+}
+
+// Appends slots in which nothing stands up to this length, where the list is shorter.
+fn lengthen(written: &mut Vec<Contents>, len: usize)
+    requires { len ≤ vec_capacity written.old }
+    ensures appended { written.new.items
+        ≡ written.old.items ++ replicate (len - length written.old.items) Nothing }
+    ensures same { vec_capacity written.new ≡ vec_capacity written.old }
+{
+    if written.len() < len {
+        append_nothing(written, len);
+    }
+}
+
+impl ContentsList {
+    // Nothing stands in any of `slots` slots. No later call takes memory.
+    fn new(alloc: Global, slots: usize) -> Result<ContentsList, AllocError>
+        ensures { IfOk result (λ contents. contents ≡ replicate slots Nothing) }
+    {
+        let written = Vec::with_capacity(alloc, slots)?;
+        Ok(ContentsList { written, slots })
+    }
+
+    // How many slots there are.
+    fn len(&self) -> usize
+        ensures { result ≡ length self.now }
+    {
+        self.slots
+    }
+
+    // What stands in the slot `index`, counted from 0.
+    fn get(&self, index: usize) -> Contents
+        requires { index < length self.now }
+        ensures { slice_get self.now index ≡ Some result }
+    {
+        if index < self.written.len() {
+            self.written[index]
+        } else {
+            Contents::Nothing
+        }
+    }
+
+    // Writes what stands in the slot `index`, and gives what stood there. No other changes.
+    fn replace(&mut self, index: usize, contents: Contents) -> Contents
+        requires { index < length self.old }
+        ensures written { self.new ≡ slice_set self.old index contents }
+        ensures was { slice_get self.old index ≡ Some result }
+    {
+        lengthen(&mut self.written, index + 1);
+        let was = self.written[index];
+        self.written[index] = contents;
+        was
+    }
+}
+
 // The slots of a peer: where they begin, how many they are, and a bit for each one that is vacant.
 #[derive(Clone, Copy, Drop)]
 struct Peer {
@@ -56,7 +145,7 @@ struct Peer {
 #[derive(Drop)]
 pub struct SlotTable {
     peers: Vec<Peer>,
-    contents: Vec<Contents>,
+    contents: ContentsList,
     block: Block,
     held: usize,
 }
@@ -67,10 +156,10 @@ impl Model for SlotTable {
 
     ghost Value = { TableState };
 
-    ghost view = { λ t. table_view t.peers.items t.contents.items t.block };
+    ghost view = { λ t. table_view t.peers.items t.contents t.block };
 
-    ghost invariant = { λ t. IsCounted t.peers.items t.contents.items t.held
-        × IsBuffered t.contents.items t.block };
+    ghost invariant = { λ t. IsCounted t.peers.items t.contents t.held
+        × IsBuffered t.contents t.block };
 }
 
 // How many slots peer `node` has.
@@ -143,22 +232,21 @@ struct Spot {
 // Puts these contents into a slot of a peer.
 fn put(
     peers: &mut Vec<Peer>,
-    contents: &mut Vec<Contents>,
+    contents: &mut ContentsList,
     held: &mut usize,
     at: Spot,
     new: Contents,
 )
     requires in_range { at.slot < count_at (peer_counts peers.old.items) at.to }
-    requires counted { IsCounted peers.old.items contents.old.items held.old }
+    requires counted { IsCounted peers.old.items contents.old held.old }
     ensures counts { peer_counts peers.new.items ≡ peer_counts peers.old.items }
-    ensures changed { contents.new.items ≡ update contents.old.items
+    ensures changed { contents.new ≡ update contents.old
         (start_of (peer_counts peers.old.items) at.to + at.slot) (λ _. new) }
-    ensures counted { IsCounted peers.new.items contents.new.items held.new }
+    ensures counted { IsCounted peers.new.items contents.new held.new }
 {
     let place = place_in(peers, at.to, at.slot);
-    let was = contents[place].is_nothing();
+    let was = contents.replace(place, new).is_nothing();
     let is = new.is_nothing();
-    contents[place] = new;
     let vacant = peers[at.to as usize].vacant;
     peers[at.to as usize].vacant = marked(vacant, at.slot, was, is);
     *held = counted(*held, was, is);
@@ -198,7 +286,7 @@ impl SlotTable {
         }
         Ok(SlotTable {
             peers,
-            contents: vec![in alloc; Contents::Nothing; first]?,
+            contents: ContentsList::new(alloc, first)?,
             block: Block::new(alloc, first)?,
             held: 0,
         })
@@ -256,7 +344,7 @@ impl SlotTable {
         requires { HasSlot self.now to slot }
         ensures { result ≡ option_and_then number_of (slot_in self.now to slot) }
     {
-        match self.contents[place_in(&self.peers, to, slot)] {
+        match self.contents.get(place_in(&self.peers, to, slot)) {
             Contents::Nothing => None,
             Contents::Draft(number, _) => Some(number),
             Contents::Message(number, _, _) => Some(number),
@@ -268,7 +356,7 @@ impl SlotTable {
         requires { HasSlot self.now to slot }
         ensures { result ≡ option_and_then message_number (slot_in self.now to slot) }
     {
-        match self.contents[place_in(&self.peers, to, slot)] {
+        match self.contents.get(place_in(&self.peers, to, slot)) {
             Contents::Message(number, _, _) => Some(number),
             _ => None,
         }
@@ -280,7 +368,7 @@ impl SlotTable {
         ensures { option_copied result ≡ option_and_then message_of (slot_in self.now to slot) }
     {
         let place = place_in(&self.peers, to, slot);
-        match self.contents[place] {
+        match self.contents.get(place) {
             Contents::Message(_, _, len) => Some(&self.block.part(place)[..len as usize]),
             _ => None,
         }
@@ -322,7 +410,8 @@ impl SlotTable {
         ensures changed { self.new ≡ with_change self.old to slot (sealed len) }
         ensures time { result ≡ option_and_then opened_time (slot_in self.old to slot) }
     {
-        let Contents::Draft(number, time) = self.contents[place_in(&self.peers, to, slot)] else {
+        let place = place_in(&self.peers, to, slot);
+        let Contents::Draft(number, time) = self.contents.get(place) else {
             return None;
         };
         put(
@@ -340,7 +429,8 @@ impl SlotTable {
         requires { HasSlot self.old to slot }
         ensures { self.new ≡ with_change self.old to slot (sent_again now) }
     {
-        if let Contents::Message(number, _, len) = self.contents[place_in(&self.peers, to, slot)] {
+        let place = place_in(&self.peers, to, slot);
+        if let Contents::Message(number, _, len) = self.contents.get(place) {
             put(
                 &mut self.peers,
                 &mut self.contents,

@@ -29,14 +29,17 @@ pub record RunsTo (post : Post) (before after : DevicesSeen) (end : StationEnd) 
   pub end_is : left.end ≡ end
 
 -- the bytes of the trace of a run, and those without its last line
-abbrev pub text_of : {post : Post} {before after : DevicesSeen} {end : StationEnd} → RunsTo post before after end → List ℕ
+abbrev pub text_of : {post : Post} {before after : DevicesSeen} {end : StationEnd} → RunsTo post before after end
+    → List ℕ
 text_of {post} run = spell (node_lines post run.journal)
 
-abbrev pub open_of : {post : Post} {before after : DevicesSeen} {end : StationEnd} → RunsTo post before after end → List ℕ
+abbrev pub open_of : {post : Post} {before after : DevicesSeen} {end : StationEnd} → RunsTo post before after end
+    → List ℕ
 open_of {post} run = spell (node_open post run.journal)
 
 -- the first lines of the trace went in before the run
-abbrev pub HasBegun : {post : Post} {before after : DevicesSeen} {end : StationEnd} → Outbox → RunsTo post before after end
+abbrev pub HasBegun : {post : Post} {before after : DevicesSeen} {end : StationEnd} → Outbox
+    → RunsTo post before after end
     → Type 0
 HasBegun {post} old run =
     Gathers old run.leaves.opened (head_text post.job.settings.version post.job.settings.job post.rank)

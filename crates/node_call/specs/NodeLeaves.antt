@@ -63,7 +63,8 @@ pub record NodeLeaves (post : Post) (before after : DevicesSeen) (journal : List
   -- its sink after the first lines of its trace
   pub opened : Outbox
   -- its threads ran over the link behind the job's sieve, or that couldn't be bound
-  pub runs : RunsOver node_machines seen_links seen_clocks seen_recorders (node_at post machine before) opened journal left
+  pub runs : RunsOver node_machines seen_links seen_clocks seen_recorders (node_at post machine before) opened journal
+      left
   pub link : IsBehind post.job.sieve before.link left.link after.link
   pub clock : left.clock ≡ after.clock
 

@@ -72,8 +72,8 @@ abbrev pub one_if_told : Option Datagrams → ℕ
 one_if_told None = 0
 one_if_told (Some told) = 1
 
--- the numbers of the sieve, the count of faults of the link at first, and how many datagrams it had sent, where it tells
--- them
+-- the numbers of the sieve, the count of faults of the link at first, and how many datagrams it had sent, where it
+-- tells them
 abbrev pub mark : {L : Type 0} → LinkGhosts L → (first : L) → Sieving L → ℕ × List ℕ
 mark links first sieve = (
   links.faults first,

@@ -137,15 +137,15 @@ fn ended_node<L: Link, C, K: Sink>(
 
 /// Runs a node of a job to its end, and writes the trace of what it did as it grows.
 ///
-/// The first lines of the trace go into the sink, the job's sieve is put before the link, and the link is bound. Then the
-/// node's threads take turns under one lock, as `run_threads` says: a turn of a thread that polls takes a datagram, if
-/// one waits, and ticks; each turn tries the next step of the thread's script. The line of a turn goes into the sink
+/// The first lines of the trace go into the sink, the job's sieve is put before the link, and the link is bound. Then
+/// the node's threads take turns under one lock, as `run_threads` says: a turn of a thread that polls takes a datagram,
+/// if one waits, and ticks; each turn tries the next step of the thread's script. The line of a turn goes into the sink
 /// behind it, and where the turn sends datagrams it goes on to the sink behind before they are sent. The line `end` is
 /// last, whatever the end was, but after want of memory, and where the sink failed.
 ///
-/// The end is `LinkFault` only where the link's count of faults rose, or stands at its last value; where that came as it
-/// was to be bound, the trace has no turns. It is `WriteFault` only where the sink failed; a prefix of the trace went in
-/// then, and no more turns were taken. Where there was no memory to make the node, nothing was written.
+/// The end is `LinkFault` only where the link's count of faults rose, or stands at its last value; where that came as
+/// it was to be bound, the trace has no turns. It is `WriteFault` only where the sink failed; a prefix of the trace
+/// went in then, and no more turns were taken. Where there was no memory to make the node, nothing was written.
 pub fn run_job_node<
     R: Threads + Wait + Sync,
     L: Link + Send,

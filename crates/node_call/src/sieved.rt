@@ -11,8 +11,8 @@ use std::snapshot::Snapshot;
 
 /// A sieve before a link, and for clauses alone what was handed to it since the link was as it was at first.
 ///
-/// It tells as sent what was handed to it, behind what names its opening: so that the link behind and the datagrams of a
-/// run can be told to be of one opening.
+/// It tells as sent what was handed to it, behind what names its opening: so that the link behind and the datagrams of
+/// a run can be told to be of one opening.
 #[derive(Drop)]
 pub struct Sieved<L: Link> {
     sieve: Sieve<L>,

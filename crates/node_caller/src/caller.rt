@@ -36,8 +36,8 @@ pub trait Caller {
     ghost after: { Site → Whole → ThreadCall → Whole };
     /// Memory may run out at a request.
     ghost may_lack: { Bool };
-    /// The ghost name of the reference that it was lent, which a call doesn't replace: so who lent it knows what became of
-    /// what is behind it. Any number, where it was lent none.
+    /// The ghost name of the reference that it was lent, which a call doesn't replace: so who lent it knows what became
+    /// of what is behind it. Any number, where it was lent none.
     ghost lent: { Self → ℕ };
 
     /// Makes a call of a thread of the node. `NoMemory` comes at a request alone, and only from a caller that may lack

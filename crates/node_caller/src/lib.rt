@@ -6,8 +6,8 @@
 //! - `Caller::call` [`answered`, `no_memory`]: a caller stands for a *whole*, which is the record of its node, or the
 //!   records of a world with what the nodes held at most. Of each whole for which it stood, the answer is that of the
 //!   node's record, and it stands for the whole after that one call. Where memory ran out, which may be at a request
-//!   alone, it stands for the whole as before. Its settings, table, handlers, node and time stay [`site`], and so does the
-//!   reference that it was lent [`lent`].
+//!   alone, it stands for the whole as before. Its settings, table, handlers, node and time stay [`site`], and so does
+//!   the reference that it was lent [`lent`].
 //! - `AtEndpoint` never lacks memory.
 //! - `make_call` [`MakesOne`] says the same by definitions which join: calls that were made one after another are one
 //!   list (`Makes`), of which the whole afterwards is what they make of it in their order (`specs/Making.antt`). The

@@ -58,8 +58,8 @@ fn tick<H: Handlers>(endpoint: &mut Endpoint, handlers: &H, now: u64) -> Option<
     endpoint.step(handlers, now, &Event::Tick).sends()
 }
 
-/// Where the thread polls, what was got is delivered, and then the node ticks. Answers what that sent: the reply to what
-/// was got, and the request of the tick, as far as there are such.
+/// Where the thread polls, what was got is delivered, and then the node ticks. Answers what that sent: the reply to
+/// what was got, and the request of the tick, as far as there are such.
 pub fn before_try<H: Handlers>(
     endpoint: &mut Endpoint,
     handlers: &H,

@@ -37,7 +37,8 @@ pub data Form (Kept : Type 0) : Type 0 where
   -- call for it: a put whose chunks are to be issued
   Looks : (begin : ThreadCall) → (ready : Answer → Node Kept → Bool) → Form Kept
   -- several calls in one try, which an action that is read so knows by the context and the record of the try: those of
-  -- the first try, and of each later one where the first began the step, which it does by changing the node's collectives
+  -- the first try, and of each later one where the first began the step, which it does by changing the node's
+  -- collectives
   Several : (first later : Part) → Form Kept
 
 -- the part of a step of several calls that a try is, by the answer with which the step began

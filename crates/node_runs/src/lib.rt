@@ -2,10 +2,11 @@
 //!
 //! A machine is the record of a node with what is left of its scripts. A turn of one of its threads is a list of events
 //! of the node: what was got is delivered, the node ticks, and the thread's next step is tried, which makes calls, one
-//! after another (`specs/Turn.antt`). What a try calls, and when it ends its step, is a parameter (`Scripts`); steps have
-//! six forms (`specs/Actions.antt`), of which one makes several calls in a try, and the others at most one.
-//! `specs/Order.antt` says which orders of the entries of several traces can go, and `specs/WorldRun.antt` what it means
-//! that such an order is a run of the world. It has no code but the type of what a step is answered (`ScriptAnswer`).
+//! after another (`specs/Turn.antt`). What a try calls, and when it ends its step, is a parameter (`Scripts`); steps
+//! have six forms (`specs/Actions.antt`), of which one makes several calls in a try, and the others at most one.
+//! `specs/Order.antt` says which orders of the entries of several traces can go, and `specs/WorldRun.antt` what it
+//! means that such an order is a run of the world. It has no code but the type of what a step is answered
+//! (`ScriptAnswer`).
 //!
 //! What is proved is named by the clauses of these laws, for any reading of actions as forms:
 //!

@@ -57,6 +57,7 @@ pub(crate) fn write_numbered<K: Sink>(word: &[u8], number: u64, sink: &mut Buffe
 }
 
 /// The text of a request: a word, its target, its slot and its number.
+#[inline(always)]
 pub(crate) fn write_request<K: Sink>(
     word: &[u8],
     to: u16,

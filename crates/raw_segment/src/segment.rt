@@ -81,8 +81,8 @@ impl<T> Offset<T> {
     }
 }
 
-/// A node's segment, the memory that other nodes' messages reach: bytes in one raw allocation. Its value is the list of
-/// them.
+/// A node's segment, the memory that other nodes' messages reach: bytes in one raw allocation, or in memory that was
+/// given. Its value is the list of them.
 ///
 /// Offsets and lengths are in bytes; a range of 0 bytes at the end lies inside.
 pub struct Segment {

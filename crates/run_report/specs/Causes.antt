@@ -3,7 +3,7 @@ use Rattle.std.specs.Prelude.{◌≡◌, ◌⊎◌, ℕ, ℤ, Option, Some, None
 use Rattle.std.specs.Prelude.{String}
 use Rattle.std.specs.Global.{Global}
 use Rattle.std.specs.Bool.{MatchBool}
-use Rattle.run_report.specs.Status.{IsLastLine, status_of}
+use Rattle.run_report.specs.Status.{IsLastLine, line_status}
 use Rattle.run_report.specs.declared.command.Command.{Command}
 use Rattle.run_report.specs.declared.texts.Texts.{Ghosts as Texts}
 
@@ -45,7 +45,7 @@ pub record IsFaultOf {T : Type 0} (texts : Texts T) (command : Command) (link st
   pub is_last : IsLastLine command.output.bytes.items line
   pub is : MatchBool command.output.failed
       (IsCaused (codes "standard output can't be written") command.output.fault text)
-      (IsFaultAt texts command link start (status_of line) text)
+      (IsFaultAt texts command link start (line_status line) text)
 
 -- the line of such a text; none where that is empty
 abbrev pub fault_line : List ℕ → List ℕ

@@ -1,12 +1,13 @@
 -- The words of a command, and what is kept of its run.
-use Rattle.std.specs.Prelude.{◌≡◌, ◌⊎◌, ℕ, ◌==◌, ◌&&◌, ◌||◌, not, true, if◌then◌else◌, List, [], ◌∷◌, ◌++◌, length, Bool, Option, Some, None, Result, String, codes, decimal}
+use Rattle.std.specs.Prelude.{◌≡◌, ◌⊎◌, ℕ, ◌==◌, ◌&&◌, ◌||◌, not, true, if◌then◌else◌, List, [], ◌∷◌, ◌++◌, length}
+use Rattle.std.specs.Prelude.{Bool, Option, Some, None, Result, String, codes, decimal}
 use Rattle.std.specs.Prelude.{string_bytes, IfOk}
 use Rattle.std.specs.Bool.{MatchBool}
 use Rattle.std.specs.Str.{bytes_eq}
 use Rattle.std.specs.Global.{Global}
 use Rattle.std.specs.declared.alloc.AllocError.{AllocError}
 use Rattle.run_report.specs.Ports.{ports_line}
-use Rattle.run_report.specs.Status.{IsLastLine, is_refusal, status_of}
+use Rattle.run_report.specs.Status.{IsLastLine, is_refusal, line_status}
 use Rattle.run_report.specs.Telling.{TellsMade}
 use Rattle.run_report.specs.declared.command.Command.{Command}
 use Rattle.run_report.specs.declared.command.CommandKind.{CommandKind}
@@ -35,8 +36,8 @@ kind_of name =
 abbrev pub needs_input : Bool → CommandKind → (line : List ℕ) → Bool
 needs_input steps kinds.Check line = true
 needs_input steps kinds.Launch line = true
-needs_input steps kinds.World line = steps || is_refusal (status_of line)
-needs_input steps kinds.Other line = steps || is_refusal (status_of line)
+needs_input steps kinds.World line = steps || is_refusal (line_status line)
+needs_input steps kinds.Other line = steps || is_refusal (line_status line)
 
 -- the word of a port stands behind the words, unless memory ran out
 abbrev pub HasWord : Option ℕ → (old new : List (String Global)) → Type 0

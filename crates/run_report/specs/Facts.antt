@@ -1,5 +1,6 @@
 -- What is told of what the system kept of a run.
-use Rattle.std.specs.Prelude.{◌≡◌, ℕ, ℤ, pos, negsuc, nat_lt, List, [], ◌∷◌, ◌++◌, ◌==◌, if◌then◌else◌, Option, Some, None, codes, decimal}
+use Rattle.std.specs.Prelude.{◌≡◌, ℕ, ℤ, pos, negsuc, nat_lt, List, [], ◌∷◌, ◌++◌, ◌==◌, if◌then◌else◌, Option, Some}
+use Rattle.std.specs.Prelude.{None, codes, decimal}
 use Rattle.std.specs.Prelude.{string_bytes}
 use Rattle.std.specs.Process.{exit_code}
 use Rattle.std.specs.declared.net.socket_addr.SocketAddr.{SocketAddr}
@@ -73,9 +74,11 @@ small_code None = None
 
 -- what is told of a child that ended so: of one that the system says ended, its code, and the system's text
 abbrev pub IsEndedNode : (rank : ℕ) → ChildSeen → EndedNode → Type 0
-IsEndedNode rank child.Unstarted node = (node.rank ≡ rank) × (node.code ≡ None) × (string_bytes node.how ≡ codes "not started")
+IsEndedNode rank child.Unstarted node =
+    (node.rank ≡ rank) × (node.code ≡ None) × (string_bytes node.how ≡ codes "not started")
 IsEndedNode rank (child.Ended status) node = (node.rank ≡ rank) × (node.code ≡ small_code (exit_code status))
-IsEndedNode rank child.Lost node = (node.rank ≡ rank) × (node.code ≡ None) × (string_bytes node.how ≡ codes "output lost")
+IsEndedNode rank child.Lost node =
+    (node.rank ≡ rank) × (node.code ≡ None) × (string_bytes node.how ≡ codes "output lost")
 
 -- what is told of the child of a rank: nothing where no end was kept
 abbrev pub AreEnded : (rank : ℕ) → Option ChildSeen → List EndedNode → Type 0

@@ -1,5 +1,6 @@
 -- What the outputs of the nodes of a run tell.
-use Rattle.std.specs.Prelude.{ℕ, ◌+◌, ◌-◌, ◌^◌, min, ◌==◌, ◌&&◌, ◌||◌, not, nat_lt, nat_le, List, [], ◌++◌, length, Bool}
+use Rattle.std.specs.Prelude.{ℕ, ◌+◌, ◌-◌, ◌^◌, min, ◌==◌, ◌&&◌, ◌||◌, not, nat_lt, nat_le, List, [], ◌++◌, length}
+use Rattle.std.specs.Prelude.{Bool}
 use Rattle.std.specs.Prelude.{if◌then◌else◌, Some, codes, decimal}
 use Rattle.run_report.specs.Ends.{ended_line, is_told}
 use Rattle.run_report.specs.declared.findings.NodeFinding.{NodeFinding}
@@ -28,7 +29,8 @@ counts_told ending node = refused_told ending node ++ open_told node
 -- what is wrong with the status that a node told; empty where nothing is
 unfoldable pub fault_of : NodeFinding → List ℕ
 fault_of node =
-    if (node.status == 0 || node.status == 1) && not node.over then codes "by its trace and this job a script isn't over"
+    if (node.status == 0 || node.status == 1) && not node.over
+    then codes "by its trace and this job a script isn't over"
     else if node.status == 0 && node.violated then codes "by its trace and this job it noted a violation"
     else if node.status == 1 && not node.violated then codes "by its trace and this job it noted none"
     else if node.status == 9 && node.over then codes "by its trace and this job all its scripts are over"

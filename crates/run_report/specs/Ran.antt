@@ -1,5 +1,6 @@
 -- What is told after the run of a command.
-use Rattle.std.specs.Prelude.{◌≡◌, ◌⊎◌, ℕ, List, [], Bool, Option, Some, None, Result, Ok, Err, String, IfOk, string_bytes}
+use Rattle.std.specs.Prelude.{◌≡◌, ◌⊎◌, ℕ, List, [], Bool, Option, Some, None, Result, Ok, Err, String, IfOk}
+use Rattle.std.specs.Prelude.{string_bytes}
 use Rattle.std.specs.Global.{Global}
 use Rattle.std.specs.Bool.{MatchBool}
 use Rattle.std.specs.declared.alloc.AllocError.{AllocError}
@@ -8,7 +9,7 @@ use Rattle.run_report.specs.Command.{kind_of, name_of}
 use Rattle.run_report.specs.Facts.{IsDroppedText, IsEndsText, IsLinkText, IsStartText}
 use Rattle.run_report.specs.Gathering.{GivesOne, GivesTo}
 use Rattle.run_report.specs.Report.{IsToldBy}
-use Rattle.run_report.specs.Status.{IsLastLine, ending_of, status_of}
+use Rattle.run_report.specs.Status.{IsLastLine, ending_of, line_status}
 use Rattle.run_report.specs.Telling.{TellsMade, after_text}
 use Rattle.run_report.specs.declared.command.Command.{Command}
 use Rattle.run_report.specs.declared.command.CommandKind.{CommandKind}
@@ -25,8 +26,8 @@ use Rattle.run_report.specs.declared.texts.Texts.{Ghosts as Texts}
 
 -- how the run of a check or a launch ended, by its last line
 abbrev pub ending_by : CommandKind → (line : List ℕ) → Option Ending
-ending_by kinds.Check line = ending_of (status_of line)
-ending_by kinds.Launch line = ending_of (status_of line)
+ending_by kinds.Check line = ending_of (line_status line)
+ending_by kinds.Launch line = ending_of (line_status line)
 ending_by kinds.World line = None
 ending_by kinds.Other line = None
 

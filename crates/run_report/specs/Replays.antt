@@ -12,7 +12,8 @@ abbrev pub AreSent : {R : Type 0} → Replays R → R → (place : ℕ) → List
 AreSent given replays place sent = GivesTo (GivesOne (given.sent replays place)) (given.sends replays place) sent
 
 -- it was added
-pub record AddsSent {R : Type 0} (given : Replays R) (replays : R) (place : ℕ) (old new : List SentMessage) : Type 0 where
+pub record AddsSent {R : Type 0} (given : Replays R) (replays : R) (place : ℕ)
+    (old new : List SentMessage) : Type 0 where
   pub sent : List SentMessage
   pub are : AreSent given replays place sent
   pub is : new ≡ old ++ sent

@@ -1,5 +1,6 @@
 -- What is kept of the bytes that go by.
-use Rattle.std.specs.Prelude.{◌≡◌, ◌⊎◌, ℕ, ◌-◌, ◌&&◌, ◌||◌, nat_le, nat_lt, List, [], ◌++◌, length, drop, Bool, if◌then◌else◌}
+use Rattle.std.specs.Prelude.{◌≡◌, ◌⊎◌, ℕ, ◌-◌, ◌&&◌, ◌||◌, nat_le, nat_lt, List, [], ◌++◌, length, drop, Bool}
+use Rattle.std.specs.Prelude.{if◌then◌else◌}
 use Rattle.std.specs.Bool.{MatchBool}
 
 -- bytes are added, unless memory ran out: then others are kept

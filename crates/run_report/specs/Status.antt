@@ -1,5 +1,6 @@
 -- The last line of what a command wrote, and what it says.
-use Rattle.std.specs.Prelude.{◌≡◌, ◌≢◌, ℕ, ◌+◌, ◌-◌, ◌<◌, ◌≤◌, ◌==◌, ◌||◌, nat_lt, List, [], ◌∷◌, length, take, drop, slice_index, Bool, false}
+use Rattle.std.specs.Prelude.{◌≡◌, ◌≢◌, ℕ, ◌+◌, ◌-◌, ◌<◌, ◌≤◌, ◌==◌, ◌||◌, nat_lt, List, [], ◌∷◌, length, take, drop}
+use Rattle.std.specs.Prelude.{slice_index, Bool, false}
 use Rattle.std.specs.Prelude.{if◌then◌else◌, Option, Some, None, codes, nat_eq}
 use Rattle.std.specs.List.{starts_with}
 use Rattle.run_report.specs.declared.status.Ending.{Ending}
@@ -37,8 +38,8 @@ status_number (first ∷ (second ∷ behind)) =
     if second == 32 then digit 0 first else if first == 49 then digit 10 second else None
 
 -- the status that a line tells, which none but a status line does
-unfoldable pub status_of : List ℕ → Option ℕ
-status_of line = if starts_with nat_eq line (codes "status ") then status_number (drop 7 line) else None
+unfoldable pub line_status : List ℕ → Option ℕ
+line_status line = if starts_with nat_eq line (codes "status ") then status_number (drop 7 line) else None
 
 -- how a run with this status ended
 abbrev pub ending_of : Option ℕ → Option Ending

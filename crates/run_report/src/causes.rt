@@ -2,10 +2,10 @@
 
 ghost use Rattle.std.specs.Prelude.{◌≡◌, IfOk, string_bytes};
 ghost use Rattle.run_report.specs.Causes.{IsBadJob, IsCaused, IsFaultAt, IsFaultOf, IsUseFault, fault_line, sentence};
-ghost use Rattle.run_report.specs.Status.{status_of};
+ghost use Rattle.run_report.specs.Status.{line_status};
 
 use crate::command::Command;
-use crate::status::{last_line, status_of};
+use crate::status::{last_line, line_status};
 use crate::texts::Texts;
 use std::alloc::{AllocError, Global};
 use std::io;
@@ -84,9 +84,9 @@ fn fault_at<T: Texts>(
     start: &str,
 ) -> Result<String, AllocError>
     ensures { IfOk result (λ text. IsFaultAt T.Texts command.now link.now start.now
-        (status_of line.now) (string_bytes text)) }
+        (line_status line.now) (string_bytes text)) }
 {
-    match status_of(line) {
+    match line_status(line) {
         Some(2) => use_fault::<T>(alloc, &command.words, &command.input.bytes),
         Some(3) => bad_job::<T>(alloc, line, &command.input.bytes),
         Some(4) => caused(alloc, "standard input can't be read", command.input.fault),

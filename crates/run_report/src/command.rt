@@ -1,13 +1,14 @@
 //! The command that a run is of, and what is kept of the run.
 
 ghost use Rattle.std.specs.Prelude.{◌≡◌, ◌&&◌, [], not, true, false, None, ℕ, List, option_map};
-ghost use Rattle.run_report.specs.Command.{HasWord, IsReadAgain, TellsPorts, is_node, kind_of, lacks_port, name_of, needs_input};
+ghost use Rattle.run_report.specs.Command.{HasWord, IsReadAgain, TellsPorts, is_node, kind_of};
+ghost use Rattle.run_report.specs.Command.{lacks_port, name_of, needs_input};
 ghost use Rattle.run_report.specs.Ports.{ArePorts};
 ghost use Rattle.std.specs.Bool.{MatchBool};
 
 use crate::ports::{FreePorts, Ports, free_ports, port_of, port_word, ports_line};
 use crate::seen::{MOST_INPUT, Seen};
-use crate::status::{is_refusal, last_line, status_of};
+use crate::status::{is_refusal, last_line, line_status};
 use crate::telling::{Tells, tell_made};
 use std::alloc::Global;
 
@@ -95,10 +96,8 @@ fn needs_input(steps: bool, kind: CommandKind, line: &[u8]) -> bool
     ensures { result ≡ needs_input steps kind line.now }
 {
     match kind {
-        CommandKind::Check => true,
-        CommandKind::Launch => true,
-        CommandKind::World => steps || is_refusal(status_of(line)),
-        CommandKind::Other => steps || is_refusal(status_of(line)),
+        CommandKind::Check | CommandKind::Launch => true,
+        CommandKind::World | CommandKind::Other => steps || is_refusal(line_status(line)),
     }
 }
 

@@ -1,7 +1,10 @@
 //! What the system kept of a run, and what is told of it.
 
 ghost use Rattle.std.specs.Prelude.{◌≡◌, IfOk, ℕ, Option, string_bytes};
-ghost use Rattle.run_report.specs.Facts.{GivesEnded, IsBindText, IsDroppedText, IsEndedNode, IsEndsText, IsLinkText, IsSocketText, IsStartText, bind_text, others_told, small_code, start_line, strays_told};
+ghost use Rattle.run_report.specs.Facts.{GivesEnded, IsBindText, IsDroppedText, IsEndedNode};
+ghost use Rattle.run_report.specs.Facts.{IsEndsText, IsLinkText, IsSocketText, IsStartText};
+ghost use Rattle.run_report.specs.Facts.{bind_text, others_told, small_code, start_line};
+ghost use Rattle.run_report.specs.Facts.{strays_told};
 ghost use Rattle.run_report.specs.Gathering.{GivesTo};
 ghost use Rattle.run_report.specs.declared.facts.ChildSeen.{ChildSeen};
 

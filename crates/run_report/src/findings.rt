@@ -3,7 +3,8 @@
 ghost use Rattle.std.specs.Prelude.{◌≡◌, ◌++◌, ◌==◌, IfOk, OnOk, string_bytes};
 ghost use Rattle.std.specs.List.{flat_map, list_any};
 ghost use Rattle.run_report.specs.Lines.{line_told};
-ghost use Rattle.run_report.specs.Findings.{blocked_told, difference_told, fault_of, is_blocked, is_stuck, open_told, refused_line, refused_told};
+ghost use Rattle.run_report.specs.Findings.{blocked_told, difference_told, fault_of, is_blocked};
+ghost use Rattle.run_report.specs.Findings.{is_stuck, open_told, refused_line, refused_told};
 
 use crate::ends::{add_ended_line, is_told};
 use crate::status::Ending;

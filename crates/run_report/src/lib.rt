@@ -3,26 +3,28 @@
 //! All of it goes to standard error. A text is made by a function of values, and its clause says the text byte by byte,
 //! by a definition in `specs/`. Where memory runs out nothing is told. What is proved:
 //!
-//! - `tell_after` [`TellsAfter`]: all that is told after a run, in order, or less where memory ran out: what was dropped
-//!   (`IsDroppedText`), what the outputs of nodes tell (`IsToldBy`), how the nodes of a launch ended (`IsEndsText`),
-//!   the steps, and why the run went wrong (`IsFaultOf`), by the last line that it wrote (`last_line` [`IsLastLine`]).
-//! - What the outputs of nodes tell stands part by part in order: the requests that aren't back, a status that isn't what
-//!   the trace has, where replays stop, and the entries that got what no node sent (`gaps_text`): those that are causes,
-//!   or all. It is told of the replays (`Replays`) that were given, place by place (`GivesTo`).
+//! - `tell_after` [`TellsAfter`]: all that is told after a run, in order, or less where memory ran out: what was
+//!   dropped (`IsDroppedText`), what the outputs of nodes tell (`IsToldBy`), how the nodes of a launch ended
+//!   (`IsEndsText`), the steps, and why the run went wrong (`IsFaultOf`), by the last line that it wrote (`last_line`
+//!   [`IsLastLine`]).
+//! - What the outputs of nodes tell stands part by part in order: the requests that aren't back, a status that isn't
+//!   what the trace has, where replays stop, and the entries that got what no node sent (`gaps_text`): those that are
+//!   causes, or all. It is told of the replays (`Replays`) that were given, place by place (`GivesTo`).
 //! - Help, why words and jobs are refused, and steps are the texts that `Texts` makes of these words, jobs and outputs.
 //! - `tell_help`, `tell_fault`, `refused_line` and `progress_line` [`TellsHelp`, `TellsLine`, and of the same names].
 //!   `is_shown_at` is exact, and `counts_of` [`AreCounted`] is what counters have.
-//! - `with_port` [`HasWord`, `ArePorts`, `TellsPorts`]: a launch without a port gets one of a block of which each port was
-//!   found free, and that is told.
+//! - `with_port` [`HasWord`, `ArePorts`, `TellsPorts`]: a launch without a port gets one of a block of which each port
+//!   was found free, and that is told.
 //! - `tell_made` [`TellsMade`]: a text is told to what `Tells`, all of it where the answer is true.
 //! - `Seen` [`KeepsFront`, `KeepsEnd`, `KeepsAll`]: which bytes are kept of those that go by. `WatchedReader` and
-//!   `WatchedWriter` tell what the reader or the writer behind tells, and `CountedSpawner` what the spawner behind tells.
-//!   It keeps what children gave [`KeepsOutput`].
+//!   `WatchedWriter` tell what the reader or the writer behind tells, and `CountedSpawner` what the spawner behind
+//!   tells. It keeps what children gave [`KeepsOutput`].
 //! - `Command`: its words, and what is kept of its run. Its input is read again where it is needed [`IsReadAgain`].
 //! - `hosts_told` and `settings_told` [`told`: `AreHosts`; `secret`: `IsSecret`; `steps`: `IsSetOne`; `refused`:
-//!   `RefusesHosts`, `RefusesSettings`]: what the environment sets, or why it is refused, by what its variables and files
-//!   were found to hold, each under its name. `Refusal` has the text, the line and the exit status of what is refused. A
-//!   key is the 64 hexadecimal digits of a file that its owner alone may use. White space may stand around them.
+//!   `RefusesHosts`, `RefusesSettings`]: what the environment sets, or why it is refused, by what its variables and
+//!   files were found to hold, each under its name. `Refusal` has the text, the line and the exit status of what is
+//!   refused. A key is the 64 hexadecimal digits of a file that its owner alone may use. White space may stand around
+//!   them.
 //! - `message_of` [`IsMessageOf`, `AreNoMessage`]: the message that a datagram spells, or that it spells none.
 //!
 //! No clause says that the system told a person anything, nor the system's own texts of errors.

@@ -1,6 +1,7 @@
 //! The blocks of ports of which a launch without a port takes one.
 
-ghost use Rattle.std.specs.Prelude.{◌≡◌, ◌+◌, ◌*◌, ◌%◌, ◌<◌, IfOk, MatchOption, ℕ, Option, Some, None, decimal, option_map, string_bytes};
+ghost use Rattle.std.specs.Prelude.{◌≡◌, ◌+◌, ◌*◌, ◌%◌, ◌<◌, IfOk, MatchOption, ℕ, Option, Some};
+ghost use Rattle.std.specs.Prelude.{None, decimal, option_map, string_bytes};
 ghost use Rattle.run_report.specs.Ports.{ArePorts, HasNone, IsBlock, block_port, ports_line};
 
 use std::alloc::{AllocError, Global};
@@ -10,6 +11,9 @@ const BLOCK: u16 = 257;
 
 /// How many blocks there are.
 const BLOCKS: u16 = 88;
+
+/// The first port of the first block.
+const FIRST_PORT: u16 = 10_023;
 
 /// The ports of a host.
 pub trait Ports {
@@ -42,8 +46,8 @@ fn block_port(number: u32, place: u16) -> u16
     ensures port { result ≡ block_port number place }
     ensures within { result < 65000 }
 {
-    let block = (u64::from(number) + u64::from(place)) % 88;
-    10_023 + 257 * (block as u16)
+    let block = (u64::from(number) + u64::from(place)) % u64::from(BLOCKS);
+    FIRST_PORT + BLOCK * (block as u16)
 }
 
 /// The ports of the block of this first port, if all of them are free.

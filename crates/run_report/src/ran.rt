@@ -2,7 +2,9 @@
 
 ghost use Rattle.std.specs.Prelude.{◌≡◌, IfOk, string_bytes};
 ghost use Rattle.run_report.specs.Facts.{IsDroppedText, IsEndsText, IsLinkText, IsStartText};
-ghost use Rattle.run_report.specs.Ran.{AreReplays, IsFindings, IsFindingsBy, IsOrNothing, IsStepsOf, IsToldAfter, IsToldEnding, IsToldOf, TellsAfter, made_or_nothing};
+ghost use Rattle.run_report.specs.Ran.{AreReplays, IsFindings, IsFindingsBy, IsOrNothing};
+ghost use Rattle.run_report.specs.Ran.{IsStepsOf, IsToldAfter, IsToldEnding, IsToldOf, TellsAfter};
+ghost use Rattle.run_report.specs.Ran.{made_or_nothing};
 
 use crate::causes::fault_of;
 use crate::command::{Command, CommandKind, kind_of};
@@ -11,7 +13,7 @@ use crate::facts::{Children, Facts, children_text, dropped_text, link_text, star
 use crate::gathered::findings_of;
 use crate::replays::Replays;
 use crate::report::{Judged, told_by};
-use crate::status::{Ending, ending_of, last_line, status_of};
+use crate::status::{Ending, ending_of, last_line, line_status};
 use crate::telling::{After, Tells, after_text, tell_made};
 use crate::texts::Texts;
 use std::alloc::{AllocError, Global};
@@ -23,10 +25,8 @@ fn told_ending(command: &Command) -> Option<Ending>
 {
     let line = last_line(&command.output.bytes);
     match kind_of(&command.words) {
-        CommandKind::Check => ending_of(status_of(line)),
-        CommandKind::Launch => ending_of(status_of(line)),
-        CommandKind::World => None,
-        CommandKind::Other => None,
+        CommandKind::Check | CommandKind::Launch => ending_of(line_status(line)),
+        CommandKind::World | CommandKind::Other => None,
     }
 }
 
@@ -40,8 +40,7 @@ fn steps_of<T: Texts>(alloc: Global, command: &Command) -> Result<String, AllocE
     }
     let (input, output) = (&command.input.bytes, &command.output.bytes);
     match kind_of(&command.words) {
-        CommandKind::Check => T::steps_told(alloc, input, output),
-        CommandKind::Launch => T::steps_told(alloc, input, output),
+        CommandKind::Check | CommandKind::Launch => T::steps_told(alloc, input, output),
         CommandKind::World => T::lines_told(alloc, input, output),
         CommandKind::Other => Ok(String::new(alloc)),
     }
@@ -58,9 +57,9 @@ fn replays_of<R: Replays>(
 {
     match kind {
         CommandKind::Check => R::of_input(alloc, input),
-        CommandKind::Launch => R::of_outputs(alloc, input, outputs),
-        CommandKind::World => R::of_outputs(alloc, input, outputs),
-        CommandKind::Other => R::of_outputs(alloc, input, outputs),
+        CommandKind::Launch | CommandKind::World | CommandKind::Other => {
+            R::of_outputs(alloc, input, outputs)
+        }
     }
 }
 

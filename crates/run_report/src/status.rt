@@ -1,7 +1,8 @@
 //! The last line of what a command wrote, and what it says.
 
 ghost use Rattle.std.specs.Prelude.{◌≡◌, ◌≤◌};
-ghost use Rattle.run_report.specs.Status.{IsEnd, IsLastLine, IsStart, digit, ending_of, is_refusal, status_number, status_of};
+ghost use Rattle.run_report.specs.Status.{IsEnd, IsLastLine, IsStart, digit, ending_of, is_refusal};
+ghost use Rattle.run_report.specs.Status.{status_number, line_status};
 
 /// How a run ended whose nodes' outputs are told of.
 #[derive(Clone, Copy)]
@@ -77,9 +78,9 @@ fn status_number(text: &[u8]) -> Option<u8>
 }
 
 /// The status that a line tells. None where it is no status line.
-#[tactic(auto, unfolding(crate::specs::Status::status_of))]
-pub(crate) fn status_of(line: &[u8]) -> Option<u8>
-    ensures { result ≡ status_of line.now }
+#[tactic(auto, unfolding(crate::specs::Status::line_status))]
+pub(crate) fn line_status(line: &[u8]) -> Option<u8>
+    ensures { result ≡ line_status line.now }
 {
     if !line.starts_with("status ".as_bytes()) {
         return None;

@@ -2,7 +2,10 @@
 
 ghost use Rattle.std.specs.Prelude.{◌≡◌, ◌++◌, ◌==◌, Bool, OnOk, Some, MatchOption, find, string_bytes};
 ghost use Rattle.std.specs.List.{flat_map, list_any};
-ghost use Rattle.run_report.specs.Unsent.{gap_at, gap_end, gap_line, gap_told, gaps_text, has_cause, is_alike, is_cause, is_message, is_otherwise, is_searched, message_told, message_word, sent_otherwise, told_of_sender};
+ghost use Rattle.run_report.specs.Unsent.{gap_at, gap_end, gap_line, gap_told, gaps_text};
+ghost use Rattle.run_report.specs.Unsent.{has_cause, is_alike, is_cause, is_message, is_otherwise};
+ghost use Rattle.run_report.specs.Unsent.{is_searched, message_told, message_word, sent_otherwise};
+ghost use Rattle.run_report.specs.Unsent.{told_of_sender};
 
 use crate::findings::NodeFinding;
 use std::alloc::AllocError;

@@ -5,8 +5,8 @@
 //! numbers and bytes that fit their places in a message, it leaves and says such ones; and the table of handlers has
 //! 128 places. So the traces of such a job are a run of the world in each order in which they can go, where their
 //! scripts' calls fit too, as each call that can be said does [`calls`]. A job with atomics serves batches [`batches`],
-//! so that the laws of batches hold of every run with its handlers [`atomics`]. A job with an area of collectives serves
-//! these [`collectives`]. It has no code.
+//! so that the laws of batches hold of every run with its handlers [`atomics`]. A job with an area of collectives
+//! serves these [`collectives`]. It has no code.
 #![tactic(auto)]
 
 mod laws;

@@ -184,8 +184,8 @@ collective_form call at node = elim at.collectives [
   | Some it ↦ in_one_try (call_part call at.place node it)
 ]
 
--- a whole collective of the node: the start at each turn until it waits for no lock; then a step and a try to end at each
--- turn until the phase ends
+-- a whole collective of the node: the start at each turn until it waits for no lock; then a step and a try to end at
+-- each turn until the phase ends
 abbrev pub whole_form : Shape → (from dest : ℕ) → StepContext → Node EndpointLocal → Form EndpointLocal
 whole_form shape from dest at node = elim at.collectives [
   | None ↦ nothing_there

@@ -119,8 +119,8 @@ moved_by (Several first later) began ended =
     if is_some (step_part_of first later began).next && is_none ended then began else None
 moved_by form began ended = None
 
--- the answer with which a try of this form began its step, where it began it and didn't end it; or with which an earlier
--- try began it, where this one changed the node's collectives
+-- the answer with which a try of this form began its step, where it began it and didn't end it; or with which an
+-- earlier try began it, where this one changed the node's collectives
 abbrev pub begun_by : Form EndpointLocal
     → (began : Option Answer) → (ended : Option ScriptAnswer) → (answer : Option Answer) → Option Answer
 begun_by form began ended answer =

@@ -41,8 +41,8 @@ impl Trial<'_> {
 }
 
 impl Tried {
-    /// So the try of a step went that runs collectives. `began` is the answer with which the step began, by this try or an
-    /// earlier one.
+    /// So the try of a step went that runs collectives. `began` is the answer with which the step began, by this try or
+    /// an earlier one.
     fn of_part(part: &PartTried, began: Option<Answer>) -> Tried
         ensures { result ≡ of_part part.now began }
     {

@@ -15,7 +15,7 @@ use Rattle.vis_text.specs.VisLines.{vis_rows, words_of, entry_by, vis_entry, wit
 use Rattle.vis_text.specs.VisLines.{vis_text, IsVis}
 use Rattle.vis_text.specs.VisLines.{shape_fault, shape_plan, vis_plan}
 use Rattle.line_forms.specs.Versions.{is_second}
-use Rattle.step_text.specs.CollectiveLines.{collective_at, collective_text, IsCollective}
+use Rattle.step_text.specs.CollectiveLines.{collective_text, IsCollective}
 use Rattle.step_text.specs.ThreadActions.{thread_action_at, other_action_at, thread_action_text}
 use Rattle.step_text.specs.ThreadActions.{IsThreadAction}
 use Rattle.step_text.specs.declared.steps.CollectiveText.{CollectiveText}

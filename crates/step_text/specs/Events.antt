@@ -18,7 +18,8 @@ use Rattle.step_text.specs.declared.steps.ScheduledEvent.TheVariants as event
 use Rattle.step_text.specs.declared.steps.TimedEvent.{TimedEvent}
 
 -- a form of event
-abbrev pub row_of_event : Word → (shape : Shape) → Maker ThreadAction shape ScheduledEvent → Row ThreadAction ScheduledEvent
+abbrev pub row_of_event : Word → (shape : Shape) → Maker ThreadAction shape ScheduledEvent
+    → Row ThreadAction ScheduledEvent
 row_of_event name shape make = record { name = name; shape = shape; make = make }
 
 -- what a thread of a node does
@@ -31,7 +32,8 @@ abbrev pub call_row : (nodes threads : ℕ) → Row ThreadAction ScheduledEvent
 call_row nodes threads = row_of_event (codes "call") (Below nodes ▸ Below threads ▸ Inner) event_of
 
 abbrev pub request_row : (nodes : ℕ) → Row ThreadAction ScheduledEvent
-request_row nodes = row_of_event (codes "request") (Below nodes ▸ Below nodes ▸ Number 1 (2 ^ 64 - 1) ▸ End) event.Request
+request_row nodes =
+    row_of_event (codes "request") (Below nodes ▸ Below nodes ▸ Number 1 (2 ^ 64 - 1) ▸ End) event.Request
 
 abbrev pub reply_row : (nodes : ℕ) → Row ThreadAction ScheduledEvent
 reply_row nodes = row_of_event (codes "reply") (Below nodes ▸ Below nodes ▸ Number 1 (2 ^ 64 - 1) ▸ End) event.Reply

@@ -39,10 +39,12 @@ until_word_row = row_of_step (codes "until-word") (U64 ▸ U64 ▸ End) waiting.
 
 -- blocking transfers (GASNet 1.8.1, extended API: gasnet_put, gasnet_get, gasnet_memset)
 abbrev pub put_row : Row ⊥ WaitingStep
-put_row = row_of_step (codes "put") move_shape (λ to remote local len. waiting.Transfer (transfer.Put to remote local len))
+put_row =
+    row_of_step (codes "put") move_shape (λ to remote local len. waiting.Transfer (transfer.Put to remote local len))
 
 abbrev pub get_row : Row ⊥ WaitingStep
-get_row = row_of_step (codes "get") move_shape (λ to remote local len. waiting.Transfer (transfer.Get to remote local len))
+get_row =
+    row_of_step (codes "get") move_shape (λ to remote local len. waiting.Transfer (transfer.Get to remote local len))
 
 abbrev pub memset_row : Row ⊥ WaitingStep
 memset_row = row_of_step (codes "memset") fill_shape
@@ -77,8 +79,8 @@ wait_implicit_row = row_of_step (codes "wait-nbi") (Implicit ▸ End) waiting.Wa
 abbrev pub barrier_wait_row : Row ⊥ WaitingStep
 barrier_wait_row = row_of_step (codes "barrier-wait") (Integer ▸ U8 ▸ End) waiting.BarrierWait
 
--- a whole collective (this project's profile): the kind, the root, the first byte that the node gives, how many bytes it
--- gives, and where the result goes
+-- a whole collective (this project's profile): the kind, the root, the first byte that the node gives, how many bytes
+-- it gives, and where the result goes
 abbrev pub coll_row : Row ⊥ WaitingStep
 coll_row = row_of_step (codes "coll") (Collective ▸ U16 ▸ U64 ▸ U64 ▸ U64 ▸ End)
     (λ kind root from len dest. waiting.Collective (shape_of kind root len) from dest)
@@ -152,8 +154,8 @@ waiting_entry (waiting.UntilWord offset number) = words until_word_row (offset, 
 waiting_entry (waiting.Collective shape from dest) =
     words coll_row (shape.kind, (shape.root, (from, (shape.len, (dest, tt)))))
 
--- whether such a step may stand in a job: to wait for a word, where the datagrams have the second version; a collective,
--- where the job has an area of collectives
+-- whether such a step may stand in a job: to wait for a word, where the datagrams have the second version; a
+-- collective, where the job has an area of collectives
 abbrev pub waiting_fits : Scope → WaitingStep → Bool
 waiting_fits scope (waiting.UntilWord offset number) = is_second scope
 waiting_fits scope (waiting.Collective shape from dest) = scope.collect

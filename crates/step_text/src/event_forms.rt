@@ -1,13 +1,15 @@
 //! The forms of events: the one place in code that has their names and counts of words.
 
-ghost use Rattle.std.specs.Prelude.{◌≡◌};
+ghost use Rattle.std.specs.Prelude.{◌≡◌, IfSome};
+ghost use Rattle.std.specs.Option.{option_map};
+ghost use Rattle.text_lines.specs.Lines.{front, back};
 ghost use Rattle.line_forms.specs.FormTests.{shape_form};
 ghost use Rattle.step_text.specs.Events.{event_form_row, event_named};
 ghost use Rattle.step_text.specs.ThreadActions.{thread_action_form};
 
 use crate::thread_actions::thread_action_form;
 use line_forms::{HasName, Scope, first_named};
-use text_lines::{skipped, spaced, words_left};
+use text_lines::{behind_name, skipped, spaced, words_left};
 
 /// A form of event, without its words.
 #[derive(Clone, Copy)]
@@ -34,6 +36,31 @@ const EVENT_FORMS: [EventForm; 5] = [
 ];
 
 impl EventForm {
+    /// The form that the first word names, and the bytes after it.
+    ///
+    /// Each line of a schedule asks this. So each name is a constant here, and is compared where the line has it.
+    #[tactic(auto, unfolding(crate::specs::Events::event_named, crate::specs::Events::event_forms))]
+    #[inline(always)]
+    pub fn at_front(bytes: &[u8]) -> Option<(EventForm, &[u8])>
+        ensures form { option_map (λ x. x.0) result ≡ event_named (front bytes.now) }
+        ensures rest { IfSome result (λ x. x.1.now ≡ back bytes.now) }
+    {
+        if let Some(rest) = behind_name(bytes, EventForm::Call.name()) {
+            return Some((EventForm::Call, rest));
+        }
+        if let Some(rest) = behind_name(bytes, EventForm::Request.name()) {
+            return Some((EventForm::Request, rest));
+        }
+        if let Some(rest) = behind_name(bytes, EventForm::Reply.name()) {
+            return Some((EventForm::Reply, rest));
+        }
+        if let Some(rest) = behind_name(bytes, EventForm::Tick.name()) {
+            return Some((EventForm::Tick, rest));
+        }
+        let rest = behind_name(bytes, EventForm::Settle.name())?;
+        Some((EventForm::Settle, rest))
+    }
+
     /// The form of this name.
     #[tactic(auto, unfolding(crate::specs::Events::event_named, crate::specs::Events::event_forms))]
     pub fn named(name: &[u8]) -> Option<EventForm>
@@ -64,6 +91,7 @@ impl HasName for EventForm {
 
     ghost name_of = { λ form. (event_form_row 1 1 form).name };
 
+    #[inline(always)]
     fn name(self) -> &'static [u8] {
         match self {
             EventForm::Call => b"call",

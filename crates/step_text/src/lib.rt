@@ -1,7 +1,7 @@
 //! What handlers and threads do, as lines say it: their values, their forms, and reading them.
 //!
-//! `action_at` reads an action of a handler's body (`Bodies`), `timed_at` a line of a schedule (`Events`), and `step_at` a
-//! step of a script (`Scripts`). No two forms have one text (`BodyLaws`, `EventLaws`, `ScriptLaws`).
+//! `action_at` reads an action of a handler's body (`Bodies`), `timed_at` a line of a schedule (`Events`), and
+//! `step_at` a step of a script (`Scripts`). No two forms have one text (`BodyLaws`, `EventLaws`, `ScriptLaws`).
 #![tactic(auto)]
 
 mod action_forms;

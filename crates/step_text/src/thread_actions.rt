@@ -43,6 +43,7 @@ fn other_action_at<'a>(
 
 /// What a thread does by a line, and the bytes after it.
 #[tactic(auto, unfolding(crate::specs::ThreadActions::thread_action_at))]
+#[inline(always)]
 pub fn thread_action_at<'a>(
     alloc: Global,
     scope: &Scope,

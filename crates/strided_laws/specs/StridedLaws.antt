@@ -1,6 +1,7 @@
 -- The laws of plans: what was transferred where each piece was begun and synchronised, and what a beginning tells.
 -- Origin: this project's profile, over the laws of transfers.
-use Rattle.std.specs.Prelude.{ℕ, zero, suc, ◌≡◌, ◌≢◌, ◌+◌, ◌-◌, ◌<◌, List, [], ◌∷◌, ◌++◌, length, take, drop, Option, Some, slice_get}
+use Rattle.std.specs.Prelude.{ℕ, zero, suc, ◌≡◌, ◌≢◌, ◌+◌, ◌-◌, ◌<◌, List, [], ◌∷◌, ◌++◌, length, take, drop, Option}
+use Rattle.std.specs.Prelude.{Some, slice_get}
 use Rattle.datagram_grammar.specs.Parameters.{Parameters}
 use Rattle.handler_rules.specs.declared.table.Entry.{Entry}
 use Rattle.handler_rules.specs.Runs.{Meaning}
@@ -48,10 +49,12 @@ pub record Synced (job : EndpointJob) (run : List (Timed OtherCall)) (plan : Pla
   pub events : List (Timed OtherCall)
   pub among : AreAmong job events
   pub sync : Timed OtherCall
-  pub synchronises : Synchronises job (state_after job (since job beginning events)) sync beginning.node beginning.number
+  pub synchronises : Synchronises job (state_after job (since job beginning events)) sync
+      beginning.node beginning.number
   pub later : List (Timed OtherCall)
   pub run_is : run
-      ≡ beginning.before ++ called beginning.now beginning.node beginning.thread beginning.call ∷ (events ++ sync ∷ later)
+      ≡ beginning.before
+      ++ called beginning.now beginning.node beginning.thread beginning.call ∷ (events ++ sync ∷ later)
 
 -- each piece of the plan was so
 abbrev pub AllSynced : (job : EndpointJob) → List (Timed OtherCall) → PlanState → (node : ℕ) → Type 0
@@ -190,8 +193,8 @@ copied settings plan (piece ∷ pieces) writes =
 -- where a node begins a plan for itself, and the answer is `Whole`, the pieces are copied in the calls, in their order
 abbrev pub OwnIsCopied : Type 0
 OwnIsCopied =
-    (site : Site) (node : Node EndpointLocal) (asked : BeginCall) → asked.plan.settings ≡ site.settings → IsPlan asked.plan
-    → asked.plan.to ≡ site.node → vis_answer site node asked ≡ vis.Whole
+    (site : Site) (node : Node EndpointLocal) (asked : BeginCall) → asked.plan.settings ≡ site.settings
+    → IsPlan asked.plan → asked.plan.to ≡ site.node → vis_answer site node asked ≡ vis.Whole
     → (node_in_the_end site (node_then site node (on_transfers asked.thread RegionBegin))
     (beginnings asked.plan asked.thread (drop asked.from asked.plan.pieces))).local.core.writes
     ≡ copied site.settings asked.plan (drop asked.from asked.plan.pieces) node.local.core.writes

@@ -75,7 +75,8 @@ KeepsOutside (Some (commands.Drill seed)) course spawning =
     KeepsSource course × KeepsDevices course × IsUnused spawning
 
 -- how what was asked for ended, and what it left as it stood
-pub record EndsAs (asked : Option Command) (course : Course) (spawning : Spawning) (old new : Outbox) (ended : EndedCommand)
+pub record EndsAs (asked : Option Command) (course : Course) (spawning : Spawning) (old new : Outbox)
+    (ended : EndedCommand)
     : Type 0 where
   pub ends : EndsBy (Ends asked course spawning) old new ended
   pub keeps : KeepsOutside asked course spawning

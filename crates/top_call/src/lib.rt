@@ -20,7 +20,8 @@
 //!     drill.
 //!   - `node RANK PORT` (`NodeMeans`): with 0, 1, 6, 9 and 10 the bytes written are the text of the trace of the node's
 //!     journal and the status line, the endpoint that the call returns stands for the journal's replay, and the node's
-//!     threads and devices left what `RunsTo` of `node_call` says: no datagram was sent before the lines of its turn and
+//!     threads and devices left what `RunsTo` of `node_call` says: no datagram was sent before the lines of its turn
+//!     and
 //!     of those before it had gone to the sink. It is 1 exactly where the node noted a violation, 6
 //!     only where the link's count of faults rose, or stands at its last value, 9 and 10 by the cause of that end. 2
 //!     comes also where a job was read that has no node of this rank, or no port for each node; 3 and 4 as above.
@@ -49,7 +50,8 @@
 //!   - Of each: 5 comes only where the sink's count of faults rose, or stands at its last value, and then a prefix of
 //!     the text of one of the command's ends was written (of `node` also of the trace of a journal that ends where
 //!     the sink failed, `LosesSink`); with 8 whole lines of the run were written, or none (of `upgrade` none; of `node`
-//!     none, or its trace without the last line, `LosesMemory`), and then `status 8 no-memory`; with 2, 3, 4, 7, 11 and 12
+//!     none, or its trace without the last line, `LosesMemory`), and then `status 8 no-memory`; with 2, 3, 4, 7, 11 and
+//!     12
 //!     the status line alone.
 //! - **The laws of the run** (`RunLaws` of `world_run`) of the job or the drill, with status 0 or 1, and with 8 where
 //!   lines of the run were written.
@@ -59,7 +61,8 @@
 //!   `launch` has 0, 1, 8, 11 or 12 where it has a port for each node, and the spawner's count didn't rise either. The
 //!   drill has 0 or 8. Where they are the text of a job with outputs, `check` has 0, 1, 8, 11 or 12; it has 0, 1 or 8
 //!   where moreover each of these nodes ended with 0 or 1, and their struck traces are a run (`AreARun`), and so has
-//!   `launch` where the spawner tells such outputs of its children, and told no finish of their ranks before (`TellsRun`).
+//!   `launch` where the spawner tells such outputs of its children, and told no finish of their ranks before
+//!   (`TellsRun`).
 //! - **What a call leaves alone** [`leaves`: `LeavesAlone`]. What is seen of the spawner stands after the call as it
 //!   stood before, unless the words are those of `launch`; so does what is seen of link and clock, unless they are
 //!   those of `node`; and what is seen of the source, where they are those of `drill`, or of no command.
@@ -68,14 +71,15 @@
 //! `ReaderSource` tells as left what its reader tells as remaining, `WriterSink` as taken what its writer tells as its
 //! contents, and both count errors. Standard input and output tell neither.
 //!
-//! `returning_call` is `gasnet` for all words but those of `node`, which it hands back with the outside. Its type has no
-//! `Wait`, so it returns whatever comes, if the calls of the source, the sink and the spawner do; `gasnet` makes that
-//! call first.
+//! `returning_call` is `gasnet` for all words but those of `node`, which it hands back with the outside. Its type has
+//! no `Wait`, so it returns whatever comes, if the calls of the source, the sink and the spawner do; `gasnet` makes
+//! that call first.
 //!
 //! `words_of` [`AreTold`] gives the words of a call: all that the command line told but the first, and none where they
-//! are no text, or memory ran out. What no clause says: that a program asks the system for them and for the two streams.
-//! No clause says that a write of the system reached anything, nor that memory really ran out with status 8. That nothing is
-//! written after a fault of the sink is tested, and shown by the code alone: `flushed` leaves the sink then.
+//! are no text, or memory ran out. What no clause says: that a program asks the system for them and for the two
+//! streams. No clause says that a write of the system reached anything, nor that memory really ran out with status 8.
+//! That nothing is written after a fault of the sink is tested, and shown by the code alone: `flushed` leaves the sink
+//! then.
 #![tactic(auto)]
 
 mod check;

@@ -17,6 +17,7 @@ use gas_world::World;
 use launch_run::Notes;
 use station_run::NodeAddress;
 use std::alloc::Global;
+use std::mem::forget;
 use std::sync::Wait;
 use std::thread::Threads;
 
@@ -35,12 +36,13 @@ pub struct Status {
 }
 
 impl Status {
-    /// The exit status alone; the world and the nodes are dropped.
+    /// The exit status alone, for a program that ends with it. The world and the nodes keep their memory, which the
+    /// system takes back as the program ends.
     pub fn into_code(self) -> u8
         ensures { result ≡ self.code }
     {
         let code = self.code;
-        drop(self);
+        forget(self);
         code
     }
 }
@@ -173,10 +175,10 @@ pub fn returning_call<S: Source, K: Sink, L: Link, P: Spawner, C: Clock, G, N: N
 /// The word `world` alone reads a job and runs it; `upgrade` alone reads a job and writes the same job with datagrams
 /// of version 2; `drill SEED` runs the drill of that number, and reads nothing; `node RANK PORT` reads a job, runs the
 /// scripts of its node RANK in threads over the outside's link, bound to that place, and writes the trace of what they
-/// did as it grows; `check` alone reads a job and behind it what each of its nodes wrote, and writes the lines of the run
-/// that their traces are; `launch PORT` reads a job, starts a child for each of its nodes by the outside's spawner, with
-/// the bytes that it read, finishes them, and goes on with what they gave as `check` does. The last line written is
-/// `status CODE NAME`, but with code 5, and with 0 of `upgrade`:
+/// did as it grows; `check` alone reads a job and behind it what each of its nodes wrote, and writes the lines of the
+/// run that their traces are; `launch PORT` reads a job, starts a child for each of its nodes by the outside's spawner,
+/// with the bytes that it read, finishes them, and goes on with what they gave as `check` does. The last line written
+/// is `status CODE NAME`, but with code 5, and with 0 of `upgrade`:
 ///
 /// - 0 `ok`: the job, the drill or the traces were run, the lines of that run were written before, and no node noted a
 ///   violation; or the text of the job was written; or the node's scripts came to their ends, and it was quiet for as

@@ -15,6 +15,7 @@ use gas_outside::{BufferedSink, Sink, Source};
 use job_text::Job;
 use node_script::Script;
 use std::alloc::{AllocError, Global};
+use std::mem::forget;
 
 /// Runs a job that was read, and says its lines.
 fn run_read<K: Sink>(alloc: Global, job: Job, sink: &mut BufferedSink<K>) -> EndedCommand
@@ -25,6 +26,8 @@ fn run_read<K: Sink>(alloc: Global, job: Job, sink: &mut BufferedSink<K>) -> End
     match Script::new(alloc, job) {
         Ok(script) => {
             let run = run_job(alloc, &script, sink);
+            // The process ends next, and the system takes all of its memory back at once.
+            forget(script);
             say_run(sink, run)
         }
         Err(AllocError) => say(sink, CommandEnd::NoMemory, Given::nothing()),

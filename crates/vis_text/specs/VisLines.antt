@@ -1,6 +1,7 @@
 -- The forms of lines that begin transfers of many pieces.
 -- Origin: this project's profile, over the implicit transfers of GASNet 1.8.1, extended API.
-use Rattle.std.specs.Prelude.{◌≡◌, ℕ, List, [], ◌∷◌, Option, Some, None, Bool, false, ◌&&◌, nat_le, is_none, if◌then◌else◌, length, codes}
+use Rattle.std.specs.Prelude.{◌≡◌, ℕ, List, [], ◌∷◌, Option, Some, None, Bool, false, ◌&&◌, nat_le, is_none}
+use Rattle.std.specs.Prelude.{if◌then◌else◌, length, codes}
 use Rattle.datagram_grammar.specs.Parameters.{Parameters}
 use Rattle.gas_strided.specs.declared.shapes.Indexed.{Indexed}
 use Rattle.gas_strided.specs.declared.shapes.Level.{Level}

@@ -1,7 +1,7 @@
 //! Transfers of many pieces as lines say them: their values, their forms, and reading them.
 //!
-//! `vis_at` reads a strided or an indexed transfer and makes its plan, and `vis_form` tells whether a line has the words of
-//! one (`VisLines`).
+//! `vis_at` reads a strided or an indexed transfer and makes its plan, and `vis_form` tells whether a line has the
+//! words of one (`VisLines`).
 #![tactic(auto)]
 
 mod vis;

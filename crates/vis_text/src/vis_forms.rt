@@ -1,4 +1,5 @@
-//! The forms of lines that begin transfers of many pieces: the one place in code that has their names and counts of words.
+//! The forms of lines that begin transfers of many pieces: the one place in code that has their names and counts of
+//! words.
 
 ghost use Rattle.std.specs.Prelude.{◌≡◌, false};
 ghost use Rattle.line_forms.specs.Forms.{Number, part_at};

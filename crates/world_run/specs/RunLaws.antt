@@ -143,10 +143,10 @@ ResultsHold j =
 -- its events are among the nodes of the job; the headline holds of it; its lines tell the answers of its events, in
 -- their order, so that no line tells again that a request ran or came back; the most that the end lines tell of a node
 -- is the greatest number of message buffers that it held; and in it, as in each run of a job with its settings and
--- handlers, what a synchronisation of transfers that answers Ok tells was done, each pair of bytes of a plan whose pieces
--- were synchronised was transferred exactly once, a try of the barrier that ends a phase tells the outcome of the nodes'
--- notifies, where the job has atomics, batches of operations act at one moment, in one history, and where it has
--- collectives, a line that is told that it ended one tells that the node has its result
+-- handlers, what a synchronisation of transfers that answers Ok tells was done, each pair of bytes of a plan whose
+-- pieces were synchronised was transferred exactly once, a try of the barrier that ends a phase tells the outcome of
+-- the nodes' notifies, where the job has atomics, batches of operations act at one moment, in one history, and where it
+-- has collectives, a line that is told that it ended one tells that the node has its result
 pub record RunLaws (job : JobState) : Type 0 where
   pub among : AllByRecursion (λ (timed : Timed OtherCall). IsAmong job.settings timed.event) (run_events job)
   pub headline : Headline (world_job job) (λ node. nothing_begun job.settings) (run_events job)

@@ -181,7 +181,8 @@ abbrev pub RunsLines : WorldJob → List TimedEvent → (old new : NodesStage) �
 RunsLines job lines old new said =
     ForItsGroups old.nodes (λ area group most.
     SaysLines old.out new.out (answer_lines job 1 lines (nodes_of area group)) said
-    × OnDone said (StandsAfter job new.nodes.world (schedule_events job lines (nodes_of area group)) group.records most))
+    × OnDone said (StandsAfter job new.nodes.world
+    (schedule_events job lines (nodes_of area group)) group.records most))
 
 -- ---- what is written
 

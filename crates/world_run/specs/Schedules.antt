@@ -3,7 +3,8 @@ use Rattle.std.specs.Prelude.{ℕ, List, [], ◌∷◌, ◌++◌, map, Option, S
 use Rattle.plain_world.specs.World.{RequestComes, ReplyComes, Ticks, Timed, run}
 use Rattle.endpoint_rules.specs.EndpointRules.{OtherCall, Records, RecordsEvent, timed, job_of}
 use Rattle.collective_area.specs.Area.{Area}
-use Rattle.collective_laws.specs.Groups.{Group, GroupEvent, Start, Step, End, does_end, does_start, does_step, group_does}
+use Rattle.collective_laws.specs.Groups.{Group, GroupEvent, Start, Step, End, does_end, does_start, does_step}
+use Rattle.collective_laws.specs.Groups.{group_does}
 use Rattle.collective_laws.specs.Groups.{opening_group}
 use Rattle.collective_group.specs.CallsOf.{calls_of}
 use Rattle.endpoint_rules.specs.Called.{event_at}
@@ -39,8 +40,8 @@ call_event world node thread call = event_at node thread (meant_by (world node).
 
 -- ---- transfers of many pieces
 
--- what the line asks of its thread: to begin the pieces of the plan from this one on, in a region whose handle goes into
--- the register
+-- what the line asks of its thread: to begin the pieces of the plan from this one on, in a region whose handle goes
+-- into the register
 abbrev pub begin_asked : (thread : ℕ) → VisText → BeginCall
 begin_asked thread vis =
     record { plan = vis.plan; thread = thread; from = vis.words.from; register = vis.words.register }

@@ -1,8 +1,8 @@
 //! The run of a job in a world of endpoints, and the text of it.
 //!
-//! `run_job` runs the lines of a schedule in order, each as one event, as the calls that begin a transfer of many pieces
-//! or that a call of collectives makes, or as rounds of events, and writes the answer of each; then the lines of each
-//! node. `run_lines` (`specs/RunText.antt`) is that text, line by line, as the run of the records has it.
+//! `run_job` runs the lines of a schedule in order, each as one event, as the calls that begin a transfer of many
+//! pieces or that a call of collectives makes, or as rounds of events, and writes the answer of each; then the lines of
+//! each node. `run_lines` (`specs/RunText.antt`) is that text, line by line, as the run of the records has it.
 //!
 //! - **What a line gives** (`line_at`): the event, the transfer, the call of collectives or the rounds of a line of the
 //!   schedule (`IsLine`), with each `cN` read from its node's cells in the world; none exactly where there is no such
@@ -26,8 +26,8 @@
 //!     (`StridedHolds`), and a try of the barrier that ends a phase tells the outcome of the nodes' notifies
 //!     (`BarrierHolds`);
 //!   - where the job has atomics, each batch of operations acts at most once, at one moment, in the one history of its
-//!     words (`AtomicsHold`);
-//!   - where it has collectives, a line that is told that it ended one tells that all nodes have started that phase with
+//!     words (`AtomicsHold`); - where it has collectives, a line that is told that it ended one tells that all nodes
+//!     have started that phase with
 //!     one shape, and that the node has its result (`ResultsHold`).
 //!
 //! The crate uses the public clauses of the world alone, and knows nothing of buffers and slots. What a sink took is

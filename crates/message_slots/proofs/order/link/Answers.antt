@@ -1,83 +1,54 @@
-use Rattle.std.proofs.Common.{◌≡◌, Some, true, length}
-use Rattle.std.proofs.Common.{sym, ◌∙◌, refl, arith, length-set}
-use Rattle.std.specs.Prelude.{slice_get, slice_set}
-use Rattle.lists.proofs.Indexes.{read-at}
+use Rattle.std.proofs.Common.{true, refl, subst, arith}
+use Rattle.message_slots.specs.Ring.{IsOn}
+use Rattle.message_slots.specs.Order.{head_of, listed_at}
 use Rattle.message_slots.specs.declared.order.DueEntry.{DueEntry}
-use Rattle.message_slots.proofs.Entries.{on-inside, next-inside, linked, read-next}
+use Rattle.message_slots.proofs.Entries.{on-listed, on-kept, next-low, linked-by}
 use Rattle.message_slots.proofs.order.link.Goals as goal
 
-pub index_mut-requires-3 : goal.index_mut-requires-3
-index_mut-requires-3 c =
-    let entries = c.args.entries.now.items in
-    let at = c.args.at in
-    let on = c.requires.spot.on in
-    let found = c.index.result.now in
-    let here : slice_get entries at ≡ Some found =
-    read-at entries at found (on-inside entries at c.requires.order on) c.index.ensures in
-    omega (arith, next-inside entries at found c.requires.order on here, c.args.entries.now.ok.0)
+pub overflow_cast-entry-2 : goal.overflow_cast-entry-2
+overflow_cast-entry-2 c =
+    let low =
+    next-low c.args.entries.now c.args.at c.args.next c.requires.order c.requires.spot.on c.requires.next in
+    record { fits = omega (arith, low, c.requires.order.small) }
+
+pub set_next-requires : goal.set_next-requires
+set_next-requires c =
+    on-listed c.args.entries.now c.set.new.self c.args.place _ c.args.at (omega (arith, c.requires.inside)) refl
+    c.set.ensures c.requires.spot.on
+
+pub set_previous-requires : goal.set_previous-requires
+set_previous-requires c =
+    let entries = c.args.entries.now in
+    on-kept c.set.new.self c.set_next.new.self c.args.at _ c.args.next (λ _. refl) c.set_next.ensures
+    (on-listed entries c.set.new.self c.args.place _ c.args.next (omega (arith, c.requires.inside)) refl
+    c.set.ensures
+    (subst (IsOn (head_of entries) (listed_at entries)) c.requires.next
+    (c.requires.order.ring.next_on c.args.at c.requires.spot.on)))
 
 pub returns-clause-order : goal.returns-clause-order
 returns-clause-order c =
-    let entries = c.args.entries.now.items in
-    let place = c.args.place in
-    let at = c.args.at in
-    let order = c.requires.order in
-    let on = c.requires.spot.on in
-    let found = c.index.result.now in
-    let here : slice_get entries at ≡ Some found =
-    read-at entries at found (on-inside entries at order on) c.index.ensures in
-    let second_read = c.index_mut-2.result.now in
-    let third_read = c.index_mut-3.result.now in
     let entry : DueEntry = record {
       time = c.args.due.time;
       node = c.args.due.node;
       slot = c.args.due.slot;
-      previous = at;
-      next = found.next;
+      previous = c.args.at;
+      next = c.args.next;
       listed = true;
     } in
-    let first_written = slice_set entries place entry in
-    let second_written = slice_set first_written at (record second_read { next = place }) in
-    let long₁ : length first_written ≡ length entries = length-set entries place entry in
-    let long₂ : length second_written ≡ length entries =
-    length-set first_written at (record second_read { next = place }) ∙ long₁ in
-    let done = linked entries place at found.next entry second_read third_read first_written second_written order
-    c.requires.inside c.requires.unlisted c.requires.spot (sym (read-next entries at found here)) refl refl refl refl
-    (read-at first_written at second_read
-    (omega (arith, on-inside entries at order on, long₁)) c.index_mut-2.ensures.value) refl
-    (read-at second_written found.next third_read
-    (omega (arith, next-inside entries at found order on here, long₂)) c.index_mut-3.ensures.value) in
-    done.0
+    (linked-by c.args.entries.now c.args.place c.args.at c.args.next entry c.set.new.self c.set_next.new.self
+    c.set_previous.new.self c.requires.order c.requires.inside c.requires.unlisted c.requires.spot c.requires.next refl
+    refl refl c.set.ensures c.set_next.ensures c.set_previous.ensures).0
 
 pub returns-clause-listed : goal.returns-clause-listed
 returns-clause-listed c =
-    let entries = c.args.entries.now.items in
-    let place = c.args.place in
-    let at = c.args.at in
-    let order = c.requires.order in
-    let on = c.requires.spot.on in
-    let found = c.index.result.now in
-    let here : slice_get entries at ≡ Some found =
-    read-at entries at found (on-inside entries at order on) c.index.ensures in
-    let second_read = c.index_mut-2.result.now in
-    let third_read = c.index_mut-3.result.now in
     let entry : DueEntry = record {
       time = c.args.due.time;
       node = c.args.due.node;
       slot = c.args.due.slot;
-      previous = at;
-      next = found.next;
+      previous = c.args.at;
+      next = c.args.next;
       listed = true;
     } in
-    let first_written = slice_set entries place entry in
-    let second_written = slice_set first_written at (record second_read { next = place }) in
-    let long₁ : length first_written ≡ length entries = length-set entries place entry in
-    let long₂ : length second_written ≡ length entries =
-    length-set first_written at (record second_read { next = place }) ∙ long₁ in
-    let done = linked entries place at found.next entry second_read third_read first_written second_written order
-    c.requires.inside c.requires.unlisted c.requires.spot (sym (read-next entries at found here)) refl refl refl refl
-    (read-at first_written at second_read
-    (omega (arith, on-inside entries at order on, long₁)) c.index_mut-2.ensures.value) refl
-    (read-at second_written found.next third_read
-    (omega (arith, next-inside entries at found order on here, long₂)) c.index_mut-3.ensures.value) in
-    done.1
+    (linked-by c.args.entries.now c.args.place c.args.at c.args.next entry c.set.new.self c.set_next.new.self
+    c.set_previous.new.self c.requires.order c.requires.inside c.requires.unlisted c.requires.spot c.requires.next refl
+    refl refl c.set.ensures c.set_next.ensures c.set_previous.ensures).1

@@ -1,10 +1,13 @@
-use Rattle.std.proofs.Common.{◌+◌}
+use Rattle.std.proofs.Common.{refl}
 use Rattle.std.proofs.Common.{ap, ◌∙◌}
 use Rattle.std.specs.Prelude.{map}
 use Rattle.message_slots.specs.Order.{due_view}
-use Rattle.message_slots.proofs.Entries.{view-new}
+use Rattle.message_slots.proofs.Entries.{view-new, order-new}
 use Rattle.message_slots.proofs.order.Order.new.Goals as goal
 
 pub returns : goal.returns
 returns c =
-    ap (map due_view) (c.in_ok-vec.ensures.items_if_clones_equal (λ y entry. entry)) ∙ view-new _ (c.args.places + 1)
+    ap (map due_view) c.in_ok-new.ensures ∙ view-new _ c.args.places refl
+
+pub invariant_of-result : goal.invariant_of-result
+invariant_of-result c = rw c.in_ok-new.ensures (order-new _ c.args.places c.requires refl refl refl)

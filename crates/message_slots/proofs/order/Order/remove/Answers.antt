@@ -7,5 +7,5 @@ use Rattle.message_slots.proofs.order.Order.remove.Goals as goal
 
 pub unlink-requires-clause-listed : goal.unlink-requires-clause-listed
 unlink-requires-clause-listed c =
-    (listed-view c.self.inside.entries.items _ c.args.due
+    (listed-view c.self.inside.entries _ c.args.due
     (ap (λ (dues : List (Option Due)). slice_get dues c.args.place) c.self.view_is ∙ c.requires)).0

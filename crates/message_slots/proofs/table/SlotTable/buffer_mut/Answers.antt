@@ -12,7 +12,7 @@ pub invariant_of-self-lent : goal.invariant_of-self-lent
 invariant_of-self-lent c =
     λ written. (
       c.self.invariant.0,
-      buffered-lent c.self.inside.contents.items c.self.inside.block c.place_in-place.result written c.self.invariant.1,
+      buffered-lent c.self.inside.contents c.self.inside.block c.place_in-place.result written c.self.invariant.1,
     )
 
 pub returns : goal.returns
@@ -27,7 +27,7 @@ returns c =
     let same : c.part_mut.result.now ≡ found.buffer = same_Some _ _ (sym at ∙ found.there) in (
       (
         refl,
-        λ written. view-lent fields.peers.items fields.contents.items fields.block c.args.self.now to slot
+        λ written. view-lent fields.peers.items fields.contents fields.block c.args.self.now to slot
             c.place_in-place.result there.0 found written c.self.view_is c.place_in-place.ensures.place
             c.requires.opened,
       ),

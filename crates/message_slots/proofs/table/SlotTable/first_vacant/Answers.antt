@@ -17,10 +17,10 @@ returns-then-vacant-eq0 c =
     let place = c.index.result.now in
     let at : slice_get fields.peers.items to ≡ Some place =
     read-at fields.peers.items to place
-    (peers-inside fields.peers.items fields.contents.items fields.block c.args.self.now to c.self.view_is
+    (peers-inside fields.peers.items fields.contents fields.block c.args.self.now to c.self.view_is
     c.requires) c.index.ensures in
     let mask : place.vacant ≡ mask_l (map is_vacant (slots_of c.args.self.now to)) =
-    mask-is fields.peers.items fields.contents.items fields.block fields.held to place c.self.invariant.0 at
+    mask-is fields.peers.items fields.contents fields.block fields.held to place c.self.invariant.0 at
     ∙ ap (λ (table : TableState). mask_l (map is_vacant (slots_of table to))) c.self.view_is in
     sym (first-none is_vacant (slots_of c.args.self.now to) (omega (arith, mask, c.if-vacant-eq0.true)))
 
@@ -31,14 +31,14 @@ returns-else-vacant-eq0 c =
     let place = c.index.result.now in
     let at : slice_get fields.peers.items to ≡ Some place =
     read-at fields.peers.items to place
-    (peers-inside fields.peers.items fields.contents.items fields.block c.args.self.now to c.self.view_is
+    (peers-inside fields.peers.items fields.contents fields.block c.args.self.now to c.self.view_is
     c.requires) c.index.ensures in
     let mask : place.vacant ≡ mask_l (map is_vacant (slots_of c.args.self.now to)) =
-    mask-is fields.peers.items fields.contents.items fields.block fields.held to place c.self.invariant.0 at
+    mask-is fields.peers.items fields.contents fields.block fields.held to place c.self.invariant.0 at
     ∙ ap (λ (table : TableState). mask_l (map is_vacant (slots_of table to))) c.self.view_is in
     let short : length (slots_of c.args.self.now to) ≤ 32 =
     subst (λ (table : TableState). length (slots_of table to) ≤ 32) c.self.view_is
-    (slots-short fields.peers.items fields.contents.items fields.block fields.held to place c.self.invariant.0 at)
+    (slots-short fields.peers.items fields.contents fields.block fields.held to place c.self.invariant.0 at)
     in
     sym (first-some is_vacant (slots_of c.args.self.now to) (omega (arith, mask, c.if-vacant-eq0.false)) short
     ∙ ap (λ (number : ℕ). Some (count_trailing_zeros 32 number)) (sym mask))

@@ -18,9 +18,9 @@ returns c =
     let place = c.index.result.now in
     let at : slice_get fields.peers.items to ≡ Some place =
     read-at fields.peers.items to place
-    (peers-inside fields.peers.items fields.contents.items fields.block c.args.self.now to c.self.view_is
+    (peers-inside fields.peers.items fields.contents fields.block c.args.self.now to c.self.view_is
     c.requires) c.index.ensures in
     let mask : place.vacant ≡ mask_l (map is_vacant (slots_of c.args.self.now to)) =
-    mask-is fields.peers.items fields.contents.items fields.block fields.held to place c.self.invariant.0 at
+    mask-is fields.peers.items fields.contents fields.block fields.held to place c.self.invariant.0 at
     ∙ ap (λ (table : TableState). mask_l (map is_vacant (slots_of table to))) c.self.view_is in
     ap ones mask ∙ ones-mask_l is_vacant (slots_of c.args.self.now to)

@@ -15,7 +15,7 @@ pub slice_bounds-result-end : goal.slice_bounds-result-end
 slice_bounds-result-end c =
     let found =
     here c.args.to c.args.slot c.place_in-place.result c.self.invariant.0 c.self.invariant.1 c.self.view_is
-    c.requires c.place_in-place.ensures.place c.index.ensures in
+    c.requires c.place_in-place.ensures.place c.get.ensures in
     let fits : c.in-Message.len ≤ 8296 = subst FitsBuffer c.in-Message.is found.fits in
     sym (length-take-le c.in-Message.len c.part.result.now (omega (arith, fits, c.part.ensures.len)))
 
@@ -24,7 +24,7 @@ returns-in-Message c =
     let fields = c.self.inside in
     let found =
     here c.args.to c.args.slot c.place_in-place.result c.self.invariant.0 c.self.invariant.1 c.self.view_is
-    c.requires c.place_in-place.ensures.place c.index.ensures in
+    c.requires c.place_in-place.ensures.place c.get.ensures in
     let at : slice_get fields.block
     (start_of (peer_counts fields.peers.items) c.args.to + c.args.slot) ≡ Some c.part.result.now =
     ap (slice_get fields.block) (sym c.place_in-place.ensures.place) ∙ c.part.ensures.value in
@@ -37,6 +37,6 @@ pub returns-in_default : goal.returns-in_default
 returns-in_default c =
     let found =
     here c.args.to c.args.slot c.place_in-place.result c.self.invariant.0 c.self.invariant.1 c.self.view_is
-    c.requires c.place_in-place.ensures.place c.index.ensures in
+    c.requires c.place_in-place.ensures.place c.get.ensures in
     sym (ap (option_and_then message_of) found.is
-    ∙ (not-message c.index.result.now found.buffer 0 c.in_default.not-Message).0)
+    ∙ (not-message c.get.result found.buffer 0 c.in_default.not-Message).0)

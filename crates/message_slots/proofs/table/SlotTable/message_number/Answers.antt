@@ -12,7 +12,7 @@ pub returns-in-Message : goal.returns-in-Message
 returns-in-Message c =
     let found =
     here c.args.to c.args.slot c.place_in.result c.self.invariant.0 c.self.invariant.1 c.self.view_is c.requires
-    c.place_in.ensures.place c.index.ensures in
+    c.place_in.ensures.place c.get.ensures in
     sym (ap (option_and_then message_number) found.is
     ∙ ap (λ (x : Contents). message_number (slot_view x found.buffer)) c.in-Message.is)
 
@@ -20,6 +20,6 @@ pub returns-in_default : goal.returns-in_default
 returns-in_default c =
     let found =
     here c.args.to c.args.slot c.place_in.result c.self.invariant.0 c.self.invariant.1 c.self.view_is c.requires
-    c.place_in.ensures.place c.index.ensures in
+    c.place_in.ensures.place c.get.ensures in
     sym (ap (option_and_then message_number) found.is
-    ∙ (not-message c.index.result.now found.buffer 0 c.in_default.not-Message).2)
+    ∙ (not-message c.get.result found.buffer 0 c.in_default.not-Message).2)

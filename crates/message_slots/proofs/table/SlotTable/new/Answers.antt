@@ -33,8 +33,8 @@ loop-node-preserved c =
     (narrow-count credits c.args.me c.loop-node.node
     (get_or credits c.loop-node.node 0) c.requires.narrow at) refl c.count_for-count.ensures c.low_ones.ensures)
 
-pub new-requires : goal.new-requires
-new-requires c =
+pub new-requires-2 : goal.new-requires-2
+new-requires-2 c =
     omega (
       arith,
       c.loop-node.invariant.next,
@@ -46,11 +46,11 @@ pub invariant_of-result : goal.invariant_of-result
 invariant_of-result c =
     let all : c.loop-node.node ≡ length c.args.credits.now =
     omega (arith, c.loop-node-test.false, c.loop-node.auto.node-end) in
-    let are = c.in_ok-vec.ensures.items_if_clones_equal (λ y same. same) in (
+    let are = c.in_ok-new.ensures in (
       made-counted c.args.credits.now c.args.me c.loop-node.node c.loop-node.first c.loop-node.peers.items
-          c.in_ok-vec.field-0.items c.loop-node.invariant all
+          c.in_ok-new.field-0 c.loop-node.invariant all
           (total-small c.args.credits.now c.args.me c.requires.few c.requires.narrow) are,
-      made-buffered c.loop-node.first c.in_ok-vec.field-0.items c.in_ok-new.field-0 _ are c.in_ok-new.ensures.zeros
+      made-buffered c.loop-node.first c.in_ok-new.field-0 c.in_ok-new-2.field-0 _ are c.in_ok-new-2.ensures.zeros
           (length-replicate {A = ℕ} 8296 0),
     )
 
@@ -59,8 +59,8 @@ returns c =
     let all : c.loop-node.node ≡ length c.args.credits.now =
     omega (arith, c.loop-node-test.false, c.loop-node.auto.node-end) in
     made-view c.args.credits.now c.args.me c.loop-node.node c.loop-node.first c.loop-node.peers.items
-    c.in_ok-vec.field-0.items c.in_ok-new.field-0 c.loop-node.invariant all
-    (c.in_ok-vec.ensures.items_if_clones_equal (λ y same. same))
+    c.in_ok-new.field-0 c.in_ok-new-2.field-0 c.loop-node.invariant all
+    c.in_ok-new.ensures
 
 pub low_ones-requires : goal.low_ones-requires
 low_ones-requires c =

@@ -11,7 +11,7 @@ pub returns-in-Nothing : goal.returns-in-Nothing
 returns-in-Nothing c =
     let found =
     here c.args.to c.args.slot c.place_in.result c.self.invariant.0 c.self.invariant.1 c.self.view_is c.requires
-    c.place_in.ensures.place c.index.ensures in
+    c.place_in.ensures.place c.get.ensures in
     sym (ap (option_and_then number_of) found.is
     ∙ ap (λ (x : Contents). number_of (slot_view x found.buffer)) c.in-Nothing.is)
 
@@ -19,7 +19,7 @@ pub returns-in-Draft : goal.returns-in-Draft
 returns-in-Draft c =
     let found =
     here c.args.to c.args.slot c.place_in.result c.self.invariant.0 c.self.invariant.1 c.self.view_is c.requires
-    c.place_in.ensures.place c.index.ensures in
+    c.place_in.ensures.place c.get.ensures in
     sym (ap (option_and_then number_of) found.is
     ∙ ap (λ (x : Contents). number_of (slot_view x found.buffer)) c.in-Draft.is)
 
@@ -27,6 +27,6 @@ pub returns-in-Message : goal.returns-in-Message
 returns-in-Message c =
     let found =
     here c.args.to c.args.slot c.place_in.result c.self.invariant.0 c.self.invariant.1 c.self.view_is c.requires
-    c.place_in.ensures.place c.index.ensures in
+    c.place_in.ensures.place c.get.ensures in
     sym (ap (option_and_then number_of) found.is
     ∙ ap (λ (x : Contents). number_of (slot_view x found.buffer)) c.in-Message.is)

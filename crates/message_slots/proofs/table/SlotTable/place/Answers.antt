@@ -11,6 +11,6 @@ returns-clause-inside c =
       arith,
       c.place_in.ensures.inside,
       c.self.invariant.0.whole,
-      length-views fields.contents.items fields.block,
+      length-views fields.contents fields.block,
       ap (λ (table : TableState). length table.slots) c.self.view_is,
     )

@@ -7,10 +7,9 @@ use Rattle.message_slots.proofs.table.SlotTable.slots.Goals as goal
 pub returns-clause-count : goal.returns-clause-count
 returns-clause-count c =
     c.len.ensures
-    ∙ (c.self.inside.contents.ok.0
-    ∙ (sym (length-views c.self.inside.contents.items c.self.inside.block)
-    ∙ ap (λ (table : TableState). length table.slots) c.self.view_is))
+    ∙ (sym (length-views c.self.inside.contents c.self.inside.block)
+    ∙ ap (λ (table : TableState). length table.slots) c.self.view_is)
 
 pub returns-clause-small : goal.returns-clause-small
 returns-clause-small c =
-    omega (arith, c.len.ensures, c.self.inside.contents.ok.0, c.self.invariant.0.laid.small, c.self.invariant.0.whole)
+    omega (arith, c.len.ensures, c.self.invariant.0.laid.small, c.self.invariant.0.whole)

@@ -1,0 +1,101 @@
+/* How a node of several threads ends (GASNET_PAR): the first argument says in which way. */
+#define GASNET_PAR 1
+#include <pthread.h>
+#include <signal.h>
+#include <sys/time.h>
+#include <time.h>
+#include <unistd.h>
+
+#include "check.h"
+
+enum { EXIT = 128, LOCK = 129, SOON = 100000, SETTLED = 100, LATER = 3500 }; /* one in microseconds, two in milliseconds */
+
+static gasnet_hsl_t lock = GASNET_HSL_INITIALIZER;
+
+static void exit_handler(gasnet_token_t token) {
+    (void)token;
+    gasnet_exit(0);
+}
+
+static void lock_handler(gasnet_token_t token) {
+    (void)token;
+    gasnet_hsl_lock(&lock);
+    gasnet_hsl_unlock(&lock);
+}
+
+static void *exit_here(void *nothing) {
+    gasnet_exit(0);
+    return nothing;
+}
+
+/* A request to the node itself, whose handler runs in the call. */
+static void *ask(void *handler) {
+    GASNET_SAFE(gasnet_AMRequestShort0(me, (gasnet_handler_t)(uintptr_t)handler));
+    return NULL;
+}
+
+static void begin(void *(*work)(void *), int handler) {
+    pthread_t thread;
+    CHECK(!pthread_create(&thread, NULL, work, (void *)(uintptr_t)handler));
+    usleep(SOON);
+}
+
+static int64_t now(void) {
+    struct timespec time;
+    clock_gettime(CLOCK_MONOTONIC, &time);
+    return (int64_t)time.tv_sec * 1000 + time.tv_nsec / 1000000;
+}
+
+static void serve(int milliseconds) {
+    for (int64_t begun = now(); now() - begun < milliseconds;) {
+        gasnet_AMPoll();
+        usleep(1000);
+    }
+}
+
+static void alarmed(int signal) {
+    (void)signal;
+    gasnet_exit(0);
+}
+
+/* The signal comes anywhere in a poll, also as it takes or gives away its turn. */
+static _Noreturn void poll_until_signal(int microseconds) {
+    const struct itimerval once = { .it_value.tv_usec = microseconds };
+    signal(SIGALRM, alarmed);
+    setitimer(ITIMER_REAL, &once, NULL);
+    for (;;)
+        gasnet_AMPoll();
+}
+
+int main(int argc, char **argv) {
+    gasnet_handlerentry_t table[] = { { EXIT, exit_handler }, { LOCK, lock_handler } };
+    const char *way = argc > 1 ? argv[1] : "";
+    unsigned char byte = 1;
+    start(&argc, &argv, table, 2, GASNET_PAGESIZE);
+    if (!strcmp(way, "signal"))
+        poll_until_signal(atoi(argv[2]));
+    barrier();
+    serve(SETTLED); /* what the others lack of the barrier goes again */
+    if (me) { /* the others go on longer than it takes to find a peer gone, and then end too */
+        serve(!strcmp(way, "two") ? LATER : 5 * SETTLED);
+        gasnet_exit(0);
+    }
+    if (!strcmp(way, "two")) { /* threads that call gasnet_exit */
+        begin(exit_here, 0);
+        gasnet_exit(0);
+    }
+    if (!strcmp(way, "return")) { /* one of them returns from main */
+        begin(exit_here, 0);
+        return 0;
+    }
+    if (!strcmp(way, "handler")) { /* another thread's call comes while a handler ends the job */
+        begin(ask, EXIT);
+        gasnet_put(0, at(0, 0), &byte, 1);
+    }
+    if (!strcmp(way, "lock")) { /* a handler waits for a lock of the thread that ends the job */
+        gasnet_hsl_lock(&lock);
+        begin(ask, LOCK);
+        gasnet_exit(3);
+    }
+    CHECK(false);
+}
