@@ -29,13 +29,21 @@ static bool all_know(const struct gasnetl_job *job) {
     return true;
 }
 
+/* Whether each peer knows that this node ended, or its own process is gone. */
+static bool all_heard(const struct gasnetl_job *job) {
+    for (uint16_t node = 0; node < job->nodes; node++)
+        if (node != job->me && !job->control.knows_we_left[node] && !job->network.is_refused[node])
+            return false;
+    return true;
+}
+
 /* Tells the peers of the end, and serves them, until the time is over, or all that is asked of them came. */
 static bool linger(struct gasnetl_job *job, bool forced, uint64_t time) {
     uint64_t begun = gasnetl_clock(), told = 0, heard = begun;
     for (;;) {
         uint64_t now = gasnetl_clock();
         bool left = all(job, job->control.has_left);
-        if (forced ? all_know(job) : left && (all(job, job->control.knows_we_left) || now - heard > QUIET))
+        if (forced ? all_know(job) : left && (all_heard(job) || now - heard > QUIET))
             return true;
         if (now - begun > time)
             return false;
