@@ -90,7 +90,7 @@ def differing(want, came):
     return None
 
 
-def text_lines(text):
+def base_text(text):
     return text.decode(errors="backslashreplace").split("\n")
 
 
@@ -102,7 +102,7 @@ def judge(program, case, want):
         return Judged(case.place, case.name, f"no end in {SECONDS} s")
     except OSError as error:
         return Judged(case.place, case.name, f"not run: {error}")
-    wrong = differing(want.told, came.told) or differing(text_lines(want.text), text_lines(came.text))
+    wrong = differing(want.told, came.told) or differing(base_text(want.text), base_text(came.text))
     if came.status != want.status:
         wrong = f"status {came.status}, wanted {want.status}" + (f"; {wrong}" if wrong else "")
     return Judged(case.place, case.name, wrong)

@@ -8,23 +8,23 @@ TOP = Path(__file__).resolve().parent.parent.parent
 LEFT, RIGHT, WIDTH, HEAD, STEP = 12, 600, 400, 34, 68
 NETWORK = ["the network may lose,", "repeat and reorder"]
 WAY = [  # the node, the crate, the function, and what it does
-    (0, "gas_endpoint", "step", "a thread's call comes in"),
-    (0, "handler_rules", "allowed", "the rule table judges it"),
-    (0, "message_slots", "claim", "a credit: the lowest free slot, the pair's next number"),
-    (0, "datagram_grammar", "spell", "the message is written into the buffer of the slot"),
-    (0, "real_outside", "send", "the socket: the system's, and trusted"),
-    (1, "real_outside", "receive", "the socket: the system's, and trusted"),
-    (1, "endpoint_lock", "turn", "one turn under the lock; its line is written before it sends"),
-    (1, "datagram_grammar", "view", "the bytes are read as a message, or refused"),
-    (1, "message_slots", "judge", "a new request, a duplicate, or one that is stale"),
-    (1, "handler_rules", "run", "a new one runs its handler, which may reply"),
-    (1, "message_slots", "seal", "the reply, or an Ack, is kept in the slot, and sent"),
-    (0, "datagram_grammar", "view", "the reply's bytes are read"),
-    (0, "message_slots", "take_back", "the slot and its credit are free"),
-    (0, "handler_rules", "run", "the reply's handler runs"),
+    (0, "node_endpoint", "step", "a thread's call comes in"),
+    (0, "part_handlers", "allowed", "the rule table judges it"),
+    (0, "part_window", "claim", "a credit: the lowest free slot, the pair's next number"),
+    (0, "wire_message", "spell", "the message is written into the buffer of the slot"),
+    (0, "proc_linux", "send", "the socket: the system's, and trusted"),
+    (1, "proc_linux", "receive", "the socket: the system's, and trusted"),
+    (1, "proc_runner", "turn", "one turn under the lock; its line is written before it sends"),
+    (1, "wire_message", "view", "the bytes are read as a message, or refused"),
+    (1, "part_window", "judge", "a new request, a duplicate, or one that is stale"),
+    (1, "part_handlers", "run", "a new one runs its handler, which may reply"),
+    (1, "part_window", "seal", "the reply, or an Ack, is kept in the slot, and sent"),
+    (0, "wire_message", "view", "the reply's bytes are read"),
+    (0, "part_window", "take_back", "the slot and its credit are free"),
+    (0, "part_handlers", "run", "the reply's handler runs"),
 ]
 LOST = [
-    "what isn't back is due again (message_slots: due),",
+    "what isn't back is due again (part_window: due),",
     "and a tick sends the same bytes once more;",
     "a request that ran is answered from its slot",
 ]
@@ -33,7 +33,7 @@ LOST = [
 def faults():
     """The functions of the way that aren't in their crates."""
     missing = []
-    for _, crate, name, _ in [*WAY, (0, "message_slots", "due", "")]:
+    for _, crate, name, _ in [*WAY, (0, "part_window", "due", "")]:
         sources = (TOP / "crates" / crate / "src").glob("**/*.rt")
         if not any(re.search(rf"\bfn {name}\b", path.read_text()) for path in sources):
             missing.append(f"the datagram's way: {crate} has no function {name}")

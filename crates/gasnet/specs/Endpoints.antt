@@ -1,2 +1,2 @@
 -- The model of an endpoint, as clauses see it, and what its calls say of the records of its node.
-pub use Rattle.gas_endpoint.specs.EndpointState.{EndpointState, EndpointStands, EndpointSteps, ForItsRecord}
+pub use Rattle.node_endpoint.specs.EndpointState.{EndpointState, EndpointStands, EndpointSteps, ForItsRecord}

@@ -1,5 +1,5 @@
 -- What a handler finds and leaves, and what makes its run lawful.
-pub use Rattle.handler_rules.specs.Runs.{Arrival, Frame, Start, Outcome, untouched, judged, attempted, writing}
-pub use Rattle.handler_rules.specs.Runs.{lock_refusal, unlock_refusal, took_lock, gave_lock}
-pub use Rattle.handler_rules.specs.Runs.{answer, replying, after_answer, IsReplyContent, IsGood, IsLawful, IsLawfulRun}
-pub use Rattle.handler_rules.specs.Runs.{Meaning, IsLawfulMeaning}
+pub use Rattle.part_handlers.specs.Runs.{Arrival, Frame, Start, Outcome, untouched, judged, attempted, writing}
+pub use Rattle.part_handlers.specs.Runs.{lock_refusal, unlock_refusal, took_lock, gave_lock}
+pub use Rattle.part_handlers.specs.Runs.{answer, replying, after_answer, IsReplyContent, IsGood, IsLawful, IsLawfulRun}
+pub use Rattle.part_handlers.specs.Runs.{Meaning, IsLawfulMeaning}

@@ -1,2 +1,2 @@
 -- What a message says: the contents of the replies that handlers give.
-pub use Rattle.datagram_grammar.specs.Content.{short_reply, medium_reply, long_reply}
+pub use Rattle.wire_message.specs.Content.{short_reply, medium_reply, long_reply}

@@ -26,23 +26,23 @@
 //! A layer of its own takes a `Caller` for the calls of a node's threads, as `Plan::begin` does, which begins the
 //! pieces of a strided or indexed transfer; `AtEndpoint` is the caller at an endpoint.
 //!
-//! `docs/LIBRARY.md` is the guide, and `crates/gas_ring` a whole program. A program lists this crate in `crates.txt`,
+//! `docs/LIBRARY.md` is the guide, and `crates/example_ring` a whole program. A program lists this crate in `crates.txt`,
 //! and imports its types from here, the definitions that its clauses cite from `Rattle.gasnet.specs`, and the lemmas
 //! for its handlers from `Rattle.gasnet.proofs.Lawful`. There is no code here: each item is that of a crate below,
 //! whose page says what is proved of it.
 #![tactic(auto)]
 
-pub use am_core::{Asked, Delivered, Payload, Side, SlotRef, Why};
-pub use datagram_grammar::{BarrierNote, PairCredits, Refused, Settings};
-pub use endpoint_rules::{Answer, Begun, Call, Event, Local, Region, Ticked};
-pub use gas_endpoint::Endpoint;
-pub use gas_strided::{Indexed, Level, Piece, Plan, PlanFault, Strided, Vis, Way};
-pub use handler_rules::{
+pub use node_caller::{AtEndpoint, Called, Caller, make_call};
+pub use node_core::{Asked, Delivered, Payload, Side, SlotRef, Why};
+pub use node_endpoint::Endpoint;
+pub use node_rules::{Answer, Begun, Call, Event, Local, Region, Ticked};
+pub use node_vis::{Indexed, Level, Piece, Plan, PlanFault, Strided, Vis, Way};
+pub use part_barrier::{BarrierAnswer, Notified};
+pub use part_handlers::{
     CallKind, Cells, Context, Desk, Entry, EntryFault, Fault, Forbidden, Handlers, Incoming,
     LockAnswer, LockFault, Log, Replied, Reply, Role, Serves, Table, UnlockAnswer, Violation,
     Which,
 };
-pub use named_barrier::{BarrierAnswer, Notified};
-pub use node_caller::{AtEndpoint, Called, Caller, make_call};
-pub use put_get::{Handle, ImplicitKinds, Synced, Transfer};
-pub use raw_segment::{Bytes, Offset, Outside, PartFault, Plain, Segment, TypedFault};
+pub use part_segment::{Bytes, Offset, Outside, PartFault, Plain, Segment, TypedFault};
+pub use part_transfers::{Handle, ImplicitKinds, Synced, Transfer};
+pub use wire_message::{BarrierNote, PairCredits, Refused, Settings};

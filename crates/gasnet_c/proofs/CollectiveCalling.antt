@@ -1,9 +1,9 @@
 -- What an export of collectives tells, from what its start did.
 use Rattle.std.proofs.Common.{◌≡◌, ℕ, Option, Some, None, refl, sym, ap₂, subst}
 use Rattle.std.specs.Prelude.{option_map}
-use Rattle.collective_area.specs.declared.shape.CollectiveKind.{CollectiveKind}
-use Rattle.gas_endpoint.specs.EndpointState.{EndpointState}
-use Rattle.gas_collectives.specs.CollectivesState.{CollectivesState}
+use Rattle.part_collective_area.specs.declared.shape.CollectiveKind.{CollectiveKind}
+use Rattle.node_endpoint.specs.EndpointState.{EndpointState}
+use Rattle.node_collectives.specs.CollectivesState.{CollectivesState}
 use Rattle.gasnet_c.specs.CollectiveCalls.{Handles, Held, StartsAs, StartsFor, StartsOf, WhereHeld, WhereLive, both}
 use Rattle.gasnet_c.specs.CollectiveCalls.{collective_kind_of, pair, pair_of, start_asked_by}
 use Rattle.gasnet_c.specs.Telling.{IsNumber}

@@ -9,11 +9,11 @@ use denote.Struct.Struct.{exits_of}
 use denote.Struct.Owning.{shape, fields, to}
 use denote.Param.Send.{IsSend, AllSend, Quiet, owning_send, part_keyless, struct_send, sendable}
 use Rattle.std.proofs.Crossing.{frees}
-use Rattle.gas_collectives.specs.CollectivesState.{CollectivesState}
+use Rattle.node_collectives.specs.CollectivesState.{CollectivesState}
 use Rattle.gasnet_c.specs.CollectivesHeld.{collectives_slot_owns}
-use Rattle.gas_collectives.specs.contracts.collectives.Collectives as collectives
+use Rattle.node_collectives.specs.contracts.collectives.Collectives as collectives
 use Rattle.gasnet_c.specs.contracts.collectives_slot.CollectivesSlot as slot
-use Rattle.gas_collectives.proofs.collectives.Collectives.TheSendSync.{the_send}
+use Rattle.node_collectives.proofs.collectives.Collectives.TheSendSync.{the_send}
 
 -- they may
 collectives_send : IsSend collectives.the_row

@@ -9,7 +9,7 @@ use denote.Struct.Struct.{exits_of}
 use denote.Struct.Owning.{shape, fields, to}
 use denote.Param.Send.{IsSend, AllSend, Quiet, owning_send, part_keyless, struct_send, sendable}
 use Rattle.std.proofs.Crossing.{frees}
-use Rattle.gas_endpoint.specs.EndpointState.{EndpointState}
+use Rattle.node_endpoint.specs.EndpointState.{EndpointState}
 use Rattle.gasnet_c.specs.Held.{slot_owns}
 use Rattle.gasnet_c.specs.contracts.node.Node as node
 use Rattle.gasnet_c.specs.contracts.slot.Slot as slot

@@ -1,8 +1,8 @@
 -- How a node opens, from what is known at each answer.
 use Rattle.std.proofs.Common.{◌≡◌, ◌<◌, ◌≤◌, Bool, true, false, Option, Some, None, is_some, refl, sym, ap, ◌∙◌, subst, inl, inr, arith}
 use Rattle.std.proofs.lemmas.Bool.{false≢true}
-use Rattle.datagram_grammar.specs.Parameters.{Parameters, AreInRange}
-use Rattle.gas_endpoint.specs.EndpointState.{EndpointState}
+use Rattle.wire_message.specs.Parameters.{Parameters, AreInRange}
+use Rattle.node_endpoint.specs.EndpointState.{EndpointState}
 use Rattle.gasnet_c.specs.Opening.{IsOpenedNode, IsSetupWithin, Opens, settings_of}
 use Rattle.gasnet_c.specs.declared.opening.Setup.{Setup}
 use Rattle.gasnet_c.proofs.Telling.{dead_is_none}

@@ -2,10 +2,10 @@
 use Rattle.std.proofs.Common.{◌≡◌, ◌≢◌, ℕ, Bool, sym, subst}
 use Rattle.std.specs.Prelude.{if◌then◌else◌}
 use Rattle.std.proofs.lemmas.Bool.{eq-eqb, ne_eqb}
-use Rattle.handler_rules.specs.Desks.{At, Stage, frame_of, start_of}
-use Rattle.handler_rules.specs.Runs.{untouched}
-use Rattle.gas_atomic.specs.Served.{served}
-use Rattle.collective_area.specs.Served.{stamped}
+use Rattle.part_handlers.specs.Desks.{At, Stage, frame_of, start_of}
+use Rattle.part_handlers.specs.Runs.{untouched}
+use Rattle.node_atomics.specs.Served.{served}
+use Rattle.part_collective_area.specs.Served.{stamped}
 use Rattle.gasnet_c.specs.OwnHandlers.{serving}
 
 -- that of collectives

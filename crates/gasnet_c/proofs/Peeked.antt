@@ -3,13 +3,13 @@ use Rattle.std.proofs.Common.{◌≡◌, ◌≤◌, ◌+◌, ◌-◌, ◌*◌, �
 use Rattle.std.proofs.Common.{subst, arith}
 use Rattle.std.proofs.lemmas.List.{length-append, length-drop, take_at, drop_at, drop-drop}
 use Rattle.std.specs.Prelude.{Ok}
-use Rattle.datagram_grammar.specs.Message.{Message, Spells}
-use Rattle.datagram_grammar.specs.Reading.{Shows, integers_of, viewed_message}
-use Rattle.datagram_grammar.specs.Refusals.{first_refusal}
-use Rattle.datagram_grammar.specs.declared.viewed.View.{View}
-use Rattle.datagram_grammar.proofs.Laws.{length-spelling}
-use Rattle.node_record.specs.declared.answer.Delivered.{Delivered}
-use Rattle.gas_endpoint.specs.EndpointState.{EndpointState, IsAnsweredAlways, WouldDeliver}
+use Rattle.wire_message.specs.Message.{Message, Spells}
+use Rattle.wire_message.specs.Reading.{Shows, integers_of, viewed_message}
+use Rattle.wire_message.specs.Refusals.{first_refusal}
+use Rattle.wire_message.specs.declared.viewed.View.{View}
+use Rattle.wire_message.proofs.Laws.{length-spelling}
+use Rattle.spec_node.specs.declared.answer.Delivered.{Delivered}
+use Rattle.node_endpoint.specs.EndpointState.{EndpointState, IsAnsweredAlways, WouldDeliver}
 use Rattle.gasnet_c.specs.Peeking.{Peeks, ShowsOf, TellsView, runs_by}
 use Rattle.gasnet_c.specs.declared.coming.Coming.{Coming}
 

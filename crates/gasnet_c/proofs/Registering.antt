@@ -6,10 +6,10 @@ use Rattle.std.proofs.lemmas.Bool.{cases_Bool}
 use Rattle.std.proofs.lemmas.Bool.Decides.{nat_tests}
 use Rattle.std.proofs.lemmas.List.{length-set, length-replicate, get_or-replicate}
 use Rattle.std.proofs.lemmas.Option.{slice_get_read}
-use Rattle.lists.proofs.Indexes.{get-set_same, get-set_other}
-use Rattle.handler_rules.specs.Registered.{index_for, registering, no_entries}
-use Rattle.handler_rules.specs.declared.table.Entry.{Entry}
-use Rattle.handler_rules.specs.declared.table.EntryFault.{EntryFault}
+use Rattle.base_lists.proofs.Indexes.{get-set_same, get-set_other}
+use Rattle.part_handlers.specs.Registered.{index_for, registering, no_entries}
+use Rattle.part_handlers.specs.declared.table.Entry.{Entry}
+use Rattle.part_handlers.specs.declared.table.EntryFault.{EntryFault}
 use Rattle.gasnet_c.specs.Opening.{ServesAll, client_entry}
 
 -- the first places have the entries of a client's indexes, and the others none

@@ -4,12 +4,12 @@ use Rattle.std.proofs.Common.{[], ◌∷◌, ℤ, length, arith}
 use Rattle.std.specs.Borrow.{Bor}
 use Rattle.std.specs.Prelude.{◌==◌}
 use Rattle.std.proofs.lemmas.Bool.{false≢true}
-use Rattle.handler_rules.specs.Runs.{Meaning}
-use Rattle.endpoint_rules.specs.declared.call.Call.{Call}
-use Rattle.endpoint_rules.specs.declared.call.Event.{Event}
-use Rattle.endpoint_rules.specs.declared.call.Event.TheVariants as event
-use Rattle.endpoint_rules.specs.Called.{HasTarget}
-use Rattle.gas_endpoint.specs.EndpointState.{EndpointState, RunsNone}
+use Rattle.part_handlers.specs.Runs.{Meaning}
+use Rattle.node_rules.specs.declared.call.Call.{Call}
+use Rattle.node_rules.specs.declared.call.Event.{Event}
+use Rattle.node_rules.specs.declared.call.Event.TheVariants as event
+use Rattle.node_rules.specs.Called.{HasTarget}
+use Rattle.node_endpoint.specs.EndpointState.{EndpointState, RunsNone}
 use Rattle.gasnet_c.specs.Calls.{asked_call, IsToAnother}
 use Rattle.gasnet_c.specs.Replayed.{both_replayed_by}
 use Rattle.gasnet_c.specs.Telling.{IsDead, IsMark, OwnAsked, Tells, TellsOf, TellsOwn}

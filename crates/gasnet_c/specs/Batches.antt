@@ -1,20 +1,20 @@
 -- Operations on words that C asks.
 use Rattle.std.specs.Prelude.{ℕ, ◌≡◌, if◌then◌else◌, List, [], ◌∷◌, Option, Some, None, is_none, option_map}
 use Rattle.std.proofs.Common.{ap, arith}
-use Rattle.datagram_grammar.specs.Parameters.{Parameters}
-use Rattle.handler_rules.specs.Registered.{is_for_replies, is_for_requests}
-use Rattle.handler_rules.specs.declared.table.Entry.{Entry}
-use Rattle.endpoint_rules.specs.Called.{Requests, meant}
-use Rattle.endpoint_rules.specs.declared.call.Call.{Call}
-use Rattle.endpoint_rules.specs.declared.call.Event.TheVariants as event
-use Rattle.gas_endpoint.specs.EndpointState.{EndpointState}
-use Rattle.gas_atomic.specs.Asking.{batch_asking}
-use Rattle.gas_atomic.specs.Batches.{BatchState}
-use Rattle.gas_atomic.specs.BatchRequests.{batch_fault}
-use Rattle.gas_atomic.specs.Served.{HasBatches}
-use Rattle.gas_atomic.specs.Words.{op_of}
-use Rattle.collective_area.specs.Served.{HasCollectives}
-use Rattle.gas_atomic.specs.declared.word.Op.{Op}
+use Rattle.wire_message.specs.Parameters.{Parameters}
+use Rattle.part_handlers.specs.Registered.{is_for_replies, is_for_requests}
+use Rattle.part_handlers.specs.declared.table.Entry.{Entry}
+use Rattle.node_rules.specs.Called.{Requests, meant}
+use Rattle.node_rules.specs.declared.call.Call.{Call}
+use Rattle.node_rules.specs.declared.call.Event.TheVariants as event
+use Rattle.node_endpoint.specs.EndpointState.{EndpointState}
+use Rattle.node_atomics.specs.Asking.{batch_asking}
+use Rattle.node_atomics.specs.Batches.{BatchState}
+use Rattle.node_atomics.specs.BatchRequests.{batch_fault}
+use Rattle.node_atomics.specs.Served.{HasBatches}
+use Rattle.node_atomics.specs.Words.{op_of}
+use Rattle.part_collective_area.specs.Served.{HasCollectives}
+use Rattle.node_atomics.specs.declared.word.Op.{Op}
 use Rattle.gasnet_c.specs.Opening.{ServesAll}
 use Rattle.gasnet_c.specs.OwnHandlers.{serving}
 use Rattle.gasnet_c.specs.Telling.{IsDead, IsNumber, TellsOf}

@@ -1,14 +1,14 @@
 -- The calls that C asks for.
 use Rattle.std.specs.Prelude.{ℕ, ◌≢◌, Bool, ◌==◌, if◌then◌else◌, Option, Some, None}
-use Rattle.am_core.specs.declared.asking.Payload.{Payload}
-use Rattle.am_core.specs.declared.asking.Payload.TheVariants as payloads
-use Rattle.put_get.specs.declared.operation.Transfer.{Transfer}
-use Rattle.put_get.specs.declared.operation.Transfer.TheVariants as transfers
-use Rattle.put_get.specs.declared.operation.ImplicitKinds.{ImplicitKinds}
-use Rattle.put_get.specs.declared.operation.ImplicitKinds.TheVariants as some
-use Rattle.endpoint_rules.specs.declared.call.Call.{Call}
-use Rattle.endpoint_rules.specs.declared.call.Call.TheVariants as calls
-use Rattle.gas_endpoint.specs.EndpointState.{EndpointState}
+use Rattle.node_core.specs.declared.asking.Payload.{Payload}
+use Rattle.node_core.specs.declared.asking.Payload.TheVariants as payloads
+use Rattle.part_transfers.specs.declared.operation.Transfer.{Transfer}
+use Rattle.part_transfers.specs.declared.operation.Transfer.TheVariants as transfers
+use Rattle.part_transfers.specs.declared.operation.ImplicitKinds.{ImplicitKinds}
+use Rattle.part_transfers.specs.declared.operation.ImplicitKinds.TheVariants as some
+use Rattle.node_rules.specs.declared.call.Call.{Call}
+use Rattle.node_rules.specs.declared.call.Call.TheVariants as calls
+use Rattle.node_endpoint.specs.EndpointState.{EndpointState}
 use Rattle.gasnet_c.specs.declared.messages.Ask.{Ask}
 use Rattle.gasnet_c.specs.declared.transfers.Move.{Move}
 

@@ -1,32 +1,32 @@
 -- The numbers of answers, and what else C is told of one.
 use Rattle.std.specs.Prelude.{ℕ, Option, Some, None}
-use Rattle.endpoint_rules.specs.Sends.{sends}
-use Rattle.endpoint_rules.specs.declared.answer.Answer.{Answer}
-use Rattle.endpoint_rules.specs.declared.answer.Answer.TheVariants as answers
-use Rattle.endpoint_rules.specs.declared.answer.Begun.{Begun}
-use Rattle.endpoint_rules.specs.declared.answer.Begun.TheVariants as begun
-use Rattle.endpoint_rules.specs.declared.answer.Region.{Region}
-use Rattle.endpoint_rules.specs.declared.answer.Region.TheVariants as region
-use Rattle.node_record.specs.Step.{request_slot}
-use Rattle.node_record.specs.declared.answer.Asked.{Asked}
-use Rattle.node_record.specs.declared.answer.Asked.TheVariants as asked
-use Rattle.node_record.specs.declared.answer.Delivered.{Delivered}
-use Rattle.node_record.specs.declared.answer.Delivered.TheVariants as delivered
-use Rattle.node_record.specs.declared.answer.SlotRef.{SlotRef}
-use Rattle.node_record.specs.declared.answer.Ticked.{Ticked}
-use Rattle.node_record.specs.declared.answer.Ticked.TheVariants as ticked
-use Rattle.put_get.specs.declared.operation.Synced.{Synced}
-use Rattle.put_get.specs.declared.operation.Synced.TheVariants as synced
-use Rattle.named_barrier.specs.declared.answer.Notified.{Notified}
-use Rattle.named_barrier.specs.declared.answer.Notified.TheVariants as notified
-use Rattle.named_barrier.specs.declared.answer.BarrierAnswer.{BarrierAnswer}
-use Rattle.named_barrier.specs.declared.answer.BarrierAnswer.TheVariants as barrier
-use Rattle.gas_collectives.specs.declared.answers.StartAnswer.{StartAnswer}
-use Rattle.gas_collectives.specs.declared.answers.StartAnswer.TheVariants as starts
-use Rattle.gas_collectives.specs.declared.answers.StepAnswer.{StepAnswer}
-use Rattle.gas_collectives.specs.declared.answers.StepAnswer.TheVariants as steps
-use Rattle.gas_collectives.specs.declared.answers.EndAnswer.{EndAnswer}
-use Rattle.gas_collectives.specs.declared.answers.EndAnswer.TheVariants as ends
+use Rattle.node_rules.specs.Sends.{sends}
+use Rattle.node_rules.specs.declared.answer.Answer.{Answer}
+use Rattle.node_rules.specs.declared.answer.Answer.TheVariants as answers
+use Rattle.node_rules.specs.declared.answer.Begun.{Begun}
+use Rattle.node_rules.specs.declared.answer.Begun.TheVariants as begun
+use Rattle.node_rules.specs.declared.answer.Region.{Region}
+use Rattle.node_rules.specs.declared.answer.Region.TheVariants as region
+use Rattle.spec_node.specs.Step.{request_slot}
+use Rattle.spec_node.specs.declared.answer.Asked.{Asked}
+use Rattle.spec_node.specs.declared.answer.Asked.TheVariants as asked
+use Rattle.spec_node.specs.declared.answer.Delivered.{Delivered}
+use Rattle.spec_node.specs.declared.answer.Delivered.TheVariants as delivered
+use Rattle.spec_node.specs.declared.answer.SlotRef.{SlotRef}
+use Rattle.spec_node.specs.declared.answer.Ticked.{Ticked}
+use Rattle.spec_node.specs.declared.answer.Ticked.TheVariants as ticked
+use Rattle.part_transfers.specs.declared.operation.Synced.{Synced}
+use Rattle.part_transfers.specs.declared.operation.Synced.TheVariants as synced
+use Rattle.part_barrier.specs.declared.answer.Notified.{Notified}
+use Rattle.part_barrier.specs.declared.answer.Notified.TheVariants as notified
+use Rattle.part_barrier.specs.declared.answer.BarrierAnswer.{BarrierAnswer}
+use Rattle.part_barrier.specs.declared.answer.BarrierAnswer.TheVariants as barrier
+use Rattle.node_collectives.specs.declared.answers.StartAnswer.{StartAnswer}
+use Rattle.node_collectives.specs.declared.answers.StartAnswer.TheVariants as starts
+use Rattle.node_collectives.specs.declared.answers.StepAnswer.{StepAnswer}
+use Rattle.node_collectives.specs.declared.answers.StepAnswer.TheVariants as steps
+use Rattle.node_collectives.specs.declared.answers.EndAnswer.{EndAnswer}
+use Rattle.node_collectives.specs.declared.answers.EndAnswer.TheVariants as ends
 
 abbrev pub asked_code : Asked → ℕ
 asked_code (asked.Accepted to slot number) = 1

@@ -1,17 +1,17 @@
 -- Collectives that C starts, steps and ends.
 use Rattle.std.specs.Prelude.{ℕ, ◌≡◌, ◌⊎◌, List, [], ◌∷◌, Option, Some, None, option_map, slice_get}
-use Rattle.datagram_grammar.specs.Parameters.{Parameters}
-use Rattle.gas_endpoint.specs.EndpointState.{EndpointState}
-use Rattle.collective_area.specs.Area.{Area, IsArea}
-use Rattle.collective_area.specs.declared.shape.CollectiveKind.{CollectiveKind}
-use Rattle.collective_area.specs.declared.shape.CollectiveKind.TheVariants as kind
-use Rattle.gas_collectives.specs.CollectivesState.{CollectivesState, IsFresh}
-use Rattle.gas_collectives.specs.Starts.{StartAsked, Starts}
-use Rattle.gas_collectives.specs.Steps.{Steps}
-use Rattle.gas_collectives.specs.Ends.{Ends}
-use Rattle.gas_collectives.specs.declared.answers.StartAnswer.{StartAnswer}
-use Rattle.gas_collectives.specs.declared.answers.StepAnswer.{StepAnswer}
-use Rattle.gas_collectives.specs.declared.answers.EndAnswer.{EndAnswer}
+use Rattle.wire_message.specs.Parameters.{Parameters}
+use Rattle.node_endpoint.specs.EndpointState.{EndpointState}
+use Rattle.part_collective_area.specs.Area.{Area, IsArea}
+use Rattle.part_collective_area.specs.declared.shape.CollectiveKind.{CollectiveKind}
+use Rattle.part_collective_area.specs.declared.shape.CollectiveKind.TheVariants as kind
+use Rattle.node_collectives.specs.CollectivesState.{CollectivesState, IsFresh}
+use Rattle.node_collectives.specs.Starts.{StartAsked, Starts}
+use Rattle.node_collectives.specs.Steps.{Steps}
+use Rattle.node_collectives.specs.Ends.{Ends}
+use Rattle.node_collectives.specs.declared.answers.StartAnswer.{StartAnswer}
+use Rattle.node_collectives.specs.declared.answers.StepAnswer.{StepAnswer}
+use Rattle.node_collectives.specs.declared.answers.EndAnswer.{EndAnswer}
 use Rattle.gasnet_c.specs.Codes.{end_code, end_node, start_code}
 use Rattle.gasnet_c.specs.Telling.{IsDead, IsNumber, IsToldStep}
 use Rattle.gasnet_c.specs.contracts.sender.SenderCaller.TheImpl.{ghosts}

@@ -4,8 +4,8 @@ use base.Fml.{Fml, ftrue}
 use denote.RawPtr.{Ptr}
 use Rattle.std.specs.Box.Ownership.{box_owns}
 use Rattle.std.specs.contracts.impls.GlobalAllocator.TheImpl.{ghosts}
-use Rattle.gas_collectives.specs.CollectivesState.{CollectivesState}
-use Rattle.gas_collectives.specs.contracts.collectives.Collectives as collectives
+use Rattle.node_collectives.specs.CollectivesState.{CollectivesState}
+use Rattle.node_collectives.specs.contracts.collectives.Collectives as collectives
 
 -- the place of boxed collectives, with the right to free its block; nothing where none are held
 abbrev pub collectives_slot_owns : Ptr → Option CollectivesState → Fml

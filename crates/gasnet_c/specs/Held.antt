@@ -4,7 +4,7 @@ use base.Fml.{Fml, ftrue}
 use denote.RawPtr.{Ptr}
 use Rattle.std.specs.Box.Ownership.{box_owns}
 use Rattle.std.specs.contracts.impls.GlobalAllocator.TheImpl.{ghosts}
-use Rattle.gas_endpoint.specs.EndpointState.{EndpointState}
+use Rattle.node_endpoint.specs.EndpointState.{EndpointState}
 use Rattle.gasnet_c.specs.contracts.node.Node as node
 
 -- the place of a boxed node, with the right to free its block; nothing where none is held

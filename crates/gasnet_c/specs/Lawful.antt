@@ -3,10 +3,10 @@ use Rattle.std.specs.Prelude.{ℕ, ◌≡◌, ◌+◌, ◌==◌, ◌||◌, nat_l
 use Rattle.std.specs.Ordering.{int_eq}
 use Rattle.std.proofs.Common.{Bool, true, false, refl, if◌then◌else◌}
 use Rattle.std.proofs.lemmas.Bool.{ltb-false}
-use Rattle.raw_segment.specs.Image.{Write}
-use Rattle.handler_rules.specs.Runs.{Frame, Start, Outcome, IsLawfulRun, untouched}
-use Rattle.handler_rules.proofs.Lawful.{lawful-replying, lawful-untouched, lawful-writing, long_reply-content}
-use Rattle.handler_rules.proofs.Lawful.{medium_reply-content, short_reply-content}
+use Rattle.part_segment.specs.Image.{Write}
+use Rattle.part_handlers.specs.Runs.{Frame, Start, Outcome, IsLawfulRun, untouched}
+use Rattle.part_handlers.proofs.Lawful.{lawful-replying, lawful-untouched, lawful-writing, long_reply-content}
+use Rattle.part_handlers.proofs.Lawful.{medium_reply-content, short_reply-content}
 use Rattle.gasnet_c.specs.declared.replay.Reply.{Reply}
 use Rattle.gasnet_c.specs.declared.replay.Run.{Run}
 use Rattle.gasnet_c.specs.declared.replay.OwnRuns.{OwnRuns}

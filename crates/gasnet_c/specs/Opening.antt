@@ -1,13 +1,13 @@
 -- How a node opens.
 use Rattle.std.specs.Prelude.{ℕ, ◌≡◌, ◌<◌, ◌≤◌, ◌⊎◌, List, [], length, Option, Some, None}
-use Rattle.datagram_grammar.specs.Parameters.{Parameters, AreInRange}
-use Rattle.handler_rules.specs.Registered.{entry_at}
-use Rattle.handler_rules.specs.declared.serves.Serves.TheVariants as served
-use Rattle.handler_rules.specs.declared.table.Entry.{Entry}
-use Rattle.node_record.specs.Record.{opening_node}
-use Rattle.am_core.specs.Kept.{segment_of}
-use Rattle.endpoint_rules.specs.EndpointLocal.{nothing_begun}
-use Rattle.gas_endpoint.specs.EndpointState.{EndpointState, EndpointStands, ForItsRecord}
+use Rattle.wire_message.specs.Parameters.{Parameters, AreInRange}
+use Rattle.part_handlers.specs.Registered.{entry_at}
+use Rattle.part_handlers.specs.declared.serves.Serves.TheVariants as served
+use Rattle.part_handlers.specs.declared.table.Entry.{Entry}
+use Rattle.spec_node.specs.Record.{opening_node}
+use Rattle.node_core.specs.Kept.{segment_of}
+use Rattle.node_rules.specs.EndpointLocal.{nothing_begun}
+use Rattle.node_endpoint.specs.EndpointState.{EndpointState, EndpointStands, ForItsRecord}
 use Rattle.gasnet_c.specs.declared.opening.Setup.{Setup}
 
 -- the settings of the job that C sets up: datagrams of version 1, one thread a node, and all numbers of requests

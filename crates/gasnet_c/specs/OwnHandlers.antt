@@ -1,8 +1,8 @@
 -- What the library's own handlers do: those of batches and that of collectives.
 use Rattle.std.specs.Prelude.{◌==◌, if◌then◌else◌}
-use Rattle.handler_rules.specs.Runs.{Meaning, untouched}
-use Rattle.gas_atomic.specs.Served.{served}
-use Rattle.collective_area.specs.Served.{collective_handler, stamped}
+use Rattle.part_handlers.specs.Runs.{Meaning, untouched}
+use Rattle.node_atomics.specs.Served.{served}
+use Rattle.part_collective_area.specs.Served.{collective_handler, stamped}
 
 -- the handlers serve batches and collectives, and do nothing else
 abbrev pub serving : Meaning

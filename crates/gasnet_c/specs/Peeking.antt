@@ -1,16 +1,16 @@
 -- What C is told of a delivery before it comes.
 use Rattle.std.specs.Prelude.{ℕ, ◌≡◌, ◌+◌, ◌-◌, ◌/◌, min, nat_lt, if◌then◌else◌, List, take, drop, length, Option, Some}
 use Rattle.std.specs.Prelude.{None}
-use Rattle.datagram_grammar.specs.Message.{Message, Spells}
-use Rattle.datagram_grammar.specs.Reading.{integers_of}
-use Rattle.datagram_grammar.specs.Refusals.{first_refusal}
-use Rattle.datagram_grammar.specs.declared.kind.Kind.{Kind}
-use Rattle.datagram_grammar.specs.declared.kind.Kind.TheVariants as kind
-use Rattle.datagram_grammar.specs.declared.refused.Refused.{Refused}
-use Rattle.datagram_grammar.specs.declared.viewed.View.{View}
-use Rattle.node_record.specs.declared.answer.Delivered.{Delivered}
-use Rattle.node_record.specs.declared.answer.Delivered.TheVariants as delivered
-use Rattle.gas_endpoint.specs.EndpointState.{EndpointState, IsAnsweredAlways, WouldDeliver}
+use Rattle.wire_message.specs.Message.{Message, Spells}
+use Rattle.wire_message.specs.Reading.{integers_of}
+use Rattle.wire_message.specs.Refusals.{first_refusal}
+use Rattle.wire_message.specs.declared.kind.Kind.{Kind}
+use Rattle.wire_message.specs.declared.kind.Kind.TheVariants as kind
+use Rattle.wire_message.specs.declared.refused.Refused.{Refused}
+use Rattle.wire_message.specs.declared.viewed.View.{View}
+use Rattle.spec_node.specs.declared.answer.Delivered.{Delivered}
+use Rattle.spec_node.specs.declared.answer.Delivered.TheVariants as delivered
+use Rattle.node_endpoint.specs.EndpointState.{EndpointState, IsAnsweredAlways, WouldDeliver}
 use Rattle.gasnet_c.specs.declared.coming.Coming.{Coming}
 
 -- how the client's handler runs where the delivery of a message for this handler is answered so: not, for a request, or

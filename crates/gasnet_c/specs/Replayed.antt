@@ -2,9 +2,9 @@
 use Rattle.std.specs.Prelude.{ℕ, ℤ, pos, ◌+◌, ◌==◌, ◌||◌, nat_lt, if◌then◌else◌, List, length, Option, Some, None}
 use Rattle.std.specs.Prelude.{slice_index_or, slice_set}
 use Rattle.std.specs.Ordering.{int_eq}
-use Rattle.raw_segment.specs.Image.{Write, overwritten}
-use Rattle.datagram_grammar.specs.Content.{short_reply, medium_reply, long_reply}
-use Rattle.handler_rules.specs.Runs.{Frame, Start, Outcome, Meaning, replying, untouched, writing}
+use Rattle.part_segment.specs.Image.{Write, overwritten}
+use Rattle.wire_message.specs.Content.{short_reply, medium_reply, long_reply}
+use Rattle.part_handlers.specs.Runs.{Frame, Start, Outcome, Meaning, replying, untouched, writing}
 use Rattle.gasnet_c.specs.declared.replay.Reply.{Reply}
 use Rattle.gasnet_c.specs.declared.replay.Run.{Run}
 use Rattle.gasnet_c.specs.declared.replay.OwnRuns.{OwnRuns}

@@ -1,9 +1,9 @@
 -- What a caller at a node stands for, where C sends the node's datagrams.
 use Rattle.std.specs.Prelude.{Option}
-use Rattle.node_record.specs.Record.{Node}
-use Rattle.node_record.specs.declared.answer.SlotRef.{SlotRef}
-use Rattle.endpoint_rules.specs.EndpointLocal.{EndpointLocal}
-use Rattle.endpoint_rules.specs.Sends.{sends}
+use Rattle.spec_node.specs.Record.{Node}
+use Rattle.spec_node.specs.declared.answer.SlotRef.{SlotRef}
+use Rattle.node_rules.specs.EndpointLocal.{EndpointLocal}
+use Rattle.node_rules.specs.Sends.{sends}
 use Rattle.node_caller.specs.Sites.{Site, ThreadCall, answer_at, node_then}
 
 -- the record of the node, and the slot of the datagram that the last call sends

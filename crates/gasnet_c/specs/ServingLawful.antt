@@ -1,12 +1,12 @@
 -- The library's own handlers are lawful, and serve batches and collectives.
 use Rattle.std.proofs.Common.{ℕ, Bool, true, false, refl}
 use Rattle.std.specs.Prelude.{◌==◌, if◌then◌else◌}
-use Rattle.handler_rules.specs.Runs.{Frame, Start, IsLawfulRun, untouched}
-use Rattle.handler_rules.proofs.Lawful.{lawful-untouched}
-use Rattle.gas_atomic.specs.Served.{ServesBatches, served}
-use Rattle.gas_atomic.proofs.Lawful.{lawful-served}
-use Rattle.collective_area.specs.Served.{ServesCollectives, collective_handler, stamped}
-use Rattle.collective_area.proofs.Stamping.{lawful-stamped}
+use Rattle.part_handlers.specs.Runs.{Frame, Start, IsLawfulRun, untouched}
+use Rattle.part_handlers.proofs.Lawful.{lawful-untouched}
+use Rattle.node_atomics.specs.Served.{ServesBatches, served}
+use Rattle.node_atomics.proofs.Lawful.{lawful-served}
+use Rattle.part_collective_area.specs.Served.{ServesCollectives, collective_handler, stamped}
+use Rattle.part_collective_area.proofs.Stamping.{lawful-stamped}
 use Rattle.gasnet_c.specs.OwnHandlers.{serving}
 
 pub serving_lawful : (handler : ℕ) (frame : Frame) (start : Start)

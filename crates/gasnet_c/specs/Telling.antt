@@ -1,17 +1,17 @@
 -- What an export tells of the event that it makes.
 use Rattle.std.specs.Prelude.{ℕ, ℤ, ◌≡◌, ◌<◌, ◌≤◌, List, [], take, length, Option, Some, None}
 use Rattle.std.specs.Borrow.{Bor}
-use Rattle.handler_rules.specs.Runs.{Meaning}
-use Rattle.node_record.specs.SlotMessages.{message_at}
-use Rattle.node_record.specs.declared.answer.SlotRef.{SlotRef}
-use Rattle.endpoint_rules.specs.EndpointRules.{transition}
-use Rattle.endpoint_rules.specs.Sends.{sends}
-use Rattle.endpoint_rules.specs.declared.answer.Answer.{Answer}
-use Rattle.endpoint_rules.specs.declared.call.Call.{Call}
-use Rattle.endpoint_rules.specs.declared.call.Event.{Event}
-use Rattle.endpoint_rules.specs.declared.call.Event.TheVariants as event
-use Rattle.gas_endpoint.specs.EndpointState.{EndpointState, EndpointSteps, ForItsRecord}
-use Rattle.gas_collectives.specs.declared.answers.StepAnswer.{StepAnswer}
+use Rattle.part_handlers.specs.Runs.{Meaning}
+use Rattle.spec_node.specs.SlotMessages.{message_at}
+use Rattle.spec_node.specs.declared.answer.SlotRef.{SlotRef}
+use Rattle.node_rules.specs.EndpointRules.{transition}
+use Rattle.node_rules.specs.Sends.{sends}
+use Rattle.node_rules.specs.declared.answer.Answer.{Answer}
+use Rattle.node_rules.specs.declared.call.Call.{Call}
+use Rattle.node_rules.specs.declared.call.Event.{Event}
+use Rattle.node_rules.specs.declared.call.Event.TheVariants as event
+use Rattle.node_endpoint.specs.EndpointState.{EndpointState, EndpointSteps, ForItsRecord}
+use Rattle.node_collectives.specs.declared.answers.StepAnswer.{StepAnswer}
 use Rattle.gasnet_c.specs.Codes.{answer_code, slot_told, step_code, told_at, value_of}
 use Rattle.gasnet_c.specs.Replayed.{both_replayed_by, mark_of}
 use Rattle.gasnet_c.specs.declared.replay.Run.{Run}

@@ -1,10 +1,10 @@
 -- What a handle holds, and which events may happen to it.
 use Rattle.std.specs.Prelude.{ℕ, ◌≡◌, Option, Some, None, is_some}
-use Rattle.datagram_grammar.specs.Parameters.{Parameters}
-use Rattle.endpoint_rules.specs.Called.{HasTarget}
-use Rattle.endpoint_rules.specs.declared.call.Call.{Call}
-use Rattle.endpoint_rules.specs.declared.call.Event.{Event}
-use Rattle.gas_endpoint.specs.EndpointState.{EndpointState, MayHappen, RunsNone}
+use Rattle.wire_message.specs.Parameters.{Parameters}
+use Rattle.node_rules.specs.Called.{HasTarget}
+use Rattle.node_rules.specs.declared.call.Call.{Call}
+use Rattle.node_rules.specs.declared.call.Event.{Event}
+use Rattle.node_endpoint.specs.EndpointState.{EndpointState, MayHappen, RunsNone}
 use Rattle.gasnet_c.specs.declared.collectives_handle.CollectivesHandle.{CollectivesHandle}
 use Rattle.gasnet_c.specs.declared.handle.Handle.{Handle}
 

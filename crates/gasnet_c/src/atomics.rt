@@ -1,21 +1,21 @@
 //! Operations on words of a node's segment.
 
 ghost use Rattle.std.specs.Prelude.{◌≡◌};
-ghost use Rattle.node_record.specs.Behaviour.{Lent};
-ghost use Rattle.am_core.specs.ClientRules.{medium_asking};
-ghost use Rattle.endpoint_rules.specs.Called.{Requests, meant};
-ghost use Rattle.endpoint_rules.specs.declared.call.Event.TheVariants as event;
-ghost use Rattle.gas_atomic.specs.BatchRequests.{batch_handler};
+ghost use Rattle.spec_node.specs.Behaviour.{Lent};
+ghost use Rattle.node_core.specs.ClientRules.{medium_asking};
+ghost use Rattle.node_rules.specs.Called.{Requests, meant};
+ghost use Rattle.node_rules.specs.declared.call.Event.TheVariants as event;
+ghost use Rattle.node_atomics.specs.BatchRequests.{batch_handler};
 ghost use Rattle.gasnet_c.specs.Batches.{TellsBatch, batch_for};
 ghost use Rattle.gasnet_c.specs.Whole.{IsForOne, IsWhole};
 
 use crate::handle::{Handle, put, taken};
 use crate::told::{Told, dead};
-use am_core::Payload;
-use datagram_grammar::Settings;
-use endpoint_rules::Call;
-use gas_atomic::{BATCH_HANDLER, Batch, Op, WordOp};
+use node_atomics::{BATCH_HANDLER, Batch, Op, WordOp};
+use node_core::Payload;
+use node_rules::Call;
 use std::alloc::Global;
+use wire_message::Settings;
 
 /// An operation on a word of 64 bits in a node's segment: `gasnet_c_operation`.
 #[repr(C)]
@@ -31,7 +31,7 @@ pub struct Operation {
     pub local: u64,
     /// A number that comes back behind the word.
     pub tag: u64,
-    /// What it does, by number: 0 to 9, in the order of `gas_atomic`'s operations.
+    /// What it does, by number: 0 to 9, in the order of `node_atomics`'s operations.
     pub op: u32,
     /// The node whose word it is; the local one too.
     pub to: u16,

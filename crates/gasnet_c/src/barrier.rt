@@ -1,16 +1,16 @@
 //! The barrier.
 
 ghost use Rattle.std.specs.Prelude.{◌≡◌, []};
-ghost use Rattle.handler_rules.specs.Runs.{Meaning};
-ghost use Rattle.endpoint_rules.specs.declared.call.Call.TheVariants as call;
-ghost use Rattle.endpoint_rules.specs.declared.call.Event.TheVariants as event;
+ghost use Rattle.part_handlers.specs.Runs.{Meaning};
+ghost use Rattle.node_rules.specs.declared.call.Call.TheVariants as call;
+ghost use Rattle.node_rules.specs.declared.call.Event.TheVariants as event;
 ghost use Rattle.gasnet_c.specs.Telling.{Tells};
 ghost use Rattle.gasnet_c.specs.Whole.{IsWhole};
 
 use crate::handle::Handle;
 use crate::stepping::called;
 use crate::told::Told;
-use endpoint_rules::Call;
+use node_rules::Call;
 use std::alloc::Global;
 
 /// Notifies the present phase of the barrier with an identifier. The flags are 0 where it is named, 1 where it is

@@ -1,16 +1,16 @@
 //! The collectives of a node with one thread.
 
 ghost use Rattle.std.specs.Prelude.{◌≡◌, IfSome, IfNone};
-ghost use Rattle.collective_area.specs.Area.{IsArea};
-ghost use Rattle.gas_collectives.specs.CollectivesState.{IsFresh};
+ghost use Rattle.part_collective_area.specs.Area.{IsArea};
+ghost use Rattle.node_collectives.specs.CollectivesState.{IsFresh};
 ghost use Rattle.gasnet_c.specs.CollectiveCalls.{AreOf, EndsFor, StartsAs, StartsFor, StepsFor};
 ghost use Rattle.gasnet_c.specs.CollectiveCalls.{area_at, collective_kind_of, pair};
 
 use crate::node::Node;
 use crate::sender::Sender;
 use crate::told::{Told, bad, tell_end, tell_start, tell_step};
-use collective_area::{CollectiveKind, Shape};
-use gas_collectives::Collectives;
+use node_collectives::Collectives;
+use part_collective_area::{CollectiveKind, Shape};
 
 /// A collective, as a node starts it: `gasnet_c_collective`.
 #[repr(C)]
@@ -20,7 +20,7 @@ pub struct Collective {
     pub from: u64,
     /// How many bytes each node gives.
     pub len: u64,
-    /// What is done with them, by number: 0 to 8, in the order of `collective_area`'s kinds.
+    /// What is done with them, by number: 0 to 8, in the order of `part_collective_area`'s kinds.
     pub kind: u32,
     /// The root; 0 for a kind without one.
     pub root: u16,

@@ -3,8 +3,8 @@
 ghost use Rattle.std.specs.Prelude.{◌≡◌, Some, None, IsSome, true, false};
 
 use crate::collectives_slot::CollectivesSlot;
-use gas_collectives::Collectives;
-use raw_box::RawBox;
+use base_box::RawBox;
+use node_collectives::Collectives;
 use std::alloc::Global;
 use std::mem::replace;
 

@@ -1,11 +1,11 @@
 //! The place of a node's boxed collectives, as C holds it.
 
 ghost use Rattle.std.specs.Prelude.{◌≡◌, Option, Some, None, IsSome};
-ghost use Rattle.gas_collectives.specs.CollectivesState.{CollectivesState};
+ghost use Rattle.node_collectives.specs.CollectivesState.{CollectivesState};
 ghost use Rattle.gasnet_c.specs.CollectivesHeld.{collectives_slot_owns};
 
-use gas_collectives::Collectives;
-use raw_box::RawBox;
+use base_box::RawBox;
+use node_collectives::Collectives;
 use std::alloc::Global;
 use std::marker::{Model, PhantomData, Send};
 use std::ptr::null_mut;

@@ -3,9 +3,9 @@
 ghost use Rattle.std.specs.Prelude.{◌≡◌};
 ghost use Rattle.gasnet_c.specs.Peeking.{Peeks, TellsView, category_of, runs_by};
 
-use am_core::Delivered;
-use datagram_grammar::{Kind, View, view};
-use gas_endpoint::Endpoint;
+use node_core::Delivered;
+use node_endpoint::Endpoint;
+use wire_message::{Kind, View, view};
 
 /// The client's handler that a delivery of some bytes would run, and where its message stands in them:
 /// `gasnet_c_coming`.

@@ -4,7 +4,7 @@ ghost use Rattle.std.specs.Prelude.{◌≡◌, Some, None, IsSome, true, false};
 
 use crate::node::Node;
 use crate::slot::Slot;
-use raw_box::RawBox;
+use base_box::RawBox;
 use std::alloc::Global;
 use std::mem::replace;
 

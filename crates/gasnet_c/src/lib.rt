@@ -10,7 +10,7 @@
 //! `gasnet_c_serve` delivers what is for the handlers of batches and of collectives.
 //!
 //! Collectives have a handle of their own. `gasnet_c_coll_start`, `gasnet_c_coll_step` and `gasnet_c_coll_end` are the
-//! calls of `gas_collectives` at a caller of the node [`StartsFor`, `StepsFor`, `EndsFor`], and C is told the number of
+//! calls of `node_collectives` at a caller of the node [`StartsFor`, `StepsFor`, `EndsFor`], and C is told the number of
 //! their answer, and the datagram that a step sends. C owes that both handles are of one node (`AreOfNode`).
 //!
 //! A handle is dead or whole, and each call keeps it so. A dead one is told `GASNET_C_DEAD`, and stays as it is. What C

@@ -4,7 +4,7 @@ ghost use Rattle.std.specs.Prelude.{◌≡◌, ◌<◌, ◌^◌, List, ℕ, leng
 ghost use Rattle.std.specs.Borrow.{full_share, Array, u8 as byte};
 ghost use Rattle.std.specs.Ptr.{lies_at};
 
-use raw_segment::{Bytes, Segment};
+use part_segment::{Bytes, Segment};
 use std::marker::Model;
 
 /// The memory of a node's segment: `gasnet_c_memory`.

@@ -1,8 +1,8 @@
 //! Requests, and bytes that are delivered.
 
 ghost use Rattle.std.specs.Prelude.{◌≡◌};
-ghost use Rattle.handler_rules.specs.Runs.{Meaning};
-ghost use Rattle.endpoint_rules.specs.declared.call.Event.TheVariants as event;
+ghost use Rattle.part_handlers.specs.Runs.{Meaning};
+ghost use Rattle.node_rules.specs.declared.call.Event.TheVariants as event;
 ghost use Rattle.gasnet_c.specs.Calls.{asked_call, payload_of, IsToAnother};
 ghost use Rattle.gasnet_c.specs.Peeking.{PeeksIn};
 ghost use Rattle.gasnet_c.specs.Replayed.{replayed_by};
@@ -15,8 +15,8 @@ use crate::node::EventAt;
 use crate::replay::{Left, NO_RUN, OwnRuns, Run};
 use crate::stepping::stepped;
 use crate::told::{Told, dead};
-use am_core::Payload;
-use endpoint_rules::{Call, Event};
+use node_core::Payload;
+use node_rules::{Call, Event};
 use std::alloc::Global;
 
 /// A request: `gasnet_c_ask`.

@@ -1,12 +1,12 @@
 //! A node with one thread.
 
 ghost use Rattle.std.specs.Prelude.{◌≡◌, ◌<◌, IfOk, length, replicate};
-ghost use Rattle.handler_rules.specs.Runs.{Meaning};
-ghost use Rattle.node_record.specs.Record.{opening_node};
-ghost use Rattle.am_core.specs.Kept.{segment_of};
-ghost use Rattle.endpoint_rules.specs.EndpointLocal.{nothing_begun};
-ghost use Rattle.gas_endpoint.specs.EndpointState.{EndpointStands, ForItsRecord};
-ghost use Rattle.gas_endpoint.specs.EndpointState.{IsNodeOf, RunsNone};
+ghost use Rattle.part_handlers.specs.Runs.{Meaning};
+ghost use Rattle.spec_node.specs.Record.{opening_node};
+ghost use Rattle.node_core.specs.Kept.{segment_of};
+ghost use Rattle.node_rules.specs.EndpointLocal.{nothing_begun};
+ghost use Rattle.node_endpoint.specs.EndpointState.{EndpointStands, ForItsRecord};
+ghost use Rattle.node_endpoint.specs.EndpointState.{IsNodeOf, RunsNone};
 ghost use Rattle.gasnet_c.specs.Batches.{AsksBatch, batch_for};
 ghost use Rattle.gasnet_c.specs.Whole.{IsForOne};
 ghost use Rattle.gasnet_c.specs.Peeking.{Peeks};
@@ -17,13 +17,13 @@ use crate::coming::{Coming, peeked};
 use crate::replay::MARK;
 use crate::serving::OwnHandlers;
 use crate::told::{Told, bad, tell};
-use datagram_grammar::Settings;
-use endpoint_rules::Event;
-use gas_endpoint::Endpoint;
-use handler_rules::{Handlers, Table};
-use raw_segment::Segment;
+use node_endpoint::Endpoint;
+use node_rules::Event;
+use part_handlers::{Handlers, Table};
+use part_segment::Segment;
 use std::alloc::{AllocError, Global};
 use std::marker::Model;
+use wire_message::Settings;
 
 /// An event, and its time in the unit of the calls' `now`.
 #[derive(Clone, Copy)]
@@ -41,7 +41,7 @@ pub struct Node {
 
 impl Model for Node {
     ghost use Rattle.std.specs.Prelude.{◌≡◌};
-    ghost use Rattle.gas_endpoint.specs.EndpointState.{EndpointState};
+    ghost use Rattle.node_endpoint.specs.EndpointState.{EndpointState};
 
     ghost Value = { EndpointState };
 

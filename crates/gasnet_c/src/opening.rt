@@ -1,17 +1,17 @@
 //! A node is made, and freed.
 
 ghost use Rattle.std.specs.Prelude.{◌≡◌, ◌<◌, None, IfOk, IfSome, MatchOption, replicate};
-ghost use Rattle.datagram_grammar.specs.Parameters.{AreInRange};
+ghost use Rattle.wire_message.specs.Parameters.{AreInRange};
 ghost use Rattle.gasnet_c.specs.Whole.{IsWhole};
 ghost use Rattle.gasnet_c.specs.Opening.{IsOpenedNode, IsSegmentIn, Opens, ServesAll, settings_of};
 
 use crate::handle::{Handle, put, taken};
 use crate::memory::Memory;
 use crate::node::Node;
-use datagram_grammar::Settings;
-use handler_rules::{Entry, Serves, Table};
+use part_handlers::{Entry, Serves, Table};
 use std::alloc::{AllocError, Global};
 use std::marker::Send;
+use wire_message::Settings;
 
 /// How a node of a job is set up: `gasnet_c_setup`. All nodes of a job have the same numbers, but for `me`.
 #[repr(C)]

@@ -3,8 +3,8 @@
 ghost use Rattle.std.specs.Prelude.{◌≡◌, length};
 ghost use Rattle.gasnet_c.specs.Replayed.{left_write, next_mark, overwritten_if};
 
-use handler_rules::{Cells, Desk, Handlers};
-use raw_segment::Segment;
+use part_handlers::{Cells, Desk, Handlers};
+use part_segment::Segment;
 
 /// The reply that a handler asked for: `gasnet_c_reply`.
 #[repr(C)]

@@ -3,11 +3,11 @@
 ghost use Rattle.std.specs.Prelude.{◌≡◌, refl};
 
 use crate::serving::OwnHandlers;
-use am_core::SlotRef;
-use endpoint_rules::{Call, Event};
-use gas_endpoint::Endpoint;
 use node_caller::{Called, Caller};
-use raw_segment::Segment;
+use node_core::SlotRef;
+use node_endpoint::Endpoint;
+use node_rules::{Call, Event};
+use part_segment::Segment;
 
 /// The node of an endpoint, whose calls run the library's own handlers. What it stands for is the record of that node,
 /// with the slot of the datagram that its last call sends. It never lacks memory.
@@ -23,7 +23,7 @@ pub struct Sender<'a> {
 
 impl<'a> Caller for Sender<'a> {
     ghost use Rattle.std.specs.Prelude.{false};
-    ghost use Rattle.gas_endpoint.specs.EndpointState.{EndpointStands};
+    ghost use Rattle.node_endpoint.specs.EndpointState.{EndpointStands};
     ghost use Rattle.gasnet_c.specs.OwnHandlers.{serving};
     ghost use Rattle.gasnet_c.specs.SenderWholes.{SenderWhole, sender_then};
 

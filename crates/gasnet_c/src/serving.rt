@@ -1,7 +1,7 @@
 //! The handlers that the library serves, and the datagrams for them.
 
 ghost use Rattle.std.specs.Prelude.{◌≡◌};
-ghost use Rattle.endpoint_rules.specs.declared.call.Event.TheVariants as event;
+ghost use Rattle.node_rules.specs.declared.call.Event.TheVariants as event;
 ghost use Rattle.gasnet_c.specs.OwnHandlers.{serving};
 ghost use Rattle.gasnet_c.specs.Telling.{Tells};
 ghost use Rattle.gasnet_c.specs.Whole.{IsWhole};
@@ -10,11 +10,11 @@ use crate::handle::Handle;
 use crate::node::EventAt;
 use crate::stepping::stepped;
 use crate::told::{Told, dead};
-use collective_area::serve as serve_collective;
-use endpoint_rules::Event;
-use gas_atomic::serve as serve_batch;
-use handler_rules::{Cells, Desk, Handlers};
-use raw_segment::Segment;
+use node_atomics::serve as serve_batch;
+use node_rules::Event;
+use part_collective_area::serve as serve_collective;
+use part_handlers::{Cells, Desk, Handlers};
+use part_segment::Segment;
 use std::alloc::Global;
 
 /// The index of the handler of collectives.

@@ -1,11 +1,11 @@
 //! The place of a boxed node, as C holds it.
 
 ghost use Rattle.std.specs.Prelude.{◌≡◌, Option, Some, None, IsSome};
-ghost use Rattle.gas_endpoint.specs.EndpointState.{EndpointState};
+ghost use Rattle.node_endpoint.specs.EndpointState.{EndpointState};
 ghost use Rattle.gasnet_c.specs.Held.{slot_owns};
 
 use crate::node::Node;
-use raw_box::RawBox;
+use base_box::RawBox;
 use std::alloc::Global;
 use std::marker::{Model, PhantomData, Send};
 use std::ptr::null_mut;

@@ -1,8 +1,8 @@
 //! One event of the node behind a handle.
 
 ghost use Rattle.std.specs.Prelude.{◌≡◌, [], IsSome};
-ghost use Rattle.handler_rules.specs.Runs.{Meaning};
-ghost use Rattle.endpoint_rules.specs.declared.call.Event.TheVariants as event;
+ghost use Rattle.part_handlers.specs.Runs.{Meaning};
+ghost use Rattle.node_rules.specs.declared.call.Event.TheVariants as event;
 ghost use Rattle.gasnet_c.specs.Whole.{AsksNone, IsForOne, IsWhole, RunsNoneIn};
 ghost use Rattle.gasnet_c.specs.Telling.{Tells};
 
@@ -10,8 +10,8 @@ use crate::handle::{Handle, put, taken};
 use crate::node::EventAt;
 use crate::replay::NO_RUN;
 use crate::told::{Told, dead};
-use endpoint_rules::{Call, Event};
-use handler_rules::Handlers;
+use node_rules::{Call, Event};
+use part_handlers::Handlers;
 use std::alloc::Global;
 
 /// The event happens to the node of a handle that is live. What it sends is copied into the buffer, where it fits.

@@ -6,12 +6,12 @@ ghost use Rattle.gasnet_c.specs.Codes.{notified_code, slot_told, region_code, sy
 ghost use Rattle.gasnet_c.specs.Codes.{end_code, end_node, start_code, step_code, told_at, value_of};
 ghost use Rattle.gasnet_c.specs.Telling.{IsCopied, IsDead, IsNumber, IsSent, IsToldToC, IsToldStep};
 
-use am_core::{Asked, Delivered, Side, SlotRef};
-use endpoint_rules::{Answer, Begun, Region, Ticked};
-use gas_collectives::{EndAnswer, StartAnswer, StepAnswer};
-use gas_endpoint::Endpoint;
-use named_barrier::{BarrierAnswer, Notified};
-use put_get::Synced;
+use node_collectives::{EndAnswer, StartAnswer, StepAnswer};
+use node_core::{Asked, Delivered, Side, SlotRef};
+use node_endpoint::Endpoint;
+use node_rules::{Answer, Begun, Region, Ticked};
+use part_barrier::{BarrierAnswer, Notified};
+use part_transfers::Synced;
 
 /// What an event was answered, and the datagram that it sends: `gasnet_c_told`.
 #[repr(C)]

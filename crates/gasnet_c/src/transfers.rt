@@ -1,9 +1,9 @@
 //! Transfers between segments.
 
 ghost use Rattle.std.specs.Prelude.{◌≡◌, []};
-ghost use Rattle.handler_rules.specs.Runs.{Meaning};
-ghost use Rattle.endpoint_rules.specs.declared.call.Call.TheVariants as call;
-ghost use Rattle.endpoint_rules.specs.declared.call.Event.TheVariants as event;
+ghost use Rattle.part_handlers.specs.Runs.{Meaning};
+ghost use Rattle.node_rules.specs.declared.call.Call.TheVariants as call;
+ghost use Rattle.node_rules.specs.declared.call.Event.TheVariants as event;
 ghost use Rattle.gasnet_c.specs.Calls.{moved_call, region_call, transfer_of, which_of};
 ghost use Rattle.gasnet_c.specs.Telling.{Tells};
 ghost use Rattle.gasnet_c.specs.Whole.{AsksNone, IsForOne, IsWhole};
@@ -11,8 +11,8 @@ ghost use Rattle.gasnet_c.specs.Whole.{AsksNone, IsForOne, IsWhole};
 use crate::handle::Handle;
 use crate::stepping::called;
 use crate::told::Told;
-use endpoint_rules::Call;
-use put_get::{Handle as Operation, ImplicitKinds, Transfer};
+use node_rules::Call;
+use part_transfers::{Handle as Operation, ImplicitKinds, Transfer};
 use std::alloc::Global;
 
 /// A transfer: `gasnet_c_move`. Offsets and lengths are in bytes.

@@ -1,12 +1,12 @@
--- What the system kept of a run, in the words of `run_report`.
-use Rattle.real_outside.specs.declared.child_ends.ChildEnd.{ChildEnd}
-use Rattle.real_outside.specs.declared.child_ends.ChildEnd.TheVariants as kept
-use Rattle.real_outside.specs.declared.link_fault.LinkFault.{LinkFault}
-use Rattle.real_outside.specs.declared.link_fault.LinkFault.TheVariants as fault
-use Rattle.run_report.specs.declared.facts.ChildSeen.{ChildSeen}
-use Rattle.run_report.specs.declared.facts.ChildSeen.TheVariants as child
-use Rattle.run_report.specs.declared.facts.LinkSeen.{LinkSeen}
-use Rattle.run_report.specs.declared.facts.LinkSeen.TheVariants as link
+-- What the system kept of a run, in the words of `cli_report`.
+use Rattle.proc_linux.specs.declared.child_ends.ChildEnd.{ChildEnd}
+use Rattle.proc_linux.specs.declared.child_ends.ChildEnd.TheVariants as kept
+use Rattle.proc_linux.specs.declared.link_fault.LinkFault.{LinkFault}
+use Rattle.proc_linux.specs.declared.link_fault.LinkFault.TheVariants as fault
+use Rattle.cli_report.specs.declared.facts.ChildSeen.{ChildSeen}
+use Rattle.cli_report.specs.declared.facts.ChildSeen.TheVariants as child
+use Rattle.cli_report.specs.declared.facts.LinkSeen.{LinkSeen}
+use Rattle.cli_report.specs.declared.facts.LinkSeen.TheVariants as link
 
 abbrev pub child_seen : ChildEnd → ChildSeen
 child_seen kept.Unstarted = child.Unstarted

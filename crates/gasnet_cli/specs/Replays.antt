@@ -1,21 +1,21 @@
 -- What is told of the replays of the outputs of nodes.
 use Rattle.std.specs.Prelude.{◌≡◌, ℕ, ◌+◌, ◌-◌, ◌^◌, min, ◌==◌, not, List, [], length, Option, Some, None, MatchOption}
 use Rattle.std.specs.Prelude.{slice_get}
-use Rattle.check_run.specs.Turned.{turned_at}
-use Rattle.check_run.specs.declared.node_replay.NodeReplay.{NodeReplay}
-use Rattle.check_run.specs.declared.outputs.NodeReplays.{NodeReplays}
-use Rattle.gas_endpoint.specs.EndpointState.{ForItsRecord}
-use Rattle.gasnet_trace.specs.OutputText.{status_code}
-use Rattle.handler_rules.specs.LogState.{log_of}
-use Rattle.machine.specs.declared.entry.Entry.{Entry}
-use Rattle.run_report.specs.Messages.{AreNoMessage, IsMessageOf}
-use Rattle.run_report.specs.declared.findings.NodeFinding.{NodeFinding}
-use Rattle.run_report.specs.declared.unsent.Gap.{Gap}
-use Rattle.run_report.specs.declared.unsent.Message.{Message}
-use Rattle.run_report.specs.declared.unsent.SentMessage.{SentMessage}
-use Rattle.trace_replay.specs.Sending.{AreAllSent, IsFirstUnsent}
-use Rattle.trace_replay.specs.declared.replaying.Replayed.{Replayed}
-use Rattle.trace_replay.specs.declared.sent.Sent.{Sent}
+use Rattle.cli_check.specs.Turned.{turned_at}
+use Rattle.cli_check.specs.declared.node_replay.NodeReplay.{NodeReplay}
+use Rattle.cli_check.specs.declared.outputs.NodeReplays.{NodeReplays}
+use Rattle.node_endpoint.specs.EndpointState.{ForItsRecord}
+use Rattle.text_trace.specs.OutputText.{status_code}
+use Rattle.part_handlers.specs.LogState.{log_of}
+use Rattle.base_turns.specs.declared.entry.Entry.{Entry}
+use Rattle.cli_report.specs.Messages.{AreNoMessage, IsMessageOf}
+use Rattle.cli_report.specs.declared.findings.NodeFinding.{NodeFinding}
+use Rattle.cli_report.specs.declared.unsent.Gap.{Gap}
+use Rattle.cli_report.specs.declared.unsent.Message.{Message}
+use Rattle.cli_report.specs.declared.unsent.SentMessage.{SentMessage}
+use Rattle.text_replay.specs.Sending.{AreAllSent, IsFirstUnsent}
+use Rattle.text_replay.specs.declared.replaying.Replayed.{Replayed}
+use Rattle.text_replay.specs.declared.sent.Sent.{Sent}
 
 -- ---- what the replay of one output tells
 

@@ -1,6 +1,6 @@
 //! Standard input that can be read again, so that nobody has to keep it.
 
-use run_report::ReadsAgain;
+use cli_report::ReadsAgain;
 use std::fs::{self, File};
 use std::io::Read;
 use std::rt::Files;

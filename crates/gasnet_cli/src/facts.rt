@@ -1,11 +1,11 @@
-//! What the system kept of a run, for `run_report`.
+//! What the system kept of a run, for `cli_report`.
 
 ghost use Rattle.std.specs.Prelude.{◌≡◌};
 ghost use Rattle.gasnet_cli.specs.Facts.{child_seen, link_seen};
 
-use real_outside::{ChildEnd, ChildEnds, LinkFault, LinkSocket};
-use run_report::{ChildSeen, Children, Facts, LinkSeen};
-use sealed_link::Dropped;
+use cli_report::{ChildSeen, Children, Facts, LinkSeen};
+use proc_linux::{ChildEnd, ChildEnds, LinkFault, LinkSocket};
+use proc_seal::Dropped;
 
 /// How a child ended.
 fn child_seen(end: ChildEnd) -> ChildSeen

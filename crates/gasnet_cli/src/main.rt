@@ -15,7 +15,7 @@
 //! failed, which nodes of it failed and what their threads wait for, help, each step beside its answer, what a long
 //! command is at, and how many datagrams a node dropped.
 //!
-//! What is proved of it stands on `run_streams` of `top_call`, which `run` calls with the words of
+//! What is proved of it stands on `run_streams` of `cli_commands`, which `run` calls with the words of
 //! the command line and the two streams, whose bytes it looks at as they go by. A launch without a
 //! port is made with the words of one that was free. `main` itself promises nothing.
 #![tactic(auto)]
@@ -39,19 +39,19 @@ use crate::replays::OutputReplays;
 use crate::run::{Behind, run};
 use crate::settings::SystemEnvironment;
 use crate::texts::UserTexts;
-use real_outside::{
-    ChildEnds, Hosts, LinkSocket, ProcessSpawner, SocketWaiter, SystemClock, UdpLink,
-};
-use run_report::{
+use cli_commands::words_of;
+use cli_report::{
     Command, CountedSpawner, Outcome, Refusal, SettingsTold, StandardError, hosts_told, is_node,
     settings_told, tell_after, tell_fault, tell_help, with_port,
 };
-use sealed_link::{Dropped, Key, SealedLink};
+use proc_linux::{
+    ChildEnds, Hosts, LinkSocket, ProcessSpawner, SocketWaiter, SystemClock, UdpLink,
+};
+use proc_seal::{Dropped, Key, SealedLink};
 use std::alloc::AllocError;
 use std::env;
 use std::io::{IsTerminal, Print};
 use std::process::ExitCode;
-use top_call::words_of;
 
 /// Ends the program before any command, for what the environment sets.
 fn refuse(rt: &HostRuntime, why: Refusal) -> ExitCode {

@@ -1,8 +1,8 @@
 //! What standard error tells of a run while it goes on.
 
-use run_report::{StandardError, refused_line, tell_made};
+use cli_commands::Notes;
+use cli_report::{StandardError, refused_line, tell_made};
 use std::io::Eprint;
-use top_call::Notes;
 
 /// Standard error, to which notes go as lines.
 #[derive(Drop)]

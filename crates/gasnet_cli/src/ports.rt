@@ -1,6 +1,6 @@
 //! The ports of this host.
 
-use run_report::Ports;
+use cli_report::Ports;
 use std::net::{IpAddr, Ipv4Addr, Net, SocketAddr, UdpSocket};
 use std::rt::Clock;
 use std::time::{SystemTime, UNIX_EPOCH};

@@ -1,6 +1,6 @@
 //! What a command is at.
 
-use run_report::{
+use cli_report::{
     Counter, Counts, StandardError, Tells, counts_of, is_shown_at, progress_line, tell_made,
 };
 use std::alloc::AllocError;

@@ -1,14 +1,14 @@
-//! The replays of the outputs of nodes, for `run_report`.
+//! The replays of the outputs of nodes, for `cli_report`.
 
 ghost use Rattle.std.specs.Prelude.{◌≡◌, length};
 ghost use Rattle.gasnet_cli.specs.Replays.{IsFinding, IsFindingOf, IsGap, IsGapOf, IsSentMessage};
 ghost use Rattle.gasnet_cli.specs.Replays.{IsSentOf, lines_at, rank_at, sends_at};
 
-use check_run::{GivenOutput, NodeReplay, NodeReplays, replay_given, replay_input};
-use machine::Entry;
-use run_report::{Gap, KeptOutput, NodeFinding, Replays, SentMessage, message_of};
+use base_turns::Entry;
+use cli_check::{GivenOutput, NodeReplay, NodeReplays, replay_given, replay_input};
+use cli_report::{Gap, KeptOutput, NodeFinding, Replays, SentMessage, message_of};
 use std::alloc::{AllocError, Global};
-use trace_replay::Sent;
+use text_replay::Sent;
 
 /// The replays of the outputs of nodes. Which outputs they are of isn't told.
 #[derive(Drop)]

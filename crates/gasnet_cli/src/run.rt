@@ -1,13 +1,13 @@
 //! A run of a command, whose streams are looked at.
 
 use crate::progress::Progress;
-use gas_outside::{Clock, Link, Spawner, Waiter};
-use run_report::{Command, WatchedReader, WatchedWriter};
+use base_io::{Clock, Link, Spawner, Waiter};
+use cli_commands::{Notes, Outside, run_streams};
+use cli_report::{Command, WatchedReader, WatchedWriter};
 use std::io::{self, Input, Print};
 use std::process::ExitCode;
 use std::sync::Wait;
 use std::thread::Threads;
-use top_call::{Notes, Outside, run_streams};
 
 /// What a run has behind its streams and its link.
 #[derive(Drop)]

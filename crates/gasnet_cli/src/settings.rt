@@ -1,10 +1,10 @@
 //! The environment that the system tells.
 
 ghost use Rattle.std.specs.Prelude.{◌≡◌, []};
-ghost use Rattle.real_outside.specs.HostTexts.{NamesHosts};
+ghost use Rattle.proc_linux.specs.HostTexts.{NamesHosts};
 
-use real_outside::Hosts;
-use run_report::{Environment, KeyFile, Refusal, set_value};
+use cli_report::{Environment, KeyFile, Refusal, set_value};
+use proc_linux::Hosts;
 use std::alloc::{AllocError, Global};
 use std::env;
 use std::fs::{self, File, OpenFile};

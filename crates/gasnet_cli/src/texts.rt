@@ -1,13 +1,13 @@
-//! The texts of `user_text`, for `run_report`.
+//! The texts of `cli_help`, for `cli_report`.
 
-use run_report::Texts;
-use std::alloc::{AllocError, Global};
-use user_text::{
+use cli_help::{
     BadLine, help_for, job_fault, lines_told, patience_told, place_fault, steps_told, usage_fault,
     waits_told,
 };
+use cli_report::Texts;
+use std::alloc::{AllocError, Global};
 
-/// The texts that `user_text` makes. What they are isn't told.
+/// The texts that `cli_help` makes. What they are isn't told.
 #[derive(Drop)]
 pub struct UserTexts;
 

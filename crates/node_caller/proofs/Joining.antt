@@ -1,7 +1,7 @@
 -- Calls that a caller made, joined to one list, and what was known between them.
 use Rattle.std.proofs.Common.{◌≡◌, List, [], ◌∷◌, ◌++◌, refl, sym, subst, ap, ◌∙◌}
-use Rattle.gas_endpoint.specs.Record.{Node}
-use Rattle.gas_endpoint.specs.EndpointLocal.{EndpointLocal}
+use Rattle.node_endpoint.specs.Record.{Node}
+use Rattle.node_endpoint.specs.EndpointLocal.{EndpointLocal}
 use Rattle.node_caller.specs.Sites.{Site, ThreadCall, node_then, node_in_the_end}
 use Rattle.node_caller.specs.Making.{whole_after, Makes, ForItsNode}
 use Rattle.node_caller.specs.declared.caller.Caller.{Ghosts}

@@ -1,8 +1,8 @@
 -- What calls, one after another, make of all that a caller stands for.
 use Rattle.std.specs.Prelude.{◌≡◌, List, [], ◌∷◌, Option, None, Some}
-use Rattle.gas_endpoint.specs.Record.{Node}
-use Rattle.gas_endpoint.specs.EndpointLocal.{EndpointLocal}
-use Rattle.gas_endpoint.specs.Answer.{Answer}
+use Rattle.node_endpoint.specs.Record.{Node}
+use Rattle.node_endpoint.specs.EndpointLocal.{EndpointLocal}
+use Rattle.node_endpoint.specs.Answer.{Answer}
 use Rattle.node_caller.specs.Sites.{Site, ThreadCall, MayLack, answer_at}
 use Rattle.node_caller.specs.declared.caller.Caller.{Ghosts}
 

@@ -1,15 +1,15 @@
 -- Where the calls of a thread fall, and what each of them does to the record of its node.
 use Rattle.std.specs.Prelude.{ℕ, ◌≡◌, ◌<◌, Bool, true, List, [], ◌∷◌, Option}
-use Rattle.datagram_grammar.specs.Parameters.{Parameters}
-use Rattle.handler_rules.specs.declared.table.Entry.{Entry}
-use Rattle.handler_rules.specs.Runs.{Meaning}
-use Rattle.gas_endpoint.specs.Record.{Node}
-use Rattle.gas_endpoint.specs.NodeStep.{Job, node_answer, node_after}
-use Rattle.gas_endpoint.specs.EndpointLocal.{EndpointLocal}
-use Rattle.gas_endpoint.specs.EndpointRules.{OtherCall, RecordEvent, job_of, told}
-use Rattle.gas_endpoint.specs.Called.{Meant, Requests, Performs, meant, node_event}
-use Rattle.gas_endpoint.specs.Call.{Call}
-use Rattle.gas_endpoint.specs.Answer.{Answer}
+use Rattle.wire_message.specs.Parameters.{Parameters}
+use Rattle.part_handlers.specs.declared.table.Entry.{Entry}
+use Rattle.part_handlers.specs.Runs.{Meaning}
+use Rattle.node_endpoint.specs.Record.{Node}
+use Rattle.node_endpoint.specs.NodeStep.{Job, node_answer, node_after}
+use Rattle.node_endpoint.specs.EndpointLocal.{EndpointLocal}
+use Rattle.node_endpoint.specs.EndpointRules.{OtherCall, RecordEvent, job_of, told}
+use Rattle.node_endpoint.specs.Called.{Meant, Requests, Performs, meant, node_event}
+use Rattle.node_endpoint.specs.Call.{Call}
+use Rattle.node_endpoint.specs.Answer.{Answer}
 
 -- the settings, table and handlers of the job, the node, and the time
 pub record Site : Type 0 where

@@ -3,9 +3,9 @@
 ghost use Rattle.std.specs.Prelude.{◌≡◌, refl};
 
 use crate::caller::{Called, Caller};
-use gas_endpoint::{Call, Endpoint, Event};
-use handler_rules::Handlers;
-use raw_segment::Segment;
+use node_endpoint::{Call, Endpoint, Event};
+use part_handlers::Handlers;
+use part_segment::Segment;
 
 /// The node of an endpoint. What it stands for is the record of that node, and it never lacks memory.
 #[derive(Drop)]
@@ -20,9 +20,9 @@ pub struct AtEndpoint<'a, H: Handlers> {
 
 impl<'a, H: Handlers> Caller for AtEndpoint<'a, H> {
     ghost use Rattle.std.specs.Prelude.{false};
-    ghost use Rattle.gas_endpoint.specs.Record.{Node};
-    ghost use Rattle.gas_endpoint.specs.EndpointLocal.{EndpointLocal};
-    ghost use Rattle.gas_endpoint.specs.EndpointState.{EndpointStands};
+    ghost use Rattle.node_endpoint.specs.Record.{Node};
+    ghost use Rattle.node_endpoint.specs.EndpointLocal.{EndpointLocal};
+    ghost use Rattle.node_endpoint.specs.EndpointState.{EndpointStands};
     ghost use Rattle.node_caller.specs.Sites.{node_then};
 
     ghost Whole = { Node EndpointLocal };

@@ -1,15 +1,15 @@
 //! What a layer above asks of a node: the trait of callers.
 
 ghost use Rattle.std.specs.Prelude.{◌≡◌, ℕ, Bool};
-ghost use Rattle.gas_endpoint.specs.Record.{Node};
-ghost use Rattle.gas_endpoint.specs.Kept.{segment_of};
-ghost use Rattle.gas_endpoint.specs.EndpointLocal.{EndpointLocal};
-ghost use Rattle.gas_endpoint.specs.Answer.{Answer as AnAnswer};
-ghost use Rattle.gas_endpoint.specs.EndpointState.{MayBeCalled};
+ghost use Rattle.node_endpoint.specs.Record.{Node};
+ghost use Rattle.node_endpoint.specs.Kept.{segment_of};
+ghost use Rattle.node_endpoint.specs.EndpointLocal.{EndpointLocal};
+ghost use Rattle.node_endpoint.specs.Answer.{Answer as AnAnswer};
+ghost use Rattle.node_endpoint.specs.EndpointState.{MayBeCalled};
 ghost use Rattle.node_caller.specs.Sites.{Site, ThreadCall, IsThere, MayLack, called_by, answer_at, node_then};
 
-use gas_endpoint::{Answer, Call};
-use raw_segment::Segment;
+use node_endpoint::{Answer, Call};
+use part_segment::Segment;
 
 /// How a call went.
 #[derive(Clone, Copy)]

@@ -1,7 +1,7 @@
 //! Callers: one face for the calls of a node's threads, whether the node has an endpoint alone or stands in a world.
 //!
 //! A layer that makes several calls for one of its own, as a plan of transfers does, takes a `Caller`, and so works at
-//! both. `AtEndpoint` is the caller at an endpoint; `world_caller` has the one at a node of a world.
+//! both. `AtEndpoint` is the caller at an endpoint; `sim_caller` has the one at a node of a world.
 //!
 //! - `Caller::call` [`answered`, `no_memory`]: a caller stands for a *whole*, which is the record of its node, or the
 //!   records of a world with what the nodes held at most. Of each whole for which it stood, the answer is that of the
@@ -20,5 +20,5 @@ mod making;
 
 pub use at_endpoint::AtEndpoint;
 pub use caller::{Called, Caller};
-pub use gas_endpoint::{Answer, Begun, Call, Payload, Region};
 pub use making::make_call;
+pub use node_endpoint::{Answer, Begun, Call, Payload, Region};

@@ -2,10 +2,10 @@
 
 ghost use Rattle.node_caller.specs.Making.{MakesOne};
 ghost use Rattle.node_caller.specs.Sites.{IsThere, called_by};
-ghost use Rattle.gas_endpoint.specs.EndpointState.{MayBeCalled};
+ghost use Rattle.node_endpoint.specs.EndpointState.{MayBeCalled};
 
 use crate::caller::{Called, Caller};
-use gas_endpoint::{Answer, Call};
+use node_endpoint::{Answer, Call};
 
 /// Makes a call of a thread of the caller's node. `None` where memory ran out; then nothing was changed.
 pub fn make_call<K: Caller>(caller: &mut K, thread: u16, call: &Call<'_>) -> Option<Answer>

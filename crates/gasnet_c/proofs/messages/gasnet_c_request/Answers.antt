@@ -1,6 +1,6 @@
 use Rattle.std.proofs.Common.{sym, subst}
-use Rattle.endpoint_rules.specs.declared.call.Call.{Call}
-use Rattle.endpoint_rules.specs.declared.call.Event.TheVariants as event
+use Rattle.node_rules.specs.declared.call.Call.{Call}
+use Rattle.node_rules.specs.declared.call.Event.TheVariants as event
 use Rattle.gasnet_c.specs.Telling.{Tells}
 use Rattle.gasnet_c.specs.Whole.{RunsNoneIn}
 use Rattle.gasnet_c.proofs.Telling.{asks_another_in, dead_is_none, dead_tells}

@@ -1,6 +1,6 @@
 use Rattle.std.proofs.Common.{◌≡◌, ℤ, FitsSigned, arith, of_z, rules, subst, sym, to_z, w32}
 use Rattle.std.proofs.lemmas.Int.{to_z-of_z}
-use Rattle.gas_endpoint.specs.EndpointState.{EndpointState}
+use Rattle.node_endpoint.specs.EndpointState.{EndpointState}
 use Rattle.gasnet_c.specs.Telling.{IsMark}
 use Rattle.gasnet_c.proofs.Telling.{dead_is_none, dead_own, empty_is, own_in, own_of}
 use Rattle.gasnet_c.proofs.messages.gasnet_c_request_own.Goals as goal

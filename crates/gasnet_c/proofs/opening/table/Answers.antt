@@ -1,7 +1,7 @@
 use Rattle.std.proofs.Common.{◌+◌, List, Option, Result, ℕ, sym, subst}
-use Rattle.handler_rules.specs.Registered.{registering}
-use Rattle.handler_rules.specs.declared.table.Entry.{Entry}
-use Rattle.handler_rules.specs.declared.table.EntryFault.{EntryFault}
+use Rattle.part_handlers.specs.Registered.{registering}
+use Rattle.part_handlers.specs.declared.table.Entry.{Entry}
+use Rattle.part_handlers.specs.declared.table.EntryFault.{EntryFault}
 use Rattle.gasnet_c.specs.Opening.{client_entry}
 use Rattle.gasnet_c.proofs.Registering.{ServesFirst, serves_none, serves_more}
 use Rattle.gasnet_c.proofs.opening.table.Goals as goal

@@ -1,5 +1,5 @@
 use Rattle.std.proofs.Common.{ℕ, List, arith, subst}
-use Rattle.endpoint_rules.specs.declared.call.Event.TheVariants as event
+use Rattle.node_rules.specs.declared.call.Event.TheVariants as event
 use Rattle.gasnet_c.specs.Telling.{Tells}
 use Rattle.gasnet_c.proofs.Telling.{asks_none_in, dead_is_none, dead_tells, empty_is}
 use Rattle.gasnet_c.proofs.stepping.called.Goals as goal

@@ -25,11 +25,11 @@ use Rattle.std.specs.Prelude.{Option, Some, None, IsSome}
 use Rattle.std.specs.Box.Ownership.{box_owns}
 use Rattle.std.specs.contracts.impls.GlobalAllocator.TheImpl.{ghosts}
 use Rattle.std.specs.declared.alloc.Global.{Global}
-use Rattle.raw_box.proofs.Values.{raw_val, fields_own, fields_made}
-use Rattle.gas_collectives.specs.CollectivesState.{CollectivesState}
+use Rattle.base_box.proofs.Values.{raw_val, fields_own, fields_made}
+use Rattle.node_collectives.specs.CollectivesState.{CollectivesState}
 use Rattle.gasnet_c.specs.CollectivesHeld.{collectives_slot_owns}
 use Rattle.gasnet_c.proofs.Values.{place_val, place_told}
-use Rattle.gas_collectives.specs.contracts.collectives.Collectives as collectives
+use Rattle.node_collectives.specs.contracts.collectives.Collectives as collectives
 use Rattle.gasnet_c.specs.contracts.collectives_slot.CollectivesSlot as slot
 use Rattle.gasnet_c.specs.contracts.collectives_slot.CollectivesSlot.into_raw as f
 use Rattle.gasnet_c.proofs.collectives_slot.CollectivesSlot.into_raw.Statement.{statement}

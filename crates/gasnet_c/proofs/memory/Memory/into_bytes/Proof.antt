@@ -30,10 +30,10 @@ use denote.Triple.Walked.{Stays, stay_dropped, walk_of, Goes-dropped}
 use Rattle.std.proofs.VecSteps.Shapes.{after}
 use Rattle.std.proofs.alloc.Calls.{Goes-blank}
 use Rattle.std.proofs.raw_atomic.Walks.{proved_at, leaves}
-use Rattle.raw_segment.specs.contracts.raw.Bytes as bytes
-use Rattle.raw_segment.proofs.raw.Bytes.TheLaws as bytes_laws
-use Rattle.raw_segment.specs.contracts.raw.Bytes.given as callee
-use Rattle.raw_segment.proofs.raw.Bytes.given.Met.{met}
+use Rattle.part_segment.specs.contracts.raw.Bytes as bytes
+use Rattle.part_segment.proofs.raw.Bytes.TheLaws as bytes_laws
+use Rattle.part_segment.specs.contracts.raw.Bytes.given as callee
+use Rattle.part_segment.proofs.raw.Bytes.given.Met.{met}
 use Rattle.gasnet_c.proofs.Values.{place_val, place_told}
 use Rattle.gasnet_c.specs.contracts.memory.Memory as memory
 use Rattle.gasnet_c.specs.contracts.memory.Memory.into_bytes as f
@@ -82,7 +82,7 @@ into_bytes_spec 𝓤 𝓛 𝓜 𝓡 wired =
     sets ! (of_opd ! (get_in ! (fld ! refl (stop !)) (sub ! 0 refl (whole !)))) refl (tt, tt) $
     first ! $ blocks ! $
     calls_at_last ! (framed 𝓤 𝓛.H 𝓜 𝓣) call
-    (met 𝓤 𝓛 𝓜 𝓡 (code.calls-raw_segment::raw::Bytes::given 𝓡.env wired)) y
+    (met 𝓤 𝓛 𝓜 𝓡 (code.calls-part_segment::raw::Bytes::given 𝓡.env wired)) y
     (and_then ! (get ! refl) (and_then ! (get ! refl) (no_more !))) (λ u.
     use1 𝓛 (later (some (λ (r : bytes.the_row.Denot). (raw (alive 𝓛 f.signature z.0.0 z.0.1) ⊛
     ‵ (bytes.the_row.own_val r (u ∷ []))) ⊛

@@ -1,6 +1,6 @@
 use Rattle.std.proofs.Common.{sym, subst}
-use Rattle.endpoint_rules.specs.EndpointRules.{transition}
-use Rattle.gas_endpoint.specs.EndpointState.{EndpointState, EndpointSteps, RunsNone}
+use Rattle.node_rules.specs.EndpointRules.{transition}
+use Rattle.node_endpoint.specs.EndpointState.{EndpointState, EndpointSteps, RunsNone}
 use Rattle.gasnet_c.proofs.node.Node.happen.Goals as goal
 
 pub returns-clause-tells : goal.returns-clause-tells

@@ -1,7 +1,7 @@
 use Rattle.std.proofs.Common.{refl}
-use Rattle.handler_rules.specs.Desks.{stage, start_of}
-use Rattle.handler_rules.specs.Runs.{untouched}
-use Rattle.handler_rules.proofs.Laws.{leaving-untouched}
+use Rattle.part_handlers.specs.Desks.{stage, start_of}
+use Rattle.part_handlers.specs.Runs.{untouched}
+use Rattle.part_handlers.proofs.Laws.{leaving-untouched}
 use Rattle.gasnet_c.proofs.OwnRuns.{runs_batch, runs_collective}
 use Rattle.gasnet_c.proofs.serving.OwnHandlersHandlers.run.Goals as goal
 

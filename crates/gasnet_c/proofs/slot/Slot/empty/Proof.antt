@@ -16,7 +16,7 @@ use denote.Triple.Entry.{alive}
 use denote.Triple.Walked.{Stays, walk_of}
 use Rattle.std.proofs.raw_atomic.Walks.{proved_at, leaves}
 use Rattle.std.specs.Prelude.{Option, None}
-use Rattle.gas_endpoint.specs.EndpointState.{EndpointState}
+use Rattle.node_endpoint.specs.EndpointState.{EndpointState}
 use Rattle.gasnet_c.proofs.Values.{place_val, place_own, place_made}
 use Rattle.gasnet_c.specs.contracts.slot.Slot.empty as f
 use Rattle.gasnet_c.proofs.slot.Slot.empty.Statement.{statement}

@@ -25,8 +25,8 @@ use Rattle.std.specs.Prelude.{Option, Some, None, IsSome}
 use Rattle.std.specs.Box.Ownership.{box_owns}
 use Rattle.std.specs.contracts.impls.GlobalAllocator.TheImpl.{ghosts}
 use Rattle.std.specs.declared.alloc.Global.{Global}
-use Rattle.raw_box.proofs.Values.{raw_val, fields_own, fields_made}
-use Rattle.gas_endpoint.specs.EndpointState.{EndpointState}
+use Rattle.base_box.proofs.Values.{raw_val, fields_own, fields_made}
+use Rattle.node_endpoint.specs.EndpointState.{EndpointState}
 use Rattle.gasnet_c.specs.Held.{slot_owns}
 use Rattle.gasnet_c.proofs.Values.{place_val, place_told}
 use Rattle.gasnet_c.specs.contracts.node.Node as node

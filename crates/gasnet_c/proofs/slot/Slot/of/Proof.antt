@@ -24,8 +24,8 @@ use Rattle.std.specs.Prelude.{Some}
 use Rattle.std.specs.Box.Ownership.{box_owns}
 use Rattle.std.specs.contracts.alloc.Global as heap
 use Rattle.std.specs.contracts.impls.GlobalAllocator.TheImpl.{ghosts}
-use Rattle.raw_box.proofs.Values.{raw_val, raw_told}
-use Rattle.raw_box.specs.contracts.RawBox as raw_box
+use Rattle.base_box.proofs.Values.{raw_val, raw_told}
+use Rattle.base_box.specs.contracts.RawBox as raw_box
 use Rattle.gasnet_c.proofs.Values.{place_val, place_own, place_made}
 use Rattle.gasnet_c.specs.contracts.node.Node as node
 use Rattle.gasnet_c.specs.contracts.slot.Slot.of as f

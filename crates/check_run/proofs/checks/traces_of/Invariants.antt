@@ -1,6 +1,0 @@
-use Rattle.std.proofs.Common.{◌≡◌}
-use Rattle.check_run.specs.CheckInputs.{traces_in}
-use Rattle.check_run.proofs.checks.traces_of.Given as goal
-
-abbrev pub invariant-loop-output : goal.invariant-loop-output
-invariant-loop-output l = l.traces.items ≡ traces_in l.yielded

@@ -1,6 +1,0 @@
--- The outputs of the nodes below this rank.
-use Rattle.check_run.proofs.Inputs.{ReadSoFar, place_of}
-use Rattle.check_run.proofs.input.outputs_from.Given as goal
-
-abbrev pub invariant-loop-rank : goal.invariant-loop-rank
-invariant-loop-rank l = record { so_far : ReadSoFar (place_of l.job l.bytes l.from) l.outputs.items l.rank l.at }

@@ -1,0 +1,11 @@
+pub mod Children
+pub mod Outputs
+pub mod LaunchEnds
+pub use Rattle.cli_check.specs.CheckInputs
+pub use Rattle.cli_check.specs.Statuses
+pub use Rattle.cli_check.specs.StepLines
+pub use Rattle.cli_check.specs.Struck
+pub use Rattle.cli_check.specs.TracesEnds
+pub use Rattle.cli_check.specs.TracesRun
+pub use Rattle.cli_check.specs.declared.input.InputFault
+pub use Rattle.cli_check.specs.declared.run.TracesEnd

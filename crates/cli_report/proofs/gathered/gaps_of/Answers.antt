@@ -1,0 +1,22 @@
+-- One place more.
+use Rattle.std.proofs.Common.{Option, refl, subst}
+use Rattle.cli_report.proofs.Gathering.{none_more, one_more}
+use Rattle.cli_report.specs.declared.unsent.Gap.{Gap}
+use Rattle.cli_report.proofs.gathered.gaps_of.Goals as goal
+use Rattle.cli_report.proofs.gathered.gaps_of.Goals.{in-Some+in_ok-push, in_default}
+
+pub loop-place-preserved : goal.loop-place-preserved
+loop-place-preserved g c =
+    let gives = g.R.Replays.gaps c.args.replays.now in
+    elim c.match-gap.branch [
+      | in-Some+in_ok-push w ↦
+          one_more gives c.loop-place.place c.loop-place.all.items w.in-Some.gap c.match-gap.all.items
+          c.loop-place.invariant
+          (subst (λ (it : Option Gap). gives c.loop-place.place it) w.in-Some.is c.gap.ensures)
+          (rw w.all-is w.in_ok-push.ensures.items)
+      | in_default w ↦
+          none_more gives c.loop-place.place c.loop-place.all.items c.match-gap.all.items
+          c.loop-place.invariant
+          (subst (λ (it : Option Gap). gives c.loop-place.place it) w.in_default.is c.gap.ensures)
+          (rw w.all-is refl)
+    ]

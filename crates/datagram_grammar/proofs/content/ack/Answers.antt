@@ -1,8 +1,0 @@
-use Rattle.std.proofs.Common.{subst, sym}
-use Rattle.datagram_grammar.specs.Content.{Message, IsWellFormed}
-use Rattle.datagram_grammar.proofs.Addressing.{ack_formed}
-use Rattle.datagram_grammar.proofs.content.ack.Goals as goal
-
-pub returns-clause-formed : goal.returns-clause-formed
-returns-clause-formed c =
-    subst (λ (m : Message). IsWellFormed m) (sym c.bare.ensures) (ack_formed c.args.address c.requires)

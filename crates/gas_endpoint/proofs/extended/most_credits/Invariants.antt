@@ -1,6 +1,0 @@
-use Rattle.std.proofs.Common.{◌≢◌, ℕ, ◌<◌, ◌≤◌}
-use Rattle.datagram_grammar.specs.Parameters.{credits_of}
-use Rattle.gas_endpoint.proofs.extended.most_credits.Given as goal
-
-abbrev pub invariant-loop-to : goal.invariant-loop-to
-invariant-loop-to l = (to : ℕ) → to < l.to → to ≢ l.me → credits_of l.settings l.me to ≤ l.most

@@ -1,6 +1,0 @@
-use Rattle.std.proofs.Common.{◌≡◌, take}
-use Rattle.endpoint_rules.specs.TransferCalls.{emptied}
-use Rattle.gas_endpoint.proofs.transfers.empty.Given as goal
-
-abbrev pub invariant-loop-reg : goal.invariant-loop-reg
-invariant-loop-reg l = l.registers ≡ emptied (take l.reg-index l.regs) l.fn.registers

@@ -1,8 +1,0 @@
-use Rattle.std.proofs.Common.{◌≡◌, ◌+◌, ◌*◌, ◌≤◌, drop}
-use Rattle.gas_strided.specs.Pairs.{total}
-use Rattle.gas_strided.proofs.ranges.total.Given as goal
-
-abbrev pub invariant-loop-len : goal.invariant-loop-len
-invariant-loop-len l =
-    (l.all + total (drop l.len-index l.ranges) ≡ total l.ranges)
-    × (l.all ≤ l.len-index * 18446744073709551616)

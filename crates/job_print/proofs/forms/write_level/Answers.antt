@@ -1,4 +1,0 @@
-use Rattle.job_print.proofs.forms.write_level.Goals as goal
-
-pub returns : goal.returns
-returns g c = c.write_spaced.ensures

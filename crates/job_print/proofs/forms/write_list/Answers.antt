@@ -1,4 +1,0 @@
-use Rattle.job_print.proofs.forms.write_list.Goals as goal
-
-pub returns : goal.returns
-returns g c = rw c.name.ensures at c.write_named_form.ensures

@@ -1,6 +1,0 @@
--- No finish before this one failed.
-use Rattle.launch_run.proofs.Ends.{NoneFailed}
-use Rattle.launch_run.proofs.outputs.has_failed.Given as goal
-
-abbrev pub invariant-loop-child : goal.invariant-loop-child
-invariant-loop-child l = NoneFailed l.children l.child-index

@@ -1,0 +1,55 @@
+-- What holds of the messages of every run of a job.
+use Rattle.std.specs.Prelude.{◌≡◌, List, ◌++◌, ◌∷◌, Option, Some}
+use Rattle.wire_message.specs.Parameters.{Parameters}
+use Rattle.wire_message.specs.Content.{Content}
+use Rattle.part_handlers.specs.declared.table.Entry.{Entry}
+use Rattle.part_handlers.specs.Runs.{Meaning}
+use Rattle.spec_network.specs.World.{Timed, world_answer, world_after}
+use Rattle.spec_network.specs.Plain.{Labelled, IsRequest, reply_of, plain_of}
+use Rattle.spec_network.specs.PlainStep.{Named}
+use Rattle.node_rules.specs.EndpointRules.{OtherCall, job_of}
+use Rattle.law_transfers.specs.History.{Runs, ComesBack}
+use Rattle.law_transfers.specs.TransferLaws.{AreAmong}
+use Rattle.law_messages.specs.Steps.{RequestStep}
+use Rattle.law_messages.specs.Events.{after_all, Always}
+use Rattle.law_messages.specs.Requests.{AcceptedName, IsAccepted, accepted_request, RunLeaves, ReplyLeaves}
+
+-- each event leaves the requests and the runs as they were, or adds one of them
+abbrev pub EachSteps : Parameters → List (Option Entry) → Meaning → Type 0
+EachSteps settings table meaning =
+    let job = job_of settings table meaning in
+    (events : List (Timed OtherCall)) (next : Timed OtherCall) → AreAmong job events
+    → let world = after_all job events in
+    RequestStep job (plain_of world) (plain_of (world_after job world next)) next.event (world_answer job world next)
+
+-- a request of a thread that is accepted is among the requests from then on
+abbrev pub EachAcceptedStays : Parameters → List (Option Entry) → Meaning → Type 0
+EachAcceptedStays settings table meaning =
+    let job = job_of settings table meaning in
+    (before later : List (Timed OtherCall)) (event : Timed OtherCall) (name : AcceptedName)
+    → AreAmong job (before ++ event ∷ later) → IsAccepted job before event name
+    → IsRequest (plain_of (after_all job (before ++ event ∷ later))) name.from name.to name.number
+    (accepted_request job (after_all job before) name)
+
+-- whenever a request runs that is among the requests in the end, its run leaves this
+abbrev pub EachRunLeaves : Parameters → List (Option Entry) → Meaning → Type 0
+EachRunLeaves settings table meaning =
+    let job = job_of settings table meaning in
+    (events : List (Timed OtherCall)) (name : Named) (request : Labelled) → AreAmong job events
+    → IsRequest (plain_of (after_all job events)) name.from name.to name.number request
+    → Always job (λ moment. Runs job name moment → RunLeaves settings table meaning name request.content moment) events
+
+-- whenever its reply comes back, as it stands among the runs in the end, the reply's run leaves this
+abbrev pub EachReplyLeaves : Parameters → List (Option Entry) → Meaning → Type 0
+EachReplyLeaves settings table meaning =
+    let job = job_of settings table meaning in
+    (events : List (Timed OtherCall)) (name : Named) (reply : Content) → AreAmong job events
+    → reply_of name.number ((plain_of (after_all job events)).runs name.from name.to) ≡ Some reply
+    → Always job (λ moment. ComesBack job name moment → ReplyLeaves settings table meaning name reply moment) events
+
+-- all of them, in every run of the job of these settings, this table and these handlers
+pub record MessagesHold (settings : Parameters) (table : List (Option Entry)) (meaning : Meaning) : Type 0 where
+  pub steps : EachSteps settings table meaning
+  pub accepted : EachAcceptedStays settings table meaning
+  pub runs : EachRunLeaves settings table meaning
+  pub replies : EachReplyLeaves settings table meaning

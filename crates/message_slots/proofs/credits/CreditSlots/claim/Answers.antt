@@ -1,5 +1,0 @@
-use Rattle.message_slots.proofs.CreditsViewed.{next-vacant}
-use Rattle.message_slots.proofs.credits.CreditSlots.claim.Goals as goal
-
-pub open-requires : goal.open-requires
-open-requires c = next-vacant c.args.self.now c.args.to c.in-Ok.slot c.in-Ok.number c.requires c.in-Ok.ensures.next

@@ -1,8 +1,0 @@
-use Rattle.std.proofs.Common.{ap, sym, ◌∙◌}
-use Rattle.message_slots.specs.RepliesState.{held_count}
-use Rattle.message_slots.proofs.RepliesViewed.{held-is}
-use Rattle.message_slots.proofs.replies.ReplySlots.held.Goals as goal
-
-pub returns-clause-count : goal.returns-clause-count
-returns-clause-count c =
-    c.held.ensures.count ∙ (sym (held-is c.self.inside.table c.self.invariant) ∙ ap held_count c.self.view_is)

@@ -1,5 +1,0 @@
-use Rattle.message_slots.proofs.NewTable.{IsMade}
-use Rattle.message_slots.proofs.table.SlotTable.new.Given as goal
-
-abbrev pub invariant-loop-node : goal.invariant-loop-node
-invariant-loop-node l = IsMade l.credits l.me l.node l.first l.peers.items

@@ -1,7 +1,0 @@
-use Rattle.std.proofs.Common.{◌≡◌, true}
-use Rattle.datagram_grammar.specs.Notes.{mask_number}
-use Rattle.named_barrier.specs.Masks.{has_all}
-use Rattle.named_barrier.proofs.mask.has_all.Given as goal
-
-abbrev pub invariant-loop-node : goal.invariant-loop-node
-invariant-loop-node l = has_all (mask_number l.mask) l.node ≡ true

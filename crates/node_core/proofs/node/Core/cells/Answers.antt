@@ -1,0 +1,6 @@
+use Rattle.std.proofs.Common.{ap, ◌∙◌}
+use Rattle.node_core.specs.CoreState.{CoreState}
+use Rattle.node_core.proofs.node.Core.cells.Goals as goal
+
+pub returns : goal.returns
+returns c = λ r S. ap (λ (v : CoreState). v.cells) c.self.view_is ∙ S.cells_are

@@ -1,0 +1,3 @@
+//! The answers of a core.
+
+pub use spec_node::{Asked, Delivered, Side, SlotRef, Why};

@@ -1,0 +1,16 @@
+pub mod EndpointState
+pub mod Sends
+pub mod Parts
+pub use Rattle.node_core.specs.ClientRules
+pub use Rattle.node_core.specs.HandlerRuns
+pub use Rattle.node_core.specs.Kept
+pub use Rattle.node_rules.specs.Called
+pub use Rattle.node_rules.specs.EndpointLocal
+pub use Rattle.node_rules.specs.EndpointRules
+pub use Rattle.node_rules.specs.TransferCalls
+pub use Rattle.node_rules.specs.declared.answer.Answer
+pub use Rattle.node_rules.specs.declared.answer.Begun
+pub use Rattle.node_rules.specs.declared.answer.Region
+pub use Rattle.node_rules.specs.declared.call.Call
+pub use Rattle.spec_node.specs.NodeStep
+pub use Rattle.spec_node.specs.Record

@@ -1,0 +1,36 @@
+//! The endpoint of a node: its active messages, transfers, access regions, registers of handles and barrier.
+//!
+//! What is proved is said of every record for which the endpoint stood before the call (`EndpointStands`).
+//!
+//! - `Endpoint::step` [`steps`: `EndpointSteps`], for a thread of the job and lists of at most 256 registers
+//!   (`MayHappen`): the answer is the one of the record of the node (`node_rules`), and the endpoint stands for the
+//!   record's next one. That is so for each call of a thread, for a tick, and for any bytes that are delivered: those
+//!   that spell a message of the job's version come as that message, and others are refused by the first reason of the
+//!   grammar. What the rule table forbids is answered `Forbidden`, whatever the call, and noted once. The message that
+//!   the step sends is that of the slot which `Answer::sends` names [`sends`: `StepSends`]; `Endpoint::message` gives
+//!   it, `Endpoint::number` its number. A step that runs no handler (`RunsNone`: a tick, or a call that is no request
+//!   to the local node) is the same whatever the handlers mean [`quiet`]. `Endpoint::call` is such a step at the call of
+//!   a thread, without an event around it [`steps`: `NodeSteps`; `sends`: `NodeSends`; `quiet`].
+//! - A tick sends a request again that is due; else the note of the barrier that is due to the least node that can be
+//!   asked; else the next chunk of the oldest operation whose target can be asked. `Endpoint::next_target` tells before
+//!   it which node would get a request of the node's own accord [`target`: `IsTickTarget`]; `would_accept` whether an
+//!   event would accept a request.
+//! - `Endpoint::would_deliver` tells what a delivery of bytes would be answered [`told`: `WouldDeliver`]: every
+//!   delivery of them is answered so, at any time and whatever the handlers mean [`agrees`: `IsAnsweredAlways`].
+//! - `Endpoint::new` gives an endpoint that stands for the opening record [`stands`]; want of memory is its one error.
+//!   After it no call takes memory. `Endpoint::with_segment` is the same over a segment of zeros that was made before.
+//! - `issued`, `register`, `segment`, `cells`, `log`, `held` and `polls` give what the record has.
+#![tactic(auto)]
+
+mod barrier;
+mod beginning;
+mod calls;
+mod endpoint;
+mod extended;
+mod memory;
+mod ticking;
+mod transfers;
+
+pub use endpoint::Endpoint;
+pub use node_core::Payload;
+pub use node_rules::{Answer, Begun, Call, Event, Region};

@@ -1,0 +1,135 @@
+//! What a tick sends of the node's own accord.
+
+ghost use Rattle.std.specs.Prelude.{◌≡◌, ◌≢◌, ◌<◌, ◌≤◌, ℕ, Bool, true, Some, None, IfSome};
+ghost use Rattle.wire_message.specs.Parameters.{Parameters, AreInRange};
+ghost use Rattle.part_handlers.specs.Runs.{Meaning};
+ghost use Rattle.spec_node.specs.Step.{can_ask, request_slot};
+ghost use Rattle.spec_node.specs.NodeStep.{site_of};
+ghost use Rattle.part_barrier.specs.BarrierState.{note_at};
+ghost use Rattle.part_transfers.specs.Operation.{next_chunk, target};
+ghost use Rattle.part_transfers.specs.Stands.{CanNote};
+ghost use Rattle.part_transfers.specs.Syncs.{flag_at};
+ghost use Rattle.node_core.specs.AskedFor.{work_of};
+ghost use Rattle.node_core.specs.Library.{Note, WorkFits};
+ghost use Rattle.node_rules.specs.EndpointRules.{chunk_work};
+ghost use Rattle.node_endpoint.specs.EndpointState.{ForItsRecord, job_here};
+ghost use Rattle.node_endpoint.specs.Parts.{IsWhole, CanSend, PartSends, endpoint_of};
+
+use crate::extended::Extended;
+use node_core::{Asked, Core, LibraryRequest, Side, SlotRef};
+use node_rules::Ticked;
+use part_transfers::{Next, Transfer};
+use wire_message::BarrierNote;
+
+/// What a chunk asks of its target.
+fn chunk_work(next: &Next) -> LibraryRequest
+    requires { (settings : Parameters) × AreInRange settings
+        × WorkFits settings (chunk_work next.now) }
+    ensures { work_of result ≡ chunk_work next.now }
+{
+    let start = next.start;
+    let len = next.len;
+    match next.transfer {
+        Transfer::Put { remote, local, .. } => LibraryRequest::Put {
+            local: local + start,
+            remote: remote + start,
+            len,
+        },
+        Transfer::Get { remote, local, .. } => LibraryRequest::Get {
+            local: local + start,
+            remote: remote + start,
+            len,
+        },
+        Transfer::Memset { remote, byte, .. } => LibraryRequest::Memset {
+            remote: remote + start,
+            len,
+            byte,
+        },
+    }
+}
+
+/// The slot of a request to a node.
+fn request_slot(peer: u16, slot: u16) -> SlotRef
+    ensures { result ≡ request_slot peer slot }
+{
+    SlotRef {
+        side: Side::Request,
+        peer,
+        slot,
+    }
+}
+
+impl Extended {
+    /// For each node whether it can be asked.
+    fn can(&self, core: &Core) -> [bool; 256]
+        requires { IsWhole core.now self.now }
+        ensures { (meaning : Meaning) → ForItsRecord (endpoint_of core.now self.now) (λ node.
+            (to : ℕ) → flag_at result to
+            ≡ can_ask (site_of (job_here meaning (endpoint_of core.now self.now)) core.now.me)
+            node to) }
+    {
+        let mut can = [false; 256];
+        for to in 0..self.nodes {
+            can[to as usize] = core.can_ask(to);
+        }
+        can
+    }
+
+    /// The next chunk of the oldest operation whose target can be asked.
+    pub(crate) fn next_chunk(&self, core: &Core) -> Option<Next>
+        requires { IsWhole core.now self.now }
+        ensures next { (meaning : Meaning) → ForItsRecord (endpoint_of core.now self.now) (λ node.
+            result ≡ next_chunk
+            (can_ask (site_of (job_here meaning (endpoint_of core.now self.now)) core.now.me) node)
+            1 node.local.operations) }
+        ensures can_note { IfSome result (λ next. CanNote self.now.transfers next.number) }
+    {
+        if self.transfers.is_idle() {
+            return None;
+        }
+        self.transfers.next(&self.can(core))
+    }
+
+    /// Sends a note of the barrier to a node that can be asked.
+    pub(crate) fn send_note(
+        &mut self,
+        core: &mut Core,
+        now: u64,
+        to: u16,
+        note: &BarrierNote,
+    ) -> Ticked
+        requires whole { IsWhole core.old self.old }
+        requires can { CanSend core.old self.old to (Note note.now) }
+        requires due { note_at self.old.barrier to ≡ Some note.now }
+        ensures { PartSends (record { core = core.old; extended = self.old })
+            (record { now = now; to = to; work = Note note.now }) result
+            (record { core = core.new; extended = self.new }) }
+    {
+        let Asked::Accepted { slot, .. } = core.ask(now, to, &LibraryRequest::Note(*note)) else {
+            unreachable!()
+        };
+        self.barrier.sent(to);
+        Ticked::Note(request_slot(to, slot))
+    }
+
+    /// Sends a chunk to a node that can be asked.
+    pub(crate) fn send_chunk(&mut self, core: &mut Core, now: u64, next: &Next) -> Ticked
+        requires whole { IsWhole core.old self.old }
+        requires can { CanSend core.old self.old (target next.now.transfer) (chunk_work next.now) }
+        requires can_note { CanNote self.old.transfers next.now.number }
+        requires next { (meaning : Meaning) → ForItsRecord (endpoint_of core.old self.old) (λ node.
+            next_chunk
+            (can_ask (site_of (job_here meaning (endpoint_of core.old self.old)) core.old.me) node)
+            1 node.local.operations ≡ Some next.now) }
+        ensures { PartSends (record { core = core.old; extended = self.old })
+            (record { now = now; to = target next.now.transfer; work = chunk_work next.now }) result
+            (record { core = core.new; extended = self.new }) }
+    {
+        let to = next.transfer.target();
+        let Asked::Accepted { slot, number, .. } = core.ask(now, to, &chunk_work(next)) else {
+            unreachable!()
+        };
+        self.transfers.note(next, slot, number);
+        Ticked::Chunk(request_slot(to, slot))
+    }
+}

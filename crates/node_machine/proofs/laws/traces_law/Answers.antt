@@ -1,7 +1,0 @@
--- The law of traces.
-use Rattle.script_steps.proofs.Fits.{steps_fit}
-use Rattle.node_machine.proofs.Merging.{traces_run, nodes_open, states_replay}
-use Rattle.node_machine.proofs.laws.traces_law.Goals as goal
-
-pub returns : goal.returns
-returns c = record { run = traces_run steps_fit; opens = nodes_open; replays = states_replay }

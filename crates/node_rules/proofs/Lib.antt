@@ -1,0 +1,16 @@
+pub mod Frames
+pub mod PlainAnswers
+pub mod Calling
+pub mod Over
+pub mod Asked
+pub mod Chunks
+pub mod Syncing
+pub mod Sending
+pub mod Tracking
+pub mod Noting
+pub mod Handled
+pub mod Works
+pub mod CoreKept
+pub mod Kept
+pub mod Sound
+pub use Rattle.spec_network.proofs.PlainTicks

@@ -1,0 +1,13 @@
+pub mod Memory
+pub mod EndpointLocal
+pub mod CoreCalls
+pub mod TransferCalls
+pub mod BarrierCalls
+pub mod EndpointRules
+pub mod Called
+pub mod Touches
+pub mod PlainAnswers
+pub mod Sends
+pub mod Tracking
+pub mod EveryCall
+pub use Rattle.spec_network.specs.Sent

@@ -1,7 +1,0 @@
--- Orders of machines that are others.
-use Rattle.node_runs.proofs.Carrying.{goes_back}
-use Rattle.node_runs.proofs.laws.carrying_law.Goals as goal
-
-pub returns : goal.returns
-returns g c = λ become first second carries nodes list front to go.
-    goes_back become first second carries nodes list front to go

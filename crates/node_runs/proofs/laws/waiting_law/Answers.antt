@@ -1,7 +1,0 @@
--- Tries that wait.
-use Rattle.node_runs.proofs.Acting.{scripts_same}
-use Rattle.node_runs.proofs.laws.waiting_law.Goals as goal
-
-pub returns : goal.returns
-returns g c = λ form at own before after answer ended began.
-    scripts_same form at own before after answer ended began

@@ -1,7 +1,0 @@
-use Rattle.gas_outside.proofs.Outboxes.{gathers_more}
-use Rattle.node_script.proofs.answer_texts.write_reason.Goals as goal
-
-pub returns : goal.returns
-returns g c =
-    gathers_more _ _ _ _ _ c.put_word.ensures.gathers
-    (gathers_more _ _ _ _ _ c.put_word-2.ensures.gathers c.put_end.ensures)

@@ -1,5 +1,0 @@
-use Rattle.gas_outside.proofs.Outboxes.{gathers_more}
-use Rattle.node_script.proofs.answer_texts.write_word.Goals as goal
-
-pub returns : goal.returns
-returns g c = gathers_more _ _ _ _ _ c.put_word.ensures.gathers c.put_end.ensures

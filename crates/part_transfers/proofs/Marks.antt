@@ -1,0 +1,87 @@
+-- What is marked is what a test holds of.
+use Rattle.std.proofs.Common.{◌≡◌, ℕ, zero, suc, ◌<◌, Bool, true, false, true≢false, ◌&&◌, ◌||◌, List, [], ◌∷◌, Option}
+use Rattle.std.proofs.Common.{None, Some, length, unwrap_or, replicate, refl, sym, ap, ◌∙◌, arith}
+use Rattle.std.specs.List.{slice_get, list_any}
+use Rattle.base_lists.proofs.Places.{slice_get-replicate}
+use Rattle.part_transfers.specs.declared.table.OperationRecord.{OperationRecord}
+use Rattle.part_transfers.specs.declared.table.Check.{Check}
+use Rattle.part_transfers.specs.Table.{flat}
+use Rattle.part_transfers.specs.Syncs.{flag_at}
+use Rattle.part_transfers.specs.Table.{on_place, picks, passes, also, AreMarks, unless_marked, dropped}
+
+pub mark_is : (test : OperationRecord → Bool) (places : List (Option OperationRecord)) (marks : List Bool) (place : ℕ)
+    (there : Option OperationRecord)
+    → AreMarks test places marks → place < 256 → slice_get places place ≡ Some there
+    → flag_at marks place ≡ on_place test there
+mark_is test places marks place there M less at = ap (λ mark. unwrap_or mark false) (M.each place less)
+    ∙ ap (λ found. on_place test (flat found)) at
+
+picks_test : (test : OperationRecord → Bool) (check : Check) (there : Option OperationRecord)
+    → picks (on_place test there) check there ≡ on_place (λ r. test r && passes check r) there
+picks_test test check None = refl
+picks_test test check (Some there) = refl
+
+pub picks_is : (test : OperationRecord → Bool) (check : Check) (places : List (Option OperationRecord)) (marks : List Bool)
+    (place : ℕ) (there : Option OperationRecord)
+    → AreMarks test places marks → place < 256 → slice_get places place ≡ Some there
+    → picks (flag_at marks place) check there ≡ on_place (λ r. test r && passes check r) there
+picks_is test check places marks place there M less at =
+    ap (λ mark. picks mark check there) (mark_is test places marks place there M less at) ∙ picks_test test check there
+
+dropped_test : (test : OperationRecord → Bool) (there : Option OperationRecord)
+    → unless_marked (on_place test there) there ≡ dropped test there
+dropped_test test None = refl
+dropped_test test (Some there) = refl
+
+pub dropped_is : (test : OperationRecord → Bool) (places : List (Option OperationRecord)) (marks : List Bool) (place : ℕ)
+    (there : Option OperationRecord)
+    → AreMarks test places marks → place < 256 → slice_get places place ≡ Some there
+    → unless_marked (flag_at marks place) there ≡ dropped test there
+dropped_is test places marks place there M less at =
+    ap (λ mark. unless_marked mark there) (mark_is test places marks place there M less at) ∙ dropped_test test there
+
+pub also_is : (test other : OperationRecord → Bool) (there : Option OperationRecord)
+    → (on_place test there || on_place other there) ≡ on_place (also test other) there
+also_is test other None = refl
+also_is test other (Some there) = refl
+
+-- nothing is marked
+pub no_marks : (places : List (Option OperationRecord)) → AreMarks (λ there. false) places (replicate 256 false)
+no_marks places = record {
+  many = refl;
+  each = λ place less. slice_get-replicate 256 place false less ∙ ap Some (sym (never (flat (slice_get places place))));
+}
+  where
+    never : (there : Option OperationRecord) → on_place (λ r. false) there ≡ false
+    never None = refl
+    never (Some there) = refl
+
+-- a test in the place of an equal one
+pub marks_by : (test other : OperationRecord → Bool) (places : List (Option OperationRecord)) (marks : List Bool)
+    → ((there : OperationRecord) → test there ≡ other there) → AreMarks test places marks → AreMarks other places marks
+marks_by test other places marks same M = record {
+  many = M.many;
+  each = λ place less. M.each place less ∙ ap Some (on (flat (slice_get places place)));
+}
+  where
+    on : (there : Option OperationRecord) → on_place test there ≡ on_place other there
+    on None = refl
+    on (Some there) = same there
+
+pub flag_within : (flags : List Bool) (node : ℕ) → flag_at flags node ≡ true → node < length flags
+flag_within [] node is = absurd (true≢false (sym is))
+flag_within (flag ∷ flags) zero is = omega arith
+flag_within (flag ∷ flags) (suc node) is = let later = flag_within flags node is in omega (arith, later)
+
+-- no flag is set
+pub no_flag : (flags : List Bool) → list_any (λ (flag : Bool). flag) flags ≡ false → (node : ℕ)
+    → flag_at flags node ≡ false
+no_flag [] none node = refl
+no_flag (true ∷ flags) none node = absurd (true≢false none)
+no_flag (false ∷ flags) none zero = refl
+no_flag (false ∷ flags) none (suc node) = no_flag flags none node
+
+-- where nothing else was marked
+pub only : (test : OperationRecord → Bool) (places : List (Option OperationRecord)) (marks : List Bool)
+    → AreMarks (also (λ there. false) test) places marks → AreMarks test places marks
+only test places marks M = marks_by (also (λ there. false) test) test places marks (λ there. refl) M

@@ -1,0 +1,31 @@
+use Rattle.std.proofs.Common.{◌+◌, ◌||◌, sym, ap, ◌∙◌, take, get_or, arith, subst}
+use Rattle.std.proofs.lemmas.List.{take_all}
+use Rattle.part_transfers.specs.declared.operation.Handle.{Handle}
+use Rattle.part_transfers.specs.Table.{AreMarks, also}
+use Rattle.part_transfers.specs.Stands.{member_of, member_of_any}
+use Rattle.part_transfers.proofs.Marks.{marks_by}
+use Rattle.part_transfers.proofs.Lists.{any_take, or_assoc, at_get}
+use Rattle.part_transfers.proofs.transfers.Transfers.mark_all.Goals as goal
+
+pub loop-handle-preserved : goal.loop-handle-preserved
+loop-handle-preserved c test M =
+    let table = c.args.self.now.table in
+    let index = c.loop-handle.handle-index in
+    let before = also test (member_of_any table (take index c.args.handles.now)) in
+    let handle : Handle = get_or c.args.handles.now index (record { serial = 0 }) in
+    let within = c.loop-handle-test.true in
+    marks_by (also before (member_of table handle))
+    (also test (member_of_any table (take (index + 1) c.args.handles.now))) table c.mark_handle.new.marks
+    (λ there.
+    or_assoc (test there) (member_of_any table (take index c.args.handles.now) there) (member_of table handle there)
+    ∙ ap (λ later. test there || later)
+    (sym (any_take (λ (h : Handle). member_of table h there) c.args.handles.now index handle
+    (at_get c.args.handles.now index (record { serial = 0 }) (omega (arith, within))))))
+    (c.mark_handle.ensures before (c.loop-handle.invariant test M))
+
+pub returns : goal.returns
+returns c test M =
+    let past = c.loop-handle-test.false in
+    subst (λ handles. AreMarks (also test (member_of_any c.args.self.now.table handles)) c.args.self.now.table
+    c.loop-handle.marks)
+    (take_all c.loop-handle.handle-index c.args.handles.now (omega (arith, past))) (c.loop-handle.invariant test M)

@@ -1,0 +1,148 @@
+//! The tries of steps that are one call of the node's collectives.
+
+ghost use Rattle.std.specs.Prelude.{◌≡◌, ◌<◌};
+ghost use Rattle.node_collectives.specs.CollectivesState.{IsSameNode};
+ghost use Rattle.node_endpoint.specs.EndpointState.{ForItsRecord};
+ghost use Rattle.proc_collective_steps.specs.Outcomes.{sent_by};
+ghost use Rattle.proc_collective_steps.specs.Parts.{start_part, step_part, end_part};
+ghost use Rattle.proc_collective_steps.specs.Tries.{AreOf, IsPartTried, IsSameCore, context_at};
+
+use crate::last_answer::LastAnswer;
+use law_traces::ScriptAnswer;
+use node_collectives::Collectives;
+use node_core::SlotRef;
+use node_endpoint::Endpoint;
+use node_rules::Answer;
+use part_collective_area::Shape;
+use part_handlers::Handlers;
+
+/// Which thread of the node tries a step, and when.
+#[derive(Clone, Copy)]
+pub struct AtThread {
+    /// The thread.
+    pub thread: u16,
+    /// The time.
+    pub now: u64,
+}
+
+/// What a start of a collective says.
+#[derive(Clone, Copy)]
+pub struct Start {
+    /// The kind, the root and how many bytes the node gives.
+    pub shape: Shape,
+    /// Where these bytes begin.
+    pub from: u64,
+}
+
+/// How the try of such a step went.
+#[derive(Clone, Copy)]
+pub struct PartTried {
+    /// The slot of the message that it sent, if it sent one.
+    pub sent: Option<SlotRef>,
+    /// The answer of the step, where the try ended it.
+    pub ended: Option<ScriptAnswer>,
+    /// It may have changed how far the node's collectives are. Where it didn't say so, it left them.
+    pub moved: bool,
+}
+
+/// The slot of the message that the call of this answer sent.
+pub(crate) fn sent_by(last: &Option<Answer>) -> Option<SlotRef>
+    ensures { result ≡ sent_by last.now }
+{
+    match last {
+        Some(answer) => answer.sends(),
+        None => None,
+    }
+}
+
+/// The try of a step that starts the next phase.
+pub fn try_start<H: Handlers>(
+    endpoint: &mut Endpoint,
+    handlers: &H,
+    collectives: &mut Collectives,
+    at: AtThread,
+    asked: Start,
+) -> PartTried
+    requires thread { at.thread < endpoint.old.core.settings.threads }
+    requires of { AreOf endpoint.old.core collectives.old }
+    ensures same { IsSameCore endpoint.old.core endpoint.new.core }
+    ensures same_node { IsSameNode collectives.old collectives.new }
+    ensures tried { ForItsRecord endpoint.old (λ node.
+        let here = context_at (H.meaning handlers.now) endpoint.old at in
+        IsPartTried here node (start_part here asked.shape asked.from node collectives.old)
+        collectives.old result collectives.new endpoint.new) }
+{
+    let mut caller = LastAnswer {
+        endpoint,
+        handlers,
+        now: at.now,
+        last: None,
+    };
+    let answer = collectives.start(&mut caller, at.thread, asked.shape, asked.from);
+    PartTried {
+        sent: sent_by(&caller.last),
+        ended: Some(ScriptAnswer::Start(answer)),
+        moved: true,
+    }
+}
+
+/// The try of a step that sends the phase that is open on.
+pub fn try_step<H: Handlers>(
+    endpoint: &mut Endpoint,
+    handlers: &H,
+    collectives: &mut Collectives,
+    at: AtThread,
+) -> PartTried
+    requires thread { at.thread < endpoint.old.core.settings.threads }
+    requires of { AreOf endpoint.old.core collectives.old }
+    ensures same { IsSameCore endpoint.old.core endpoint.new.core }
+    ensures same_node { IsSameNode collectives.old collectives.new }
+    ensures tried { ForItsRecord endpoint.old (λ node.
+        let here = context_at (H.meaning handlers.now) endpoint.old at in
+        IsPartTried here node (step_part here node collectives.old) collectives.old result
+        collectives.new endpoint.new) }
+{
+    let mut caller = LastAnswer {
+        endpoint,
+        handlers,
+        now: at.now,
+        last: None,
+    };
+    let answer = collectives.step(&mut caller, at.thread);
+    PartTried {
+        sent: sent_by(&caller.last),
+        ended: Some(ScriptAnswer::Step(answer)),
+        moved: true,
+    }
+}
+
+/// The try of a step that tries to end the phase that is open, with the result at `dest`.
+pub fn try_end<H: Handlers>(
+    endpoint: &mut Endpoint,
+    handlers: &H,
+    collectives: &mut Collectives,
+    at: AtThread,
+    dest: u64,
+) -> PartTried
+    requires thread { at.thread < endpoint.old.core.settings.threads }
+    requires of { AreOf endpoint.old.core collectives.old }
+    ensures same { IsSameCore endpoint.old.core endpoint.new.core }
+    ensures same_node { IsSameNode collectives.old collectives.new }
+    ensures tried { ForItsRecord endpoint.old (λ node.
+        let here = context_at (H.meaning handlers.now) endpoint.old at in
+        IsPartTried here node (end_part here dest node collectives.old) collectives.old result
+        collectives.new endpoint.new) }
+{
+    let mut caller = LastAnswer {
+        endpoint,
+        handlers,
+        now: at.now,
+        last: None,
+    };
+    let answer = collectives.try_end(&mut caller, at.thread, dest);
+    PartTried {
+        sent: None,
+        ended: Some(ScriptAnswer::End(answer)),
+        moved: true,
+    }
+}

@@ -1,0 +1,33 @@
+-- What a turn does to a machine, but for what it keeps of the turn.
+-- Origin: this project's profile.
+use Rattle.std.specs.Prelude.{ℕ, ◌≡◌, true, false, if◌then◌else◌, length, is_some}
+use Rattle.base_turns.specs.declared.turns.Turned.{Turned}
+use Rattle.proc_machine.specs.Kept.{MachineKept, polls_at}
+use Rattle.proc_machine.specs.NodeState.{NodeState, NodeStands, after_turn, turned}
+use Rattle.proc_machine.specs.Turns.{TurnTaken, is_changed}
+use Rattle.proc_machine.specs.declared.turn.Done.{Done}
+
+-- the machine keeps what that turn sent, and the answer of the step that it ended
+abbrev pub with_done : MachineKept → Done → MachineKept
+with_done machine done = record machine { outgoing = done.outgoing; answer = done.ended }
+
+-- what it tells
+abbrev pub turned_of : TurnTaken → Done → Turned
+turned_of taken done = record {
+  changed = is_changed taken done;
+  stepped = is_some done.ended;
+  sends = if is_changed taken done then length done.outgoing else 0;
+}
+
+-- a machine took a turn: of every state for which it stood it stands for the state after it, where it keeps what that
+-- turn sent if it wasn't empty
+pub record MachineTakes (old : MachineKept) (taken : TurnTaken) (done : Done) (new : MachineKept) : Type 0 where
+  pub job : new.job ≡ old.job
+  pub changed : is_changed taken done ≡ true → (state : NodeState) → NodeStands old state
+      → NodeStands (with_done new done) (after_turn state taken.thread taken.now taken.got)
+  pub quiet : is_changed taken done ≡ false → (state : NodeState) → NodeStands old state
+      → NodeStands new (after_turn state taken.thread taken.now taken.got)
+  pub told : (state : NodeState) → NodeStands old state
+      → turned state taken.thread taken.now taken.got ≡ turned_of taken done
+  -- whether a thread polls changes only in a turn that ends a step
+  pub polls : is_some done.ended ≡ false → (thread : ℕ) → polls_at new thread ≡ polls_at old thread

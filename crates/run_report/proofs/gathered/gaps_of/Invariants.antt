@@ -1,6 +1,0 @@
-use Rattle.run_report.specs.Gathering.{GivesOne, GivesTo}
-use Rattle.run_report.proofs.gathered.gaps_of.Given as goal
-
--- what the places so far gave
-abbrev pub invariant-loop-place : goal.invariant-loop-place
-invariant-loop-place g l = GivesTo (GivesOne (g.R.Replays.gaps l.replays)) l.place l.all.items

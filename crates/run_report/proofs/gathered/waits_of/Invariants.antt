@@ -1,9 +1,0 @@
-use Rattle.std.specs.String.{string_bytes}
-use Rattle.run_report.specs.Gathering.{GivesTo}
-use Rattle.run_report.specs.Replays.{AreWaits}
-use Rattle.run_report.proofs.gathered.waits_of.Given as goal
-
--- what is told of the places so far
-abbrev pub invariant-loop-place : goal.invariant-loop-place
-invariant-loop-place g l =
-    GivesTo (AreWaits g.T.Texts g.R.Replays l.job l.replays) l.place (string_bytes l.text)

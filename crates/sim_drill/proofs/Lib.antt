@@ -1,0 +1,10 @@
+pub mod Drawn
+pub mod OnOk
+pub mod CountedWords
+pub mod Tallied
+pub mod SummaryText
+pub mod Drilled
+pub mod BareJob
+pub mod DrillLaws
+pub mod Calm
+pub use Rattle.sim_run.proofs.LinesWritten

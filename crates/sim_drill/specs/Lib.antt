@@ -1,0 +1,11 @@
+pub mod Draws
+pub mod Rounds
+pub mod Summary
+pub mod DrillEnds
+pub mod Counting
+pub mod Drilling
+pub use Rattle.sim_run.specs.RunEnds
+pub use Rattle.sim_run.specs.RunLaws
+pub use Rattle.sim_run.specs.RunText
+pub use Rattle.sim_run.specs.ScheduleRun
+pub use Rattle.sim_run.specs.declared.run.RunEnd

@@ -1,9 +1,0 @@
-use Rattle.std.proofs.Common.{sym, refl}
-use Rattle.step_text.proofs.BodyTables.{read_replies}
-use Rattle.step_text.proofs.bodies.named_reply_at.Goals as goal
-
-pub returns-in_default : goal.returns-in_default
-returns-in_default c = rw (read_replies c.args.name.now c.args.rest.now, sym c.named.ensures, c.in_default.is) refl
-
-pub returns : goal.returns
-returns c = rw (read_replies c.args.name.now c.args.rest.now, sym c.named.ensures, c.in-Some.is) c.reply_words_at.ensures

@@ -1,9 +1,0 @@
-use Rattle.std.proofs.Common.{sym, refl}
-use Rattle.step_text.proofs.WaitingTable.{read_waits}
-use Rattle.step_text.proofs.waiting_steps.named_wait_at.Goals as goal
-
-pub returns-in_default : goal.returns-in_default
-returns-in_default c = rw (read_waits c.args.name.now c.args.rest.now, sym c.named.ensures, c.in_default.is) refl
-
-pub returns : goal.returns
-returns c = rw (read_waits c.args.name.now c.args.rest.now, sym c.named.ensures, c.in-Some.is) c.words_at.ensures

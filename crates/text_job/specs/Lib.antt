@@ -1,0 +1,14 @@
+pub mod Locks
+pub mod Scopes
+pub mod CollectAreas
+pub mod Reading
+pub mod Places
+pub mod StepPieces
+pub mod PlanPieces
+pub mod JobReading
+pub mod HeadReading
+pub mod JobText
+pub mod Refusals
+pub use Rattle.node_vis.specs.Plans
+pub use Rattle.node_vis.specs.declared.shapes.Vis
+pub use Rattle.node_vis.specs.declared.shapes.Way

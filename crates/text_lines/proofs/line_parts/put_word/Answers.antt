@@ -1,7 +1,0 @@
-use Rattle.std.proofs.Common.{◌∷◌, []}
-use Rattle.gas_outside.proofs.Outboxes.{gathers_more}
-use Rattle.text_lines.proofs.line_parts.put_word.Goals as goal
-
-pub returns-clause-gathers : goal.returns-clause-gathers
-returns-clause-gathers g c =
-    gathers_more _ _ _ (32 ∷ []) c.args.word.now c.put.ensures.gathers c.put-2.ensures.gathers

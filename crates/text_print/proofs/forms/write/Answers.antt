@@ -1,0 +1,4 @@
+use Rattle.text_print.proofs.forms.write.Goals as goal
+
+pub returns : goal.returns
+returns g c = rw c.name.ensures at c.write_named_form.ensures

@@ -1,0 +1,7 @@
+use Rattle.base_io.proofs.Outboxes.{gathers_more}
+use Rattle.text_script.proofs.answer_texts.write_reason.Goals as goal
+
+pub returns : goal.returns
+returns g c =
+    gathers_more _ _ _ _ _ c.put_word.ensures.gathers
+    (gathers_more _ _ _ _ _ c.put_word-2.ensures.gathers c.put_end.ensures)

@@ -1,0 +1,10 @@
+use Rattle.std.proofs.Common.{◌∙◌, ap, false}
+use Rattle.text_calls.proofs.TableLaws.{counted}
+use Rattle.text_calls.specs.Tables.{fits}
+use Rattle.text_steps.specs.Scripts.{waiting_row}
+use Rattle.text_steps.proofs.waiting_forms.WaitingForm.fits.Goals as goal
+
+pub returns : goal.returns
+returns c =
+    c.fits.ensures ∙ ap (fits c.row.result.1) c.words_left.ensures.value
+    ∙ counted (λ bytes. false) 0 (waiting_row c.args.self).shape c.row.result.1 c.args.rest.now c.row.ensures.count_is

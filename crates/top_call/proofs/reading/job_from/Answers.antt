@@ -1,7 +1,0 @@
-use Rattle.top_call.proofs.reading.job_from.Goals as goal
-
-pub returns-in-Ok : goal.returns-in-Ok
-returns-in-Ok g c = c.in-Ok.ensures.0
-
-pub returns-in-Err : goal.returns-in-Err
-returns-in-Err g c = c.in-Err.ensures
