@@ -4,30 +4,29 @@ ghost use Rattle.std.specs.Prelude.{◌≡◌, IfOk, []};
 ghost use Rattle.part_handlers.specs.LogState.{noted, log_of, from_end};
 
 use crate::rules::Violation;
+use circular_buffer::HeapCircularBuffer;
 use std::alloc::{AllocError, Global};
-use std::collections::VecDeque;
 use std::marker::Model;
 
 /// How many of the newest violations a log keeps.
 const KEPT: usize = 64;
 
-/// How many violations were noted, and the 64 newest of them (profile).
+/// How many violations were noted, and the 64 newest of them, in a circular buffer (profile).
 #[derive(Drop)]
 pub struct Log {
-    newest: VecDeque<Violation>,
+    newest: HeapCircularBuffer<Violation>,
     noted: u64,
 }
 
 impl Model for Log {
-    ghost use Rattle.std.specs.Prelude.{◌≤◌};
-    ghost use Rattle.std.specs.VecDeque.{deque_len, deque_capacity};
+    ghost use Rattle.std.specs.Prelude.{◌≡◌};
     ghost use Rattle.part_handlers.specs.LogState.{Logged};
 
     ghost Value = { Logged };
 
     ghost view = { λ l. record { count = l.noted; newest = l.newest.items } };
 
-    ghost invariant = { λ l. (deque_len l.newest ≤ 64) × (64 ≤ deque_capacity l.newest) };
+    ghost invariant = { λ l. l.newest.capacity ≡ 64 };
 }
 
 impl Log {
@@ -38,7 +37,7 @@ impl Log {
         ensures { IfOk result (λ log. log ≡ log_of []) }
     {
         Ok(Log {
-            newest: VecDeque::with_capacity(alloc, KEPT)?,
+            newest: HeapCircularBuffer::with_capacity(alloc, KEPT)?,
             noted: 0,
         })
     }
@@ -48,10 +47,7 @@ impl Log {
         ensures { self.new ≡ noted self.old violation }
     {
         self.noted = self.noted.saturating_add(1);
-        if self.newest.len() == KEPT {
-            self.newest.pop_front();
-        }
-        self.newest.push_back_reserved(violation);
+        self.newest.push_back(violation);
     }
 
     /// How many violations were noted; it stands still at the greatest `u64`.
@@ -65,6 +61,6 @@ impl Log {
     pub fn back(&self, i: usize) -> Option<Violation>
         ensures { result ≡ from_end self.now.newest i }
     {
-        self.newest.iter().rev().nth(i).copied()
+        self.newest.nth_back(i).copied()
     }
 }

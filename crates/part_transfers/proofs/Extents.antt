@@ -1,59 +1,46 @@
 -- How far the places are taken, when one is written.
-use Rattle.std.proofs.Common.{◌≡◌, ◌≢◌, Bool, inl, inr, ℕ, suc, ◌<◌, ◌≤◌, true, false, true≢false, List, Option, None, Some}
+use Rattle.std.proofs.Common.{◌≡◌, Bool, inl, inr, ℕ, suc, ◌<◌, ◌≤◌, true, false, List, Option, None, Some}
 use Rattle.std.proofs.Common.{zero, refl, sym, ap, ◌∙◌, arith, replicate}
 use Rattle.std.specs.Prelude.{is_some, slice_set}
 use Rattle.std.specs.List.{slice_get}
 use Rattle.part_transfers.specs.declared.table.OperationRecord.{OperationRecord}
-use Rattle.part_transfers.specs.declared.extent.Extent.{Extent}
 use Rattle.std.specs.List.{list_any}
 use Rattle.std.proofs.lemmas.Bool.{cases_lt}
-use Rattle.part_transfers.specs.Table.{flat, on_place, dropped}
-use Rattle.part_transfers.specs.Extent.{IsExtent}
+use Rattle.part_transfers.specs.Table.{flat, on_place}
+use Rattle.part_transfers.specs.Places.{IsExtent}
 use Rattle.part_transfers.proofs.Tests.{get_set, none_picked}
 
--- what the new bounds owe where a place was written
-pub record Widens (old : Extent) (place : ℕ) (there : Option OperationRecord) (new : Extent) : Type 0 where
-  pub below : (other : ℕ) → other < new.low → other ≢ place → other < old.low
-  pub here : place < new.low → is_some there ≡ true
-  pub above : is_some there ≡ true → place < new.end
-  pub rest : old.end ≤ new.end
-  pub within : new.end ≤ 256
-
-pub extent_set : (old new : Extent) (places : List (Option OperationRecord)) (place : ℕ) (there : Option OperationRecord)
-    → IsExtent old places → Widens old place there new → IsExtent new (slice_set places place there)
-extent_set old new places place there E W = record {
-  low = λ other less at. elim (get_set places place there other None at) [
-    | inl same ↦ (let less_here : place < new.low = omega (arith, same.0, less) in
-        absurd (true≢false (sym (W.here less_here) ∙ ap is_some same.1)))
-    | inr apart ↦ E.low other (W.below other less apart.0) apart.1
-  ];
+-- a place was written: within the new extent, where it is taken
+pub extent_set : (old new : ℕ) (places : List (Option OperationRecord)) (place : ℕ) (there : Option OperationRecord)
+    → IsExtent old places → old ≤ new → new ≤ 256 → (is_some there ≡ true → place < new)
+    → IsExtent new (slice_set places place there)
+extent_set old new places place there E rest within above = record {
   end = λ other standing at. elim (get_set places place there other (Some standing) at) [
-    | inl same ↦ (let more = W.above (ap is_some same.1) in omega (arith, same.0, more))
-    | inr apart ↦ (let less = E.end other standing apart.1 in omega (arith, less, W.rest))
+    | inl same ↦ (let more = above (ap is_some same.1) in omega (arith, same.0, more))
+    | inr apart ↦ (let less = E.end other standing apart.1 in omega (arith, less, rest))
   ];
-  within = W.within;
+  within = within;
 }
 
 -- a place beyond is blank
-pub flat_beyond : (extent : Extent) (places : List (Option OperationRecord)) (place : ℕ) → IsExtent extent places
-    → extent.end ≤ place → flat (slice_get places place) ≡ None
+pub flat_beyond : (extent : ℕ) (places : List (Option OperationRecord)) (place : ℕ) → IsExtent extent places
+    → extent ≤ place → flat (slice_get places place) ≡ None
 flat_beyond extent places place E far = by (slice_get places place) (λ there at. E.end place there at)
   where
-    by : (found : Option (Option OperationRecord)) → ((there : OperationRecord) → found ≡ Some (Some there) → place < extent.end)
+    by : (found : Option (Option OperationRecord)) → ((there : OperationRecord) → found ≡ Some (Some there) → place < extent)
         → flat found ≡ None
     by None less = refl
     by (Some None) less = refl
     by (Some (Some there)) less = (let low = less there refl in absurd (omega (arith, low, far)))
 
-pub blank_beyond : (extent : Extent) (places : List (Option OperationRecord)) (place : ℕ) (there : Option OperationRecord)
-    → IsExtent extent places → extent.end ≤ place → slice_get places place ≡ Some there → there ≡ None
+pub blank_beyond : (extent : ℕ) (places : List (Option OperationRecord)) (place : ℕ) (there : Option OperationRecord)
+    → IsExtent extent places → extent ≤ place → slice_get places place ≡ Some there → there ≡ None
 blank_beyond extent places place there E far at =
     sym (ap flat at) ∙ flat_beyond extent places place E far
 
 -- at the start all are blank
-pub extent_blank : (many : ℕ) → IsExtent (record { low = 0; end = 0 }) (replicate many None)
+pub extent_blank : (many : ℕ) → IsExtent 0 (replicate many None)
 extent_blank many = record {
-  low = λ place less at. omega (arith, less);
   end = λ place there at. absurd (none_there many place there at);
   within = omega arith;
 }
@@ -64,27 +51,19 @@ extent_blank many = record {
     none_there (suc many) (suc place) there at = none_there many place there at
 
 -- where no place of the extent passes, none does
-pub none_within : (test : OperationRecord → Bool) (extent : Extent) (places : List (Option OperationRecord)) → IsExtent extent places
-    → ((place : ℕ) (there : Option OperationRecord) → place < extent.end → slice_get places place ≡ Some there
+pub none_within : (test : OperationRecord → Bool) (extent : ℕ) (places : List (Option OperationRecord)) → IsExtent extent places
+    → ((place : ℕ) (there : Option OperationRecord) → place < extent → slice_get places place ≡ Some there
     → on_place test there ≡ false)
     → list_any (on_place test) places ≡ false
 none_within test extent places E none = none_picked (on_place test) places (λ place there at.
-    elim (cases_lt place extent.end) [
+    elim (cases_lt place extent) [
       | inl less ↦ none place there less at
       | inr far ↦ ap (on_place test) (blank_beyond extent places place there E far at)
     ])
 
--- a blank place stays blank, whatever is dropped
-pub dropped_beyond : (test : OperationRecord → Bool) (extent : Extent) (places : List (Option OperationRecord)) (place : ℕ)
-    (there : Option OperationRecord)
-    → IsExtent extent places → extent.end ≤ place → slice_get places place ≡ Some there → there ≡ dropped test there
-dropped_beyond test extent places place there E far at =
-    let blank = blank_beyond extent places place there E far at in
-    blank ∙ sym (ap (dropped test) blank)
-
--- and has no mark
-pub marks_beyond : (test other : OperationRecord → Bool) (extent : Extent) (places : List (Option OperationRecord)) (place : ℕ)
-    → IsExtent extent places → extent.end ≤ place
+-- a place beyond has no mark
+pub marks_beyond : (test other : OperationRecord → Bool) (extent : ℕ) (places : List (Option OperationRecord)) (place : ℕ)
+    → IsExtent extent places → extent ≤ place
     → on_place test (flat (slice_get places place)) ≡ on_place other (flat (slice_get places place))
 marks_beyond test other extent places place E far =
     let blank = flat_beyond extent places place E far in

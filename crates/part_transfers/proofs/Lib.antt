@@ -3,6 +3,7 @@ pub mod Entries
 pub mod Outs
 pub mod Said
 pub mod Tests
+pub mod Places
 pub mod Extents
 pub mod Issued
 pub mod Counts

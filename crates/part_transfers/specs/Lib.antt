@@ -2,7 +2,7 @@ pub mod Operation
 pub mod Syncs
 pub mod Queue
 pub mod Table
-pub mod Extent
+pub mod Places
 pub mod SlotsState
 pub mod Outs
 pub mod Stands

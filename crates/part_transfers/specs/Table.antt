@@ -21,6 +21,10 @@ taken [] = 0
 taken (None ∷ later) = taken later
 taken (Some item ∷ later) = suc (taken later)
 
+-- a record stands in the place
+abbrev pub HasRecordAt : List (Option OperationRecord) → (place : ℕ) → Type 0
+HasRecordAt places place = (there : OperationRecord) × (slice_get places place ≡ Some (Some there))
+
 -- a test of a place: of what stands there
 abbrev pub on_place : (OperationRecord → Bool) → Option OperationRecord → Bool
 on_place test None = false

@@ -1,15 +1,16 @@
-//! The records of a node's operations, in 256 places.
+//! The records of a node's operations, in the 256 places of a slab.
 
 ghost use Rattle.std.specs.Prelude.{◌≡◌, ◌<◌, ◌≤◌, ℕ, List, Option, None, Some, length, replicate, slice_get};
 ghost use Rattle.std.specs.Prelude.{slice_set, IfOk, IfSome, IfNone, Bool, not, ◌||◌, ◌&&◌};
 ghost use Rattle.part_transfers.specs.Syncs.{is_kind, flag_at};
 ghost use Rattle.part_transfers.specs.Table.{taken, is_unissued, waits_by, passes, picked, on_place, picks, ready, IsLeast};
 ghost use Rattle.part_transfers.specs.Table.{unless_marked, also, has_passing, AreMarks, IsPlaceOf, AreDropped};
+ghost use Rattle.part_transfers.specs.Table.{HasRecordAt};
 ghost use Rattle.std.specs.List.{list_any};
 
-use crate::extent::Extent;
 use crate::operation::{ImplicitKinds, Transfer};
 use crate::queue::Queue;
+use slab::Slab;
 use std::alloc::{AllocError, Global};
 use std::marker::Model;
 
@@ -111,13 +112,6 @@ fn picks(place: Option<OperationRecord>, mark: bool, check: Check) -> bool
     }
 }
 
-/// What stays there where what is marked goes.
-fn unless_marked(place: Option<OperationRecord>, mark: bool) -> Option<OperationRecord>
-    ensures { result ≡ unless_marked mark place }
-{
-    if mark { None } else { place }
-}
-
 /// The flag at a place; where there is none it isn't set.
 pub(crate) fn flag_at(flags: &[bool], place: usize) -> bool
     ensures { result ≡ flag_at flags.now place }
@@ -178,39 +172,46 @@ fn is_match(place: Option<OperationRecord>, pick: Pick, check: Check) -> bool
     }
 }
 
-/// 256 places. Those of the records with an unissued chunk wait in the queue. The extent bounds each search to the
-/// places that are taken.
+/// 256 places: the keys of a slab, which tells the next blank one. Those of the records with an unissued chunk wait in
+/// the queue. The extent bounds each search to the places that are taken.
 #[derive(Drop)]
 pub(crate) struct Table {
-    places: Vec<Option<OperationRecord>>,
+    records: Slab<OperationRecord>,
     queue: Queue,
-    extent: Extent,
+    /// Each place from it on is blank.
+    extent: usize,
 }
 
 impl Model for Table {
-    ghost use Rattle.std.specs.Prelude.{List, Option, ◌≡◌, length};
+    ghost use Rattle.std.specs.Prelude.{List, Option, ◌≡◌};
     ghost use Rattle.part_transfers.specs.Table.{waits_at};
+    ghost use Rattle.part_transfers.specs.Places.{record_places, IsExtent};
     ghost use Rattle.part_transfers.specs.Queue.{Queues};
-    ghost use Rattle.part_transfers.specs.Extent.{IsExtent};
     ghost use Rattle.part_transfers.specs.declared.table.OperationRecord.{OperationRecord};
 
     ghost Value = { List (Option OperationRecord) };
 
-    ghost view = { λ t. t.places.items };
+    ghost view = { λ t. record_places t.records };
 
-    ghost invariant = { λ t. (length t.places.items ≡ 256)
-        × Queues (waits_at t.places.items) t.queue × IsExtent t.extent t.places.items };
+    ghost invariant = { λ t. (t.records.capacity ≡ 256)
+        × Queues (waits_at (record_places t.records)) t.queue
+        × IsExtent t.extent (record_places t.records) };
 }
 
 impl Table {
-    /// All places are blank.
+    /// All places are blank. It takes the memory of 256 records and touches none of it; no later call takes any.
     pub fn new(alloc: Global) -> Result<Table, AllocError>
         ensures { IfOk result (λ table. table ≡ replicate 256 None) }
     {
+        let records = Slab::with_capacity(alloc, 256)?;
+        // A slab may say that it has room for more: then some key would be no place.
+        if records.capacity() != 256 {
+            return Err(AllocError);
+        }
         Ok(Table {
-            places: vec![in alloc; None; 256]?,
+            records,
             queue: Queue::new(alloc)?,
-            extent: Extent { low: 0, end: 0 },
+            extent: 0,
         })
     }
 
@@ -219,18 +220,54 @@ impl Table {
         requires { place < 256 }
         ensures { slice_get self.now place ≡ Some result }
     {
-        self.places[place]
+        self.records.get(place).copied()
     }
 
-    /// Puts this into a place.
-    pub fn set(&mut self, place: usize, operation: Option<OperationRecord>)
-        requires { place < 256 }
-        ensures { self.new ≡ slice_set self.old place operation }
+    /// A record takes a blank place, if there is one: which. The slab knows it, so no place is looked at.
+    pub fn insert(&mut self, operation: OperationRecord) -> Option<usize>
+        ensures blank { IfSome result (λ place. slice_get self.old place ≡ Some None) }
+        ensures put { IfSome result (λ place.
+            self.new ≡ slice_set self.old place (Some operation)) }
+        ensures full { IfNone result ((taken self.old ≡ 256) × (self.new ≡ self.old)) }
+        ensures many { length self.old ≡ 256 }
     {
-        self.queue
-            .change(place, waits_by(self.places[place]), waits_by(operation));
-        self.places[place] = operation;
-        self.extent = self.extent.after_write(place, operation.is_some());
+        if self.records.len() == self.records.capacity() {
+            return None;
+        }
+        let place = self.records.insert_reserved(operation);
+        self.queue.change(place, None, waits_by(Some(operation)));
+        self.extent = self.extent.max(place + 1);
+        Some(place)
+    }
+
+    /// Another record stands in a place that is taken.
+    pub fn change(&mut self, place: usize, operation: OperationRecord)
+        requires { HasRecordAt self.old place }
+        ensures { self.new ≡ slice_set self.old place (Some operation) }
+    {
+        let was = waits_by(self.at(place));
+        self.queue.change(place, was, waits_by(Some(operation)));
+        self.records[place] = operation;
+    }
+
+    /// A place becomes blank.
+    fn remove(&mut self, place: usize)
+        requires { place < 256 }
+        ensures { self.new ≡ slice_set self.old place None }
+    {
+        let removed = self.records.try_remove(place);
+        self.queue.change(place, waits_by(removed), None);
+    }
+
+    /// A place becomes blank, if it is marked.
+    fn remove_marked(&mut self, place: usize, mark: bool)
+        requires { place < 256 }
+        ensures { (there : Option OperationRecord) → slice_get self.old place ≡ Some there
+            → self.new ≡ slice_set self.old place (unless_marked mark there) }
+    {
+        if mark {
+            self.remove(place);
+        }
     }
 
     /// Whether no record has an unissued chunk.
@@ -258,29 +295,11 @@ impl Table {
         None
     }
 
-    /// The first place that is blank. It looks at no place below the extent's `low`, which are taken.
-    pub fn first_blank(&self) -> Option<usize>
-        ensures found { IfSome result (λ place. slice_get self.now place ≡ Some None) }
-        ensures full { IfNone result (taken self.now ≡ 256) }
-        ensures many { length self.now ≡ 256 }
-    {
-        for place in self.extent.low..self.extent.end {
-            if self.at(place).is_none() {
-                return Some(place);
-            }
-        }
-        if self.extent.end < 256 {
-            Some(self.extent.end)
-        } else {
-            None
-        }
-    }
-
     /// Whether some record is meant.
     pub fn any(&self, pick: Pick) -> bool
         ensures { result ≡ list_any (on_place (picked pick)) self.now }
     {
-        for place in 0..self.extent.end {
+        for place in 0..self.extent {
             if is_picked(self.at(place), pick) {
                 return true;
             }
@@ -292,7 +311,7 @@ impl Table {
     pub fn any_passes(&self, pick: Pick, check: Check) -> bool
         ensures { result ≡ has_passing (picked pick) check self.now }
     {
-        for place in 0..self.extent.end {
+        for place in 0..self.extent {
             if is_match(self.at(place), pick, check) {
                 return true;
             }
@@ -305,7 +324,7 @@ impl Table {
         ensures { (test : OperationRecord → Bool) → AreMarks test self.now marks.old
             → AreMarks (also test (picked pick)) self.now marks.new }
     {
-        for place in 0..self.extent.end {
+        for place in 0..self.extent {
             marks[place] = either(marks[place], is_picked(self.at(place), pick));
         }
     }
@@ -315,7 +334,7 @@ impl Table {
         ensures { (test : OperationRecord → Bool) → AreMarks test self.now marks.now
             → result ≡ has_passing test check self.now }
     {
-        for place in 0..self.extent.end {
+        for place in 0..self.extent {
             if picks(self.at(place), flag_at(marks, place), check) {
                 return true;
             }
@@ -339,7 +358,7 @@ impl Table {
         ensures end { (place : ℕ) (there : OperationRecord)
             → slice_get self.now place ≡ Some (Some there) → place < result }
     {
-        for place in (0..self.extent.end).rev() {
+        for place in (0..self.extent).rev() {
             if self.at(place).is_some() {
                 return place + 1;
             }
@@ -351,16 +370,16 @@ impl Table {
     fn lower_end(&mut self)
         ensures { self.new ≡ self.old }
     {
-        self.extent.end = self.taken_end();
+        self.extent = self.taken_end();
     }
 
-    /// The records that are marked go.
+    /// The records that are marked go, the last place first, so that the next operation takes the first of their places.
     pub fn drop_marked(&mut self, marks: &[bool; 256])
         ensures { (test : OperationRecord → Bool) → AreMarks test self.old marks.now
             → AreDropped test self.old self.new }
     {
-        for place in 0..self.extent.end {
-            self.set(place, unless_marked(self.at(place), flag_at(marks, place)));
+        for place in (0..self.extent).rev() {
+            self.remove_marked(place, flag_at(marks, place));
         }
         self.lower_end();
     }

@@ -91,25 +91,22 @@ impl Transfers {
             Stands self.new (after_begin thread transfer mode operations)) }
         ensures room { room_of self.new ≡ room_of self.old }
     {
-        let Some(place) = self.table.first_blank() else {
-            return Err(TooMany);
-        };
         let Some(number) = self.given.checked_add(1) else {
             return Err(TooMany);
         };
+        let operation = OperationRecord {
+            number,
+            thread,
+            transfer,
+            implicit: is_implicit(mode),
+            region: region_of(number, mode),
+            issued: 0,
+            returned: 0,
+        };
+        let Some(_place) = self.table.insert(operation) else {
+            return Err(TooMany);
+        };
         self.given = number;
-        self.table.set(
-            place,
-            Some(OperationRecord {
-                number,
-                thread,
-                transfer,
-                implicit: is_implicit(mode),
-                region: region_of(number, mode),
-                issued: 0,
-                returned: 0,
-            }),
-        );
         Ok(Handle { serial: number })
     }
 
@@ -156,7 +153,7 @@ impl Transfers {
             unreachable!();
         };
         operation.issued += 1;
-        self.table.set(place, Some(operation));
+        self.table.change(place, operation);
         let waiting = Waiting { request, place };
         self.slots.set(next.transfer.target(), slot, Some(waiting));
     }
@@ -181,7 +178,7 @@ impl Transfers {
             unreachable!();
         };
         operation.returned += 1;
-        self.table.set(waiting.place, Some(operation));
+        self.table.change(waiting.place, operation);
         self.slots.set(to, slot, None);
         true
     }

@@ -3,7 +3,7 @@ use Rattle.std.specs.List.{slice_get}
 use Rattle.std.proofs.lemmas.Bool.{cases_eq}
 use Rattle.std.proofs.lemmas.Option.{same_Some}
 use Rattle.part_transfers.specs.Table.{on_place, picked}
-use Rattle.part_transfers.specs.Extent.{IsExtent}
+use Rattle.part_transfers.specs.Places.{IsExtent}
 use Rattle.part_transfers.proofs.Tests.{any_from}
 use Rattle.part_transfers.proofs.Extents.{none_within}
 use Rattle.part_transfers.proofs.table.Table.any.Goals as goal

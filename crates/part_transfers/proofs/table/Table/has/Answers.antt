@@ -4,7 +4,7 @@ use Rattle.std.proofs.lemmas.Bool.{cases_eq}
 use Rattle.std.proofs.lemmas.Option.{same_Some}
 use Rattle.part_transfers.specs.Syncs.{flag_at}
 use Rattle.part_transfers.specs.Table.{on_place, picks, passes}
-use Rattle.part_transfers.specs.Extent.{IsExtent}
+use Rattle.part_transfers.specs.Places.{IsExtent}
 use Rattle.part_transfers.proofs.Tests.{any_from}
 use Rattle.part_transfers.proofs.Extents.{none_within}
 use Rattle.part_transfers.proofs.Marks.{picks_is}

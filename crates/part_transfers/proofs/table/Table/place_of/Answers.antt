@@ -1,6 +1,7 @@
-use Rattle.std.proofs.Common.{length, sym, ap, ◌∙◌, subst}
+use Rattle.std.proofs.Common.{subst}
 use Rattle.part_transfers.specs.Queue.{Queues}
 use Rattle.part_transfers.specs.Table.{waits_at}
+use Rattle.part_transfers.proofs.Places.{many_places}
 use Rattle.part_transfers.proofs.Waiting.{place_found, place_missed, place_within}
 use Rattle.part_transfers.proofs.table.Table.place_of.Goals as goal
 
@@ -10,7 +11,7 @@ returns c =
     let queue = c.self.inside.queue in
     let Q = subst (λ ps. Queues (waits_at ps) queue) c.self.view_is c.self.invariant.1 in
     let found = place_found places queue c.args.number c.place_of.result Q c.place_of.ensures.found in
-    let many = ap length (sym c.self.view_is) ∙ c.self.invariant.0 in
+    let many = many_places c.self.inside.records places c.self.view_is c.self.invariant.0 in
     record {
       found = found;
       none = place_missed places queue c.args.number c.place_of.result Q c.place_of.ensures.none;

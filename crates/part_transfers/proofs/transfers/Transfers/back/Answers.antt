@@ -30,11 +30,6 @@ at-requires-2 c =
     place_within c.args.self.now c.requires.0 c.args.to c.args.slot c.in-Some.waiting c.requires.1
     (sym c.at.ensures ∙ c.in-Some.is)
 
-pub set-requires : goal.set-requires
-set-requires c =
-    place_within c.args.self.now c.requires.0 c.args.to c.args.slot c.in-Some.waiting c.requires.1
-    (sym c.at.ensures ∙ c.in-Some.is)
-
 pub overflow_add-operation : goal.overflow_add-operation
 overflow_add-operation c =
     let less = unreturned c.args.self.now c.requires.0 c.args.to c.args.slot c.in-Some.waiting c.in-Some-at.operation
@@ -51,12 +46,12 @@ pub returns-clause-stands : goal.returns-clause-stands
 returns-clause-stands c operations S =
     subst (λ places. Stands (record c.args.self.now {
       table = places;
-      slots = c.set-2.new.self;
-    }) (come_back c.args.to c.args.slot c.args.number operations)) (sym c.set.ensures)
+      slots = c.set.new.self;
+    }) (come_back c.args.to c.args.slot c.args.number operations)) (sym c.change.ensures)
     (subst (λ number. Stands (record c.args.self.now {
       table = set c.args.self.now.table c.in-Some.waiting.place
           (Some (record c.in-Some-at.operation { returned = c.in-Some-at.operation.returned + 1 }));
-      slots = c.set-2.new.self;
+      slots = c.set.new.self;
     }) (come_back c.args.to c.args.slot number operations)) c.if-waiting-number.false
     (stands_returned c.args.self.now operations c.in-Some-at.operation c.args.to c.args.slot c.in-Some.waiting
-    c.set-2.new.self S (sym c.at.ensures ∙ c.in-Some.is) c.in-Some-at.ensures c.set-2.ensures))
+    c.set.new.self S (sym c.at.ensures ∙ c.in-Some.is) c.in-Some-at.ensures c.set.ensures))

@@ -29,16 +29,16 @@ returns-clause-stands c can bytes operations S next free =
     let H = subst (λ node. HasSet c.args.self.now.slots node c.args.slot (Some (record {
       request = c.args.request;
       place = c.in-Some.place;
-    })) c.set-2.new.self) c.target.ensures c.set-2.ensures in
+    })) c.set.new.self) c.target.ensures c.set.ensures in
     subst (λ places. Stands (record c.args.self.now {
       table = places;
-      slots = c.set-2.new.self;
-    }) (issue (target c.args.next.now.transfer) c.args.slot c.args.request bytes operations)) (sym c.set.ensures)
+      slots = c.set.new.self;
+    }) (issue (target c.args.next.now.transfer) c.args.slot c.args.request bytes operations)) (sym c.change.ensures)
     (subst (Stands (record c.args.self.now {
       table = set c.args.self.now.table c.in-Some.place
           (Some (record c.in-Some-at.operation { issued = c.in-Some-at.operation.issued + 1 }));
-      slots = c.set-2.new.self;
+      slots = c.set.new.self;
     })) (ap (change (with_sent c.args.slot c.args.request bytes) operations) number
     ∙ sym (first.issued c.args.slot c.args.request bytes))
     (stands_noted c.args.self.now operations c.in-Some.place c.in-Some-at.operation
-    (target c.args.next.now.transfer) c.args.slot c.args.request bytes c.set-2.new.self S at to free H))
+    (target c.args.next.now.transfer) c.args.slot c.args.request bytes c.set.new.self S at to free H))
