@@ -2,6 +2,7 @@ pub mod Values
 pub mod Telling
 pub mod Peeked
 pub mod Opened
+pub mod NextDue
 mod Crosses
 mod Registering
 mod CollectivesCross

@@ -6,6 +6,7 @@ pub mod Lawful
 pub mod Telling
 pub mod Calls
 pub mod Peeking
+pub mod Retransmission
 pub mod Opening
 pub mod Batches
 pub mod OwnHandlers

@@ -1,6 +1,6 @@
 //! A node with one thread.
 
-ghost use Rattle.std.specs.Prelude.{◌≡◌, ◌<◌, IfOk, length, replicate};
+ghost use Rattle.std.specs.Prelude.{◌≡◌, ◌<◌, IfOk, Some, length, replicate};
 ghost use Rattle.part_handlers.specs.Runs.{Meaning};
 ghost use Rattle.spec_node.specs.Record.{opening_node};
 ghost use Rattle.node_core.specs.Kept.{segment_of};
@@ -10,13 +10,15 @@ ghost use Rattle.node_endpoint.specs.EndpointState.{IsNodeOf, RunsNone};
 ghost use Rattle.gasnet_c.specs.Batches.{AsksBatch, batch_for};
 ghost use Rattle.gasnet_c.specs.Whole.{IsForOne};
 ghost use Rattle.gasnet_c.specs.Peeking.{Peeks};
+ghost use Rattle.gasnet_c.specs.Retransmission.{TellsAgain, TellsNextDue};
 ghost use Rattle.gasnet_c.specs.Telling.{IsMark, TellsOf};
 
 use crate::atomics::{Operation, batch_for, request};
 use crate::coming::{Coming, peeked};
 use crate::replay::MARK;
 use crate::serving::OwnHandlers;
-use crate::told::{Told, bad, tell};
+use crate::told::{Told, bad, sent, tell};
+use node_core::{Side, SlotRef};
 use node_endpoint::Endpoint;
 use node_rules::Event;
 use part_handlers::{Handlers, Table};
@@ -119,6 +121,29 @@ impl Node {
         ensures { Peeks self.now bytes.now result }
     {
         peeked(&self.endpoint, bytes)
+    }
+
+    /// The datagram of the open request to a node in that slot, copied into the buffer where it fits. The answer is how
+    /// many bytes it has, and 0 where there is none.
+    pub fn open_request(&self, to: u16, slot: u16, buffer: &mut [u8]) -> u64
+        ensures { TellsAgain (Some self.now) to slot result buffer.new }
+    {
+        let at = SlotRef {
+            side: Side::Request,
+            peer: to,
+            slot,
+        };
+        sent(&self.endpoint, Some(at), buffer)
+    }
+
+    /// From which time on a tick sends a request again; the greatest one where none before it does.
+    pub fn next_due(&self) -> u64
+        ensures { TellsNextDue (Some self.now) result }
+    {
+        match self.endpoint.next_due() {
+            Some(time) => time,
+            None => u64::MAX,
+        }
     }
 
     /// How many bytes the segment has.

@@ -233,7 +233,7 @@ fn copied(found: Option<&[u8]>, buffer: &mut [u8]) -> u64
 }
 
 /// Copies the datagram that the answer sends into the buffer, where it fits, and tells how many bytes it has.
-fn sent(endpoint: &Endpoint, place: Option<SlotRef>, buffer: &mut [u8]) -> u64
+pub fn sent(endpoint: &Endpoint, place: Option<SlotRef>, buffer: &mut [u8]) -> u64
     ensures { IsSent endpoint.now place result buffer.new }
 {
     match place {

@@ -10,6 +10,7 @@ use Rattle.law_messages.specs.MessageLaws.{MessagesHold}
 use Rattle.law_messages.specs.Requests.{RunLeaves, ReplyLeaves}
 use Rattle.law_messages.proofs.Accepted.{accepted_stays}
 use Rattle.law_messages.proofs.Events.{all_holds, always_around}
+use Rattle.law_messages.proofs.Repeats.{open_was_sent}
 use Rattle.law_messages.proofs.Requests.{run_leaves, reply_leaves}
 use Rattle.law_messages.proofs.Steps.{request_step}
 
@@ -33,4 +34,6 @@ messages_hold settings table meaning range lawful =
           (λ moment. ComesBack job name moment → ReplyLeaves settings table meaning name reply moment) events sound
           among (λ moment around is comes.
           reply_leaves settings table meaning name reply (after_all job events) moment sound around is replied comes);
+      repeats = λ events node to slot bytes among is.
+          open_was_sent settings table meaning events node to slot bytes sound among is;
     }

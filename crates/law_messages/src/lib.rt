@@ -13,10 +13,12 @@ ghost use Rattle.law_messages.specs.Ranges.{WritesStand, RangesStay};
 /// Carries what this crate proves, for the check alone: it has no code.
 ///
 /// `messages`, of every run: an event leaves requests and runs as they were, or adds the request that a thread or a
-/// tick asked, or the run of one that came. A thread's request that is accepted is among them from then on. Whenever a request runs, its target's segment is what the run of its
-/// handler left, and that run's reply is kept. Whenever the reply comes back, the requester's segment is what the run
-/// of the reply's handler left. `stand`: the bytes of a write stand at its place. `stay`: a range stays as it is where
-/// writes have none of its bytes.
+/// tick asked, or the run of one that came. A thread's request that is accepted is among them from then on. Whenever a
+/// request runs, its target's segment is what the run of its handler left, and that run's reply is kept. Whenever the
+/// reply comes back, the requester's segment is what the run of the reply's handler left. The message in the slot of a
+/// request that isn't back was sent (`EachOpenWasSent`): to send it once more, byte for byte, repeats what was sent, as
+/// the network may. `stand`: the bytes of a write stand at its place. `stay`: a range stays as it is where writes have
+/// none of its bytes.
 pub fn every_message()
     ensures messages { InEveryJob MessagesHold }
     ensures stand { WritesStand }

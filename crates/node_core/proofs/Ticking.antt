@@ -9,8 +9,8 @@ use Rattle.std.proofs.lemmas.Bool.{cases_Bool, cases_eq, cases_lt}
 use Rattle.std.proofs.lemmas.Option.{same_Some}
 use Rattle.wire_message.specs.Parameters.{credits_of}
 use Rattle.part_window.specs.SlotsState.{PeerState, slot_at, with_slot_changed}
-use Rattle.part_window.specs.Due.{IsDue as SlotsDue}
-use Rattle.node_core.specs.Known.{IsDue}
+use Rattle.part_window.specs.Due.{IsDue as SlotsDue, IsNextDue as SlotsNextDue}
+use Rattle.node_core.specs.Known.{IsDue, IsNextDue}
 use Rattle.part_window.specs.Due.{due_at, due_time, sent_again, IsFirstDue, NoneIsDue}
 use Rattle.spec_node.specs.declared.answer.SlotRef.{SlotRef}
 use Rattle.spec_node.specs.Record.{Request, Node}
@@ -253,3 +253,8 @@ due_told e now true h = λ r S.
     let D = due_is e r now h.0.0 h.0.1 h.1.time S h.1.due in
     sym (ap is_some (next_is e r now h.0.0 h.0.1 S h.1 D))
 due_told e now false h = λ r S. sym (ap is_some (next_none e r now S h))
+
+-- and of the time from which on one is due
+pub next_told : (e : CoreState) (time : Option ℕ) → SlotsNextDue e.requests e.settings.resend time → IsNextDue e time
+next_told e None never = λ now low. due_told e now false (never now low)
+next_told e (Some time) from = λ now. due_told e now (nat_le time now) (from now)

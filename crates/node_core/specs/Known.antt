@@ -1,7 +1,8 @@
 -- What a core tells of a call or a message before it comes.
-use Rattle.std.specs.Prelude.{ℕ, ◌≡◌, ◌==◌, ◌&&◌, not, nat_lt, Bool, true, false, is_some}
+use Rattle.std.specs.Prelude.{ℕ, ◌≡◌, ◌==◌, ◌&&◌, not, nat_lt, Bool, true, false, Option, is_some}
 use Rattle.wire_message.specs.Parameters.{credits_of}
 use Rattle.part_handlers.specs.Runs.{Meaning}
+pub use Rattle.part_window.specs.Due.{IsSoFrom}
 use Rattle.spec_node.specs.declared.answer.Asked.{Asked as AskedAnswer}
 use Rattle.spec_node.specs.declared.answer.Asked.TheVariants as asked
 use Rattle.spec_node.specs.Executed.{greatest}
@@ -32,6 +33,10 @@ WouldAccept core ask would = (meaning : Meaning) → ForItsRecord core (λ node.
 -- a tick at this time sends a request again
 abbrev pub IsDue : CoreState → (now : ℕ) → Bool → Type 0
 IsDue core now is_due = ForItsRecord core (λ node. is_due ≡ is_some (next_due core.settings node now))
+
+-- the time from which on a tick does that, as long as nothing happens to the node
+abbrev pub IsNextDue : CoreState → Option ℕ → Type 0
+IsNextDue core time = IsSoFrom (IsDue core) time
 
 -- the node of a core, whatever it does beside its slots and numbers
 abbrev pub site_with : CoreState → Behaviour Local → Site Local

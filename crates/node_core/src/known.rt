@@ -2,7 +2,7 @@
 
 ghost use Rattle.node_core.specs.AskedFor.{ask_of};
 ghost use Rattle.node_core.specs.Sizes.{HasSegment};
-ghost use Rattle.node_core.specs.Known.{CanAsk, IsDue, IsLastRun, WouldAccept};
+ghost use Rattle.node_core.specs.Known.{CanAsk, IsDue, IsLastRun, IsNextDue, WouldAccept};
 
 use crate::answer::Side;
 use crate::asking::Asking;
@@ -68,5 +68,14 @@ impl Core {
         ensures { IsDue self.now now result }
     {
         self.requests.is_due(now, self.settings.resend())
+    }
+
+    /// From which time on a tick sends a request again, as long as nothing happens to the node: at each time a tick does
+    /// so exactly where this time has come. `None` exactly where it does so at no time. A look at one entry, which
+    /// changes nothing.
+    pub fn next_due(&self) -> Option<u64>
+        ensures { IsNextDue self.now result }
+    {
+        self.requests.next_due(self.settings.resend())
     }
 }

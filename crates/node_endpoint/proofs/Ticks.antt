@@ -35,6 +35,7 @@ use Rattle.node_core.specs.Kept.{Local, segment_of}
 use Rattle.node_core.specs.Library.{Work, WorkFits, Note, work_content}
 use Rattle.node_core.specs.ClientRules.{rules}
 use Rattle.node_core.specs.CoreState.{CoreState}
+use Rattle.node_core.specs.Known.{IsDue as CoreIsDue, IsNextDue as CoreNextDue}
 use Rattle.node_core.specs.Stands.{CoreStands}
 use Rattle.node_core.specs.CoreContracts.{CoreSteps, CoreTold, IsSameNode, AsksOwn, retransmits, core_job}
 use Rattle.node_rules.specs.EndpointLocal.{EndpointLocal, core_of}
@@ -45,10 +46,10 @@ use Rattle.node_rules.specs.declared.answer.Answer.TheVariants as answers
 use Rattle.node_rules.proofs.Sending.{chunk_no_note}
 use Rattle.node_rules.proofs.Works.{sending_well, note_work_fits, chunk_work_fits}
 use Rattle.node_endpoint.specs.declared.extended.Extended.{Extended}
-use Rattle.std.specs.Prelude.{is_some}
+use Rattle.std.specs.Prelude.{is_some, nat_le}
 use Rattle.node_endpoint.specs.EndpointState.{EndpointState, EndpointStands, ForItsRecord, NodeSteps, job_here}
-use Rattle.node_endpoint.specs.EndpointState.{IsTickTarget}
-use Rattle.node_endpoint.specs.EndpointState.{sent_to}
+use Rattle.node_endpoint.specs.EndpointState.{IsDue, IsNextDue, IsTickTarget}
+use Rattle.node_endpoint.specs.EndpointState.{sends_again, sent_to}
 use Rattle.node_endpoint.specs.Parts.{EndpointKeeps, Parts, IsWhole, CanSend, PartSends, endpoint_of, whole, found_note}
 use Rattle.node_endpoint.specs.Parts.{HasRecord}
 use Rattle.node_endpoint.proofs.Stepping.{steps_by, keeps_of, nothing_runs, barrier_of, stays_whole}
@@ -498,6 +499,23 @@ target_none core extended now due next meaning node S =
     let none = none_first (next_due core.settings node now) None (due (under core_of node) S.core) in
     sym (ap (λ d. sent_to (choice_of d (next_sending core.settings core.me can node.local))) none
     ∙ ap (λ s. sent_to (choice_of None s)) (next meaning node S))
+
+-- whether a tick sends a request again is whether one is due
+again_is : (due : Option Due) (sending : Option Sending) → is_some due ≡ sends_again (choice_of due sending)
+again_is (Some due) sending = refl
+again_is None (Some sending) = refl
+again_is None None = refl
+
+due_here : (core : CoreState) (extended : Extended) (now : ℕ) (is_due : Bool) → CoreIsDue core now is_due
+    → IsDue (endpoint_of core extended) now is_due
+due_here core extended now is_due told meaning node S =
+    told (under core_of node) S.core ∙ again_is (next_due core.settings node now) _
+
+-- so it is of the time from which on it does
+pub next_due_here : (core : CoreState) (extended : Extended) (time : Option ℕ) → CoreNextDue core time
+    → IsNextDue (endpoint_of core extended) time
+next_due_here core extended None never = λ now low. due_here core extended now false (never now low)
+next_due_here core extended (Some time) from = λ now. due_here core extended now (nat_le time now) (from now)
 
 -- there is one answer to this
 pub one_target : (endpoint : EndpointState) (now : ℕ) (first second : Option ℕ) → HasRecord endpoint

@@ -1,5 +1,5 @@
 -- What an endpoint is, as a value, and what its step does.
-use Rattle.std.specs.Prelude.{ℕ, ◌≡◌, ◌<◌, ◌≤◌, Bool, List, Option, Some, None, false, is_some, length}
+use Rattle.std.specs.Prelude.{ℕ, ◌≡◌, ◌<◌, ◌≤◌, Bool, List, Option, Some, None, true, false, is_some, length}
 use Rattle.wire_message.specs.Parameters.{Parameters}
 use Rattle.wire_message.specs.Message.{Message, Spells}
 use Rattle.wire_message.specs.Refusals.{first_refusal}
@@ -18,14 +18,14 @@ use Rattle.spec_node.specs.declared.answer.Delivered.{Delivered}
 use Rattle.spec_node.specs.declared.answer.Delivered.TheVariants as delivered
 use Rattle.spec_node.specs.Record.{Node}
 use Rattle.spec_node.specs.Behaviour.{Behaviour}
-use Rattle.spec_node.specs.Step.{deliver_answer, with_local, request_answer, tick_choice, TickChoice, Sends}
+use Rattle.spec_node.specs.Step.{deliver_answer, with_local, request_answer, tick_choice, TickChoice, Retransmits, Sends}
 use Rattle.spec_node.specs.NodeStep.{Job, Comes, Ticks, node_answer, node_after, site_of}
 use Rattle.spec_node.specs.Transition.{Transition}
 use Rattle.spec_node.specs.Under.{under}
 use Rattle.node_core.specs.CoreState.{CoreState}
 use Rattle.node_core.specs.CoreContracts.{IsSameNode}
 use Rattle.node_core.specs.Stands.{CoreStands}
-use Rattle.node_core.specs.Known.{is_accepted}
+use Rattle.node_core.specs.Known.{IsSoFrom, is_accepted}
 use Rattle.node_rules.specs.EndpointLocal.{EndpointLocal, IsEndpointKept, core_of}
 use Rattle.node_rules.specs.EndpointRules.{OtherCall, RecordEvent, job_of, told, transition, unless_forbidden}
 use Rattle.node_rules.specs.Tracking.{NodeTracks}
@@ -142,6 +142,20 @@ sent_to _ = None
 abbrev pub IsTickTarget : EndpointState → (now : ℕ) → Option ℕ → Type 0
 IsTickTarget endpoint now target = (meaning : Meaning) → ForItsRecord endpoint (λ node.
     target ≡ sent_to (tick_choice (site_of (job_here meaning endpoint) endpoint.core.me) node now))
+
+-- whether a tick that does this sends a request again
+abbrev pub sends_again : TickChoice → Bool
+sends_again (Retransmits due) = true
+sends_again _ = false
+
+-- whether a tick at this time does
+abbrev pub IsDue : EndpointState → (now : ℕ) → Bool → Type 0
+IsDue endpoint now is_due = (meaning : Meaning) → ForItsRecord endpoint (λ node.
+    is_due ≡ sends_again (tick_choice (site_of (job_here meaning endpoint) endpoint.core.me) node now))
+
+-- the time from which on a tick does, as long as nothing happens to the node
+abbrev pub IsNextDue : EndpointState → Option ℕ → Type 0
+IsNextDue endpoint time = IsSoFrom (IsDue endpoint) time
 
 -- whether a thread's call would be accepted, if it is a request; no other call would
 abbrev pub WouldAcceptCall : EndpointState → (thread : ℕ) → Meant → Bool → Type 0

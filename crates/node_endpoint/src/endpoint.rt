@@ -20,7 +20,7 @@ ghost use Rattle.node_rules.specs.Called.{HasTarget, meant, called, IsMeantBy};
 ghost use Rattle.node_rules.specs.TransferCalls.{handle_in};
 ghost use Rattle.node_endpoint.specs.EndpointState.{EndpointStands, ForItsRecord, EndpointSteps, NodeSteps};
 ghost use Rattle.node_endpoint.specs.EndpointState.{IsNodeOf, MayHappen, MayBeCalled, BytesCome};
-ghost use Rattle.node_endpoint.specs.EndpointState.{IsTickTarget, RunsNone, WouldAcceptAt};
+ghost use Rattle.node_endpoint.specs.EndpointState.{IsNextDue, IsTickTarget, RunsNone, WouldAcceptAt};
 ghost use Rattle.node_endpoint.specs.EndpointState.{IsAnsweredAlways, WouldDeliver};
 ghost use Rattle.node_endpoint.specs.Parts.{CallSteps, judged_kind};
 ghost use Rattle.node_endpoint.specs.Sends.{NodeSends, StepSends};
@@ -209,6 +209,15 @@ impl Endpoint {
             Some(next) => Some(next.transfer.target()),
             None => None,
         }
+    }
+
+    /// From which time on a tick sends a request again, as long as no event happens to the node: at each time a tick does
+    /// so exactly where this time has come. `None` exactly where it does so at no time. A look at one entry, which
+    /// changes nothing.
+    pub fn next_due(&self) -> Option<u64>
+        ensures { IsNextDue self.now result }
+    {
+        self.core.next_due()
     }
 
     /// Whether each chunk of a handle's operations was issued. `Some(true)` for the invalid handle, and `None` where no

@@ -14,7 +14,8 @@
 //! - A tick sends a request again that is due; else the note of the barrier that is due to the least node that can be
 //!   asked; else the next chunk of the oldest operation whose target can be asked. `Endpoint::next_target` tells before
 //!   it which node would get a request of the node's own accord [`target`: `IsTickTarget`]; `would_accept` whether an
-//!   event would accept a request.
+//!   event would accept a request. `next_due` tells from which time on a tick sends a request again, as long as no event
+//!   happens [`IsNextDue`].
 //! - `Endpoint::would_deliver` tells what a delivery of bytes would be answered [`told`: `WouldDeliver`]: every
 //!   delivery of them is answered so, at any time and whatever the handlers mean [`agrees`: `IsAnsweredAlways`].
 //! - `Endpoint::new` gives an endpoint that stands for the opening record [`stands`]; want of memory is its one error.

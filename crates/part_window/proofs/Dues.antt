@@ -1,15 +1,16 @@
 -- What is due next, by the first place of the order.
-use Rattle.std.proofs.Common.{ℕ, ◌≡◌, ◌≢◌, ◌+◌, ◌<◌, ◌≤◌, Option, Some, None, Bool, List, length, refl, sym, ap, subst}
+use Rattle.std.proofs.Common.{ℕ, ◌≡◌, ◌≢◌, ◌+◌, ◌^◌, ◌<◌, ◌≤◌, Option, Some, None, Bool, List, length, refl, sym, ap, subst}
 use Rattle.std.proofs.Common.{◌∙◌, inl, inr, arith, cond}
-use Rattle.std.specs.Prelude.{slice_get, option_and_then, IsSomeAnd}
+use Rattle.std.specs.Prelude.{nat_le, slice_get, option_and_then, IsSomeAnd, SomeIff}
 use Rattle.std.proofs.lemmas.Option.{slice_get_cases}
 use borrow.Author.Tests.{le-leb, lt-leb}
+use Rattle.std.proofs.lemmas.Bool.{cases_Bool, leb-true, leb-false}
 use Rattle.base_lists.specs.Cut.{start_of, count_at}
 use Rattle.base_lists.proofs.Cut.{place_order}
 use Rattle.part_window.specs.TableState.{TableState, place_of}
 use Rattle.part_window.specs.SlotsState.{SlotState, Vacant, Opened, Sealed, SlotsState, slot_at, IsTakenWith}
 use Rattle.part_window.specs.SlotsState.{number_of}
-use Rattle.part_window.specs.Due.{due_time, IsFirstDue, NoneIsDue}
+use Rattle.part_window.specs.Due.{due_time, IsFirstDue, IsNextDue, NoneIsDue}
 use Rattle.part_window.specs.Order.{IsFirst}
 use Rattle.part_window.specs.CreditViews.{credits_view, Matches, IsCredits}
 use Rattle.part_window.specs.declared.order.Due.{Due}
@@ -126,3 +127,42 @@ taken-yes None wanted is = absurd cc
 taken-yes (Some Vacant) wanted is = absurd cc
 taken-yes (Some (Opened number time buffer)) wanted is = let same : number ≡ wanted = cc in same
 taken-yes (Some (Sealed number time message)) wanted is = let same : number ≡ wanted = cc in same
+
+-- where nothing is listed, or what is listed first would be due at no time that 64 bits hold, no slot ever is
+pub never-due : (last : ℕ) (given : List ℕ) (table : TableState) (order : List (Option Due)) (seen : SlotsState)
+    (resend : ℕ) → credits_view last given table ≡ seen → IsCredits given table order
+    → ((i : ℕ) (due : Due) → slice_get order i ≡ Some (Some due) → 2 ^ 64 ≤ due.time + resend)
+    → IsNextDue seen resend None
+never-due last given table order seen resend view kept late now low =
+    none-due last given table order seen now resend view kept
+    (λ i due is. let far : 2 ^ 64 ≤ due.time + resend = late i due is in omega (arith, low, far))
+
+-- else a slot is due from then on
+pub due-from : (last : ℕ) (given : List ℕ) (table : TableState) (order : List (Option Due)) (seen : SlotsState)
+    (resend place : ℕ) (due : Due) → credits_view last given table ≡ seen → IsCredits given table order
+    → slice_get order place ≡ Some (Some due) → place + 1 < length order → IsFirst order place due.time
+    → IsNextDue seen resend (Some (due.time + resend))
+due-from last given table order seen resend place due view kept at inside first now =
+    elim (cases_Bool (nat_le (due.time + resend) now)) [
+      | inl come ↦ (let long = leb-true (due.time + resend) now come in
+          rw come (
+            (due.node, due.slot),
+            first-due last given table order seen now resend place due view kept at inside first (omega (arith, long)),
+          ))
+      | inr early ↦ (let short = leb-false (due.time + resend) now early in
+          rw early (none-due last given table order seen now resend view kept
+          (λ j other is. let f = first j other is in omega (arith, f.0, short))))
+    ]
+
+-- either way the sum tells it, where there is one
+pub due-by : (last : ℕ) (given : List ℕ) (table : TableState) (order : List (Option Due)) (seen : SlotsState)
+    (resend place : ℕ) (due : Due) (answer : Option ℕ) → credits_view last given table ≡ seen
+    → IsCredits given table order → slice_get order place ≡ Some (Some due) → place + 1 < length order
+    → IsFirst order place due.time → SomeIff answer (due.time + resend < 2 ^ 64) (due.time + resend)
+    → IsNextDue seen resend answer
+due-by last given table order seen resend place due None view kept at inside first none =
+    never-due last given table order seen resend view kept
+    (λ j other is. let f = first j other is in omega (arith, f.0, none))
+due-by last given table order seen resend place due (Some time) view kept at inside first some =
+    subst (λ (t : ℕ). IsNextDue seen resend (Some t)) (sym some.1)
+    (due-from last given table order seen resend place due view kept at inside first)

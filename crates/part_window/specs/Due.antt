@@ -1,5 +1,5 @@
 -- Which request a requester's slots send again next; the record's rule is `next_due` of `spec_node`.
-use Rattle.std.specs.Prelude.{ℕ, ◌≡◌, ◌≤◌, ◌+◌, Option, Some, None, Bool, true, false, nat_le, if◌then◌else◌}
+use Rattle.std.specs.Prelude.{ℕ, ◌≡◌, ◌<◌, ◌≤◌, ◌+◌, ◌^◌, Option, Some, None, Bool, true, false, nat_le, if◌then◌else◌}
 use Rattle.std.specs.Prelude.{option_and_then}
 use Rattle.part_window.specs.SlotsState.{SlotState, SlotsState, Vacant, Opened, Sealed, slot_at}
 pub use Rattle.part_window.specs.TableState.{sent_again}
@@ -47,3 +47,13 @@ IsDueNext table now resend (Some found) = IsFirstDue table now resend found.0 fo
 abbrev pub IsDue : SlotsState → (now resend : ℕ) → Bool → Type 0
 IsDue table now resend true = (found : ℕ × ℕ) × IsDueNext table now resend (Some found)
 IsDue table now resend false = IsDueNext table now resend None
+
+-- the time from which on this is so, as long as nothing changes: at each time it is exactly where that one has come.
+-- None where it is so at no time that 64 bits hold
+abbrev pub IsSoFrom : (IsSo : (now : ℕ) → Bool → Type 0) → Option ℕ → Type 0
+IsSoFrom IsSo None = (now : ℕ) → now < 2 ^ 64 → IsSo now false
+IsSoFrom IsSo (Some time) = (now : ℕ) → IsSo now (nat_le time now)
+
+-- the time from which on a slot is due
+abbrev pub IsNextDue : SlotsState → (resend : ℕ) → Option ℕ → Type 0
+IsNextDue table resend time = IsSoFrom (λ now. IsDue table now resend) time

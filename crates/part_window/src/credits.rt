@@ -14,7 +14,8 @@
 //! - `take_back` [`answer`, `freed`, `same`] frees a slot exactly where it is taken with that number.
 //! - `due` [`next`, `sent`] names the request that is sent again next: of those last sent `resend` or more before now
 //!   the one sent earliest, then of the lower node, then of the lower slot (`IsFirstDue`). It names none exactly where
-//!   none is due (`NoneIsDue`); `is_due` tells which it is. That slot's time becomes now, and nothing else changes.
+//!   none is due (`NoneIsDue`); `is_due` tells which it is, and `next_due` from which time on one is (`IsNextDue`). That
+//!   slot's time becomes now, and nothing else changes.
 //! - `new` gives each other node the slots of its own number of credits (`IsNew`). `held` is how many slots are taken,
 //!   `number` the number of a slot's message.
 //! - The buffer that a claim lends takes what is written, and nothing else (`Claimed::buffer`, `seal`). No call after
@@ -298,7 +299,7 @@ impl CreditSlots {
 
 impl CreditSlots {
     ghost use Rattle.part_window.specs.SlotsState.{slot_count, with_slot_changed};
-    ghost use Rattle.part_window.specs.Due.{IsDueNext, IsDue, sent_again};
+    ghost use Rattle.part_window.specs.Due.{IsDueNext, IsDue, IsNextDue, sent_again};
 
     /// Finds the request that is to be sent again at `now`, and notes that it is sent then: its node and its slot,
     /// whose message `bytes` gives.
@@ -333,6 +334,18 @@ impl CreditSlots {
             return false;
         };
         due.time <= now && now - due.time >= resend
+    }
+
+    /// From which time on a request is due, while no call changes the table: at each time one is due exactly where this
+    /// time has come. It is `resend` after the earliest sending, and `None` exactly where no request has a message, or
+    /// that time is past the greatest one. A look at one entry, which changes nothing.
+    pub fn next_due(&self, resend: u64) -> Option<u64>
+        ensures { IsNextDue self.now resend result }
+    {
+        let Some((_place, due)) = self.order.first() else {
+            return None;
+        };
+        due.time.checked_add(resend)
     }
 }
 

@@ -18,7 +18,8 @@
 //! - `take_back` [`answer`, `freed`, `same`] frees a slot exactly where it is taken with that number.
 //! - `due` [`next`, `sent`] names the request that is sent again next: of those last sent `resend` or more before now
 //!   the one sent earliest, then of the lower node, then of the lower slot (`IsFirstDue`). It names none exactly where
-//!   none is due (`NoneIsDue`); `is_due` tells which it is. That slot's time becomes now, and nothing else changes.
+//!   none is due (`NoneIsDue`); `is_due` tells which it is, and `next_due` from which time on one is (`IsNextDue`). That
+//!   slot's time becomes now, and nothing else changes.
 //! - `ReplySlots::judge` tells a request from a repeat by the last number of its slot (`JudgesAt`); `place` [`placed`]
 //!   makes room for the reply of a new one.
 //! - `new` of both gives each other node the slots of its own number of credits (`IsNew`). `held` is how many slots are
