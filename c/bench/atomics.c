@@ -1,5 +1,6 @@
-/* What an atomic operation costs beside what it is made of: a Medium request of 32 bytes with 4 arguments, and a Long reply of
- * 16 bytes. Each way in turn, as round trips, and with 16 at a time. Two nodes: bin/gasnetrun -n 2 out/bench/atomics. */
+/* What an atomic operation costs beside what it is made of: a Medium request of 32 bytes with 4 arguments, and a Long
+ * reply of 16 bytes. Each way in turn, as round trips, and with 16 at a time. Two nodes: bin/gasnetrun -n 2
+ * out/bench/atomics. */
 #define GASNET_SEQ 1
 #include <gasnet.h>
 #include <stdio.h>
@@ -40,7 +41,8 @@ static void by_messages(unsigned many) {
     backs = 0;
     for (unsigned i = 0; i < many; i++) {
         payload[0] = i;
-        GASNET_SAFE(gasnet_AMRequestMedium4(1, ASK, payload, sizeof payload, 0, (gasnet_handlerarg_t)(4096 + BLOCK * i), 0, (gasnet_handlerarg_t)i));
+        GASNET_SAFE(gasnet_AMRequestMedium4(1, ASK, payload, sizeof payload, 0, (gasnet_handlerarg_t)(4096 + BLOCK * i),
+                                            0, (gasnet_handlerarg_t)i));
     }
     GASNET_BLOCKUNTIL(backs == many);
 }
@@ -84,8 +86,9 @@ static void measure(unsigned many) {
     for (int way = 0; way < 3; way++)
         qsort(times[way], ROUNDS, sizeof **times, by_value);
     for (int way = 0; way < 3; way++)
-        printf("%u at a time: %s %.2f us (least %.2f), ratio %.2f (of the least %.2f)\n", many, names[way], times[way][ROUNDS / 2],
-               times[way][0], times[way][ROUNDS / 2] / times[0][ROUNDS / 2], times[way][0] / times[0][0]);
+        printf("%u at a time: %s %.2f us (least %.2f), ratio %.2f (of the least %.2f)\n", many, names[way],
+               times[way][ROUNDS / 2], times[way][0], times[way][ROUNDS / 2] / times[0][ROUNDS / 2],
+               times[way][0] / times[0][0]);
 }
 
 int main(int argc, char **argv) {

@@ -1,4 +1,5 @@
-/* How fast two nodes are: round trips of a Short, requests in a stream, and blocking puts and gets. One line for each. */
+/* How fast two nodes are: round trips of a Short, requests in a stream, and blocking puts and gets. One line for each.
+ */
 #define GASNET_SEQ 1
 #include <gasnet.h>
 #include <stdio.h>

@@ -1,6 +1,6 @@
 /* What two processes over loopback can do with plain UDP: round trips of 40 bytes, looked for as the layer does (looks
- * that don't wait, then a poll), and a stream of 8,232-byte datagrams with one system call each, 32 of them out at most,
- * each answered by 40 bytes. */
+ * that don't wait, then a poll), and a stream of 8,232-byte datagrams with one system call each, 32 of them out at
+ * most, each answered by 40 bytes. */
 #include <arpa/inet.h>
 #include <poll.h>
 #include <signal.h>

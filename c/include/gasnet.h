@@ -1,7 +1,7 @@
 /* GASNet 1.8.1 for C: active messages, puts, gets, and barriers between the nodes of a job.
  *
- * The names and their meaning are those of the GASNet Specification 1.8.1. docs/GASNET.md has a table of all of them, and
- * says where this implementation chose what the specification leaves open.
+ * The names and their meaning are those of the GASNet Specification 1.8.1. docs/GASNET.md has a table of all of them,
+ * and says where this implementation chose what the specification leaves open.
  *
  * Names that begin with gasnetl_ or GASNETL_ are this implementation's own, and no client's to use. */
 #ifndef GASNET_H
@@ -86,13 +86,14 @@ typedef struct {
 const char *gasnet_ErrorName(int code);
 const char *gasnet_ErrorDesc(int code);
 
-/* This implementation's own, for programs without a macro like it: calls, and where the answer isn't GASNET_OK says so on standard error and ends the job. */
+/* This implementation's own, for programs without a macro like it: calls, and where the answer isn't GASNET_OK says so
+ * on standard error and ends the job. */
 #ifndef GASNET_SAFE
-#define GASNET_SAFE(call)                                              \
-    do {                                                               \
-        int gasnetl_code_ = (call);                                    \
-        if (gasnetl_code_ != GASNET_OK)                                \
-            gasnetl_unsafe(gasnetl_code_, #call, __FILE__, __LINE__);  \
+#define GASNET_SAFE(call)                                                                                              \
+    do {                                                                                                               \
+        int gasnetl_code_ = (call);                                                                                    \
+        if (gasnetl_code_ != GASNET_OK)                                                                                \
+            gasnetl_unsafe(gasnetl_code_, #call, __FILE__, __LINE__);                                                  \
     } while (0)
 #endif
 
@@ -131,7 +132,8 @@ typedef struct gasnetl_hsl {
     void *owner;               /* the thread that holds it */
     struct gasnetl_hsl *below; /* what that thread took before it, and still holds */
 } gasnet_hsl_t;
-#define GASNET_HSL_INITIALIZER { PTHREAD_MUTEX_INITIALIZER, NULL, NULL }
+#define GASNET_HSL_INITIALIZER                                                                                         \
+    { PTHREAD_MUTEX_INITIALIZER, NULL, NULL }
 
 void gasnet_hsl_init(gasnet_hsl_t *hsl);
 void gasnet_hsl_destroy(gasnet_hsl_t *hsl);
@@ -151,15 +153,15 @@ int gasnet_AMPoll(void);
 int gasnet_AMGetMsgSource(gasnet_token_t token, gasnet_node_t *srcindex);
 
 /* Waits until the condition holds, and polls meanwhile. What was written before it came to hold is read after it. */
-#define GASNET_BLOCKUNTIL(condition)          \
-    do {                                      \
-        if (!(condition)) {                   \
-            unsigned gasnetl_turn_ = 0;       \
-            do                                \
-                gasnetl_block(&gasnetl_turn_); \
-            while (!(condition));             \
-        }                                     \
-        __atomic_thread_fence(__ATOMIC_ACQUIRE); \
+#define GASNET_BLOCKUNTIL(condition)                                                                                   \
+    do {                                                                                                               \
+        if (!(condition)) {                                                                                            \
+            unsigned gasnetl_turn_ = 0;                                                                                \
+            do                                                                                                         \
+                gasnetl_block(&gasnetl_turn_);                                                                         \
+            while (!(condition));                                                                                      \
+        }                                                                                                              \
+        __atomic_thread_fence(__ATOMIC_ACQUIRE);                                                                       \
     } while (0)
 void gasnetl_block(unsigned *turn);
 

@@ -1,9 +1,9 @@
 /* Remote atomics: operations on integers of 32 and 64 bits in a node's segment. gasnet.h includes it.
  *
- * The names are GASNet-EX's, of which this is the part for integers. Each operation acts at one moment of the number's node,
- * and is told what the number was then. It stands at a multiple of its size in the segment. The word of 8 bytes that holds
- * it is touched by nothing else: no plain load or store, not even of its own node, and no put, get or Long. The two halves
- * of a word may each be a number, and numbers of several domains.
+ * The names are GASNet-EX's, of which this is the part for integers. Each operation acts at one moment of the number's
+ * node, and is told what the number was then. It stands at a multiple of its size in the segment. The word of 8 bytes
+ * that holds it is touched by nothing else: no plain load or store, not even of its own node, and no put, get or Long.
+ * The two halves of a word may each be a number, and numbers of several domains.
  *
  * No node of the job registers the handlers 252 and 253 itself; else gex_AD_Create ends the job. */
 #ifndef GASNET_ATOMICS_H
@@ -49,7 +49,7 @@ typedef uint32_t gex_OP_t;
 #define GEX_OP_SET ((gex_OP_t)1 << 18)
 #define GEX_OP_GET ((gex_OP_t)1 << 19)
 #define GEX_OP_SWAP ((gex_OP_t)1 << 20)
-#define GEX_OP_CAS ((gex_OP_t)1 << 21)  /* operand2 where it was operand1 */
+#define GEX_OP_CAS ((gex_OP_t)1 << 21) /* operand2 where it was operand1 */
 #define GEX_OP_FCAS ((gex_OP_t)1 << 22)
 #define GEX_OP_MULT ((gex_OP_t)1 << 23)
 #define GEX_OP_FMULT ((gex_OP_t)1 << 24)
@@ -69,11 +69,13 @@ typedef struct gasnetl_domain *gex_AD_t;
 void gex_AD_Create(gex_AD_t *ad_p, gex_TM_t tm, gex_DT_t dt, gex_OP_t ops, gex_Flags_t flags);
 void gex_AD_Destroy(gex_AD_t ad);
 
-/* ---- Operations with a handle. What the number was stands at result_p when the handle is synchronised; of operations that
- * don't bring it result_p isn't read. */
+/* ---- Operations with a handle. What the number was stands at result_p when the handle is synchronised; of operations
+ * that don't bring it result_p isn't read. */
 
 /* The parameters of all of them. */
-#define GASNETL_OF(type) gex_AD_t ad, type *result_p, gex_Rank_t tgt_rank, void *tgt_addr, gex_OP_t op, type operand1, type operand2, gex_Flags_t flags
+#define GASNETL_OF(type)                                                                                               \
+    gex_AD_t ad, type *result_p, gex_Rank_t tgt_rank, void *tgt_addr, gex_OP_t op, type operand1, type operand2,       \
+        gex_Flags_t flags
 
 gex_Event_t gex_AD_OpNB_I32(GASNETL_OF(int32_t));
 gex_Event_t gex_AD_OpNB_U32(GASNETL_OF(uint32_t));

@@ -5,8 +5,8 @@
  *
  * What a caller owes stands in docs/GASNET.md, "What C owes". In short: a handle begins as zeros, is never copied and
  * is read and written by the library alone; each pointer leads to as many values as its length says, and is never null,
- * not even where there are none; no pointer that is passed leads into the handle or into the node's segment; one call of
- * a handle at a time, each ordered before the next by a lock, a thread's start or its join; the segment is stored to
+ * not even where there are none; no pointer that is passed leads into the handle or into the node's segment; one call
+ * of a handle at a time, each ordered before the next by a lock, a thread's start or its join; the segment is stored to
  * between calls alone, and inside its length.
  *
  * A handle is dead or whole. Every call of a dead one does nothing, and is told GASNET_C_DEAD. */
@@ -24,7 +24,9 @@ extern "C" {
 /* What C holds of a node. It begins as zeros. */
 typedef struct {
     bool live;
-    struct { void *at; } slot;
+    struct {
+        void *at;
+    } slot;
 } gasnet_c_node;
 
 /* The memory of a node's segment: at least as many bytes as the setup says, all zeros, which nobody has touched. Fresh
@@ -46,12 +48,12 @@ typedef struct {
 
 /* How a node of a job is set up. All nodes of a job have the same numbers, but for `me`. */
 typedef struct {
-    uint64_t job;      /* the job's number: datagrams of another job are refused */
-    uint64_t segment;  /* the bytes of each segment: a multiple of 4,096, from 4,096 to 2^40 */
-    uint64_t resend;   /* after which time a request is sent again, in the unit of `now`: 1 to 1,000,000 */
-    uint16_t nodes;    /* 1 to 64 */
-    uint16_t me;       /* this node, from 0 */
-    uint16_t credits;  /* how many requests of a pair may be out: 1 to 32, and over all pairs at most 65,536 */
+    uint64_t job;     /* the job's number: datagrams of another job are refused */
+    uint64_t segment; /* the bytes of each segment: a multiple of 4,096, from 4,096 to 2^40 */
+    uint64_t resend;  /* after which time a request is sent again, in the unit of `now`: 1 to 1,000,000 */
+    uint16_t nodes;   /* 1 to 64 */
+    uint16_t me;      /* this node, from 0 */
+    uint16_t credits; /* how many requests of a pair may be out: 1 to 32, and over all pairs at most 65,536 */
 } gasnet_c_setup;
 
 /* What an event was answered.
@@ -60,8 +62,8 @@ typedef struct {
  * slot that it stands in; where it sends none `len` is 0. (Where the buffer has less than GASNET_C_ROOM bytes and the
  * datagram doesn't fit, `len` is 0 too: the request is sent again in time.)
  * Of GASNET_C_RETURNED `to` is the node that replied, and `slot` is the slot of the request that is back.
- * Of GASNET_C_HANDLE `value` is the handle; of an implicit transfer it is its number, and the transfer is synchronised by
- * gasnet_c_sync_implicit, or with the access region that is begun. What isn't named here is 0. */
+ * Of GASNET_C_HANDLE `value` is the handle; of an implicit transfer it is its number, and the transfer is synchronised
+ * by gasnet_c_sync_implicit, or with the access region that is begun. What isn't named here is 0. */
 typedef struct {
     uint32_t code;
     uint16_t to, slot;
@@ -81,8 +83,8 @@ typedef struct {
     uint64_t place;       /* a Long's place: its offset in the local segment */
 } gasnet_c_coming;
 
-/* A request. Where `own` is set its payload are the `source_len` bytes of the local segment from `source` on; else it is
- * `payload`. Pointers are right whatever is read of them. */
+/* A request. Where `own` is set its payload are the `source_len` bytes of the local segment from `source` on; else it
+ * is `payload`. Pointers are right whatever is read of them. */
 typedef struct {
     gasnet_c_args args;     /* at most 16 */
     gasnet_c_bytes payload; /* at most 8,192 bytes; a Short has none, whatever this is */
@@ -124,8 +126,8 @@ typedef struct {
 typedef struct {
     uint64_t offset; /* where the word stands in that segment: a multiple of 8 */
     uint64_t a, b;   /* its operands; only a compare-and-swap reads b */
-    uint64_t local;  /* where the 16 bytes of the reply go in the local segment, a multiple of 8: what the word was, and the
-                        tag, 8 bytes each, little-endian */
+    uint64_t local;  /* where the 16 bytes of the reply go in the local segment, a multiple of 8: what the word was, and
+                        the  tag, 8 bytes each, little-endian */
     uint64_t tag;    /* a number that comes back behind the word */
     uint32_t op;     /* what it does: GASNET_C_OP_GET to GASNET_C_OP_MAX */
     uint16_t to;     /* the node whose word it is; the local one too */
@@ -141,14 +143,16 @@ enum {
     GASNET_C_OP_AND = 5,          /* its bits with those of a */
     GASNET_C_OP_OR = 6,
     GASNET_C_OP_XOR = 7,
-    GASNET_C_OP_MIN = 8,          /* the smaller of what it was and a, unsigned */
-    GASNET_C_OP_MAX = 9           /* the greater */
+    GASNET_C_OP_MIN = 8, /* the smaller of what it was and a, unsigned */
+    GASNET_C_OP_MAX = 9  /* the greater */
 };
 
 /* What C holds of a node's collectives. It begins as zeros. */
 typedef struct {
     bool live;
-    struct { void *at; } slot;
+    struct {
+        void *at;
+    } slot;
 } gasnet_c_collectives;
 
 /* A collective, as a node starts it. */
@@ -193,43 +197,44 @@ enum {
 
 /* The answers, by number. */
 enum {
-    GASNET_C_ACCEPTED = 1,  /* a request has a slot, and is to be sent */
-    GASNET_C_RAN_HERE = 2,  /* a request to the local node: its run, and its reply's, are recorded */
-    GASNET_C_NOT_YET = 3,   /* all credits of the pair are out */
-    GASNET_C_WORN_OUT = 4,  /* the numbers of the pair are used up */
-    GASNET_C_BAD = 5,       /* an argument is bad, or the call is out of turn; nothing happened */
-    GASNET_C_HANDLE = 6,    /* a transfer is under way, or a region ended, under the handle `value` */
-    GASNET_C_DONE = 7,      /* it is done, and has no handle */
-    GASNET_C_TOO_MANY = 8,  /* 256 operations stand, or the last number was given; nothing happened */
-    GASNET_C_OK = 9,        /* synchronised; notified; the barrier is complete; a collective is started, or ended */
+    GASNET_C_ACCEPTED = 1, /* a request has a slot, and is to be sent */
+    GASNET_C_RAN_HERE = 2, /* a request to the local node: its run, and its reply's, are recorded */
+    GASNET_C_NOT_YET = 3,  /* all credits of the pair are out */
+    GASNET_C_WORN_OUT = 4, /* the numbers of the pair are used up */
+    GASNET_C_BAD = 5,      /* an argument is bad, or the call is out of turn; nothing happened */
+    GASNET_C_HANDLE = 6,   /* a transfer is under way, or a region ended, under the handle `value` */
+    GASNET_C_DONE = 7,     /* it is done, and has no handle */
+    GASNET_C_TOO_MANY = 8, /* 256 operations stand, or the last number was given; nothing happened */
+    GASNET_C_OK = 9,       /* synchronised; notified; the barrier is complete; a collective is started, or ended */
     GASNET_C_NOT_READY = 10,
-    GASNET_C_MISMATCH = 11, /* the barrier is complete, and its notifies don't match; a collective is ended, and its shapes differ */
-    GASNET_C_RAN = 12,      /* a request's handler ran (a client's, or a transfer's at its target); its reply is sent */
-    GASNET_C_NOTED = 13,    /* a note of the barrier came; its reply is sent */
-    GASNET_C_AGAIN = 14,    /* a request came again; its reply is sent again */
+    GASNET_C_MISMATCH =
+        11, /* the barrier is complete, and its notifies don't match; a collective is ended, and its shapes differ */
+    GASNET_C_RAN = 12,   /* a request's handler ran (a client's, or a transfer's at its target); its reply is sent */
+    GASNET_C_NOTED = 13, /* a note of the barrier came; its reply is sent */
+    GASNET_C_AGAIN = 14, /* a request came again; its reply is sent again */
     GASNET_C_STALE = 15,
     GASNET_C_RETURNED = 16, /* a reply came: the credit of its request is back */
     GASNET_C_LATE = 17,
     GASNET_C_DEFERRED = 18,
-    GASNET_C_REFUSED = 19,  /* bytes that are no message for this node */
-    GASNET_C_NOTHING = 20,  /* a tick, or a step of a collective, had nothing to send */
-    GASNET_C_RESENT = 21,   /* a tick sends a request again */
+    GASNET_C_REFUSED = 19, /* bytes that are no message for this node */
+    GASNET_C_NOTHING = 20, /* a tick, or a step of a collective, had nothing to send */
+    GASNET_C_RESENT = 21,  /* a tick sends a request again */
     GASNET_C_FORBIDDEN = 22,
     GASNET_C_OTHER = 23,
-    GASNET_C_NOTE = 24,     /* a tick sends a note of the barrier */
-    GASNET_C_CHUNK = 25,    /* a tick sends the next chunk of the oldest transfer whose target has a credit */
-    GASNET_C_DEAD = 99      /* the handle is dead */
+    GASNET_C_NOTE = 24,  /* a tick sends a note of the barrier */
+    GASNET_C_CHUNK = 25, /* a tick sends the next chunk of the oldest transfer whose target has a credit */
+    GASNET_C_DEAD = 99   /* the handle is dead */
 };
 
-/* Makes a node: 0; or 1 where a limit is broken, 2 for want of memory, 3 where the handle is live already. Its table has
- * an entry for each index from 128 to 255, which serves requests and replies, and lists no lock.
+/* Makes a node: 0; or 1 where a limit is broken, 2 for want of memory, 3 where the handle is live already. Its table
+ * has an entry for each index from 128 to 255, which serves requests and replies, and lists no lock.
  *
- * Where it answers 0 the memory is the node's segment until the node is freed: C reads and writes it between calls alone.
- * Else it is C's again. The library never gives it back to anybody. */
+ * Where it answers 0 the memory is the node's segment until the node is freed: C reads and writes it between calls
+ * alone. Else it is C's again. The library never gives it back to anybody. */
 uint32_t gasnet_c_new(gasnet_c_node *node, const gasnet_c_setup *setup, gasnet_c_memory memory);
 
-/* Gives the memory back that the library took. The handle is dead then, as one of zeros, and the segment's memory is C's
- * again. */
+/* Gives the memory back that the library took. The handle is dead then, as one of zeros, and the segment's memory is
+ * C's again. */
 void gasnet_c_free(gasnet_c_node *node);
 
 /* How many bytes the segment has; 0 of a dead handle. */
@@ -238,12 +243,23 @@ uint64_t gasnet_c_segment(gasnet_c_node *node);
 /* A tick: at most one datagram that is due goes out. RESENT, NOTE, CHUNK, or NOTHING. */
 gasnet_c_told gasnet_c_tick(gasnet_c_node *node, uint64_t now, uint8_t *buffer, size_t room);
 
+/* The datagram of an open request once more: of the one to the node `to` that stands in that slot, as a told answer
+ * named them. How many bytes it has, which are the first of the buffer; 0 where no request is open there, it doesn't
+ * fit, or the handle is dead. It changes nothing. To send these bytes to that node repeats what was sent, as a network
+ * may. */
+uint64_t gasnet_c_again(gasnet_c_node *node, uint16_t to, uint16_t slot, uint8_t *buffer, size_t room);
+
+/* From which time on a tick sends a request again (RESENT), as long as nothing happens to the node: before it no tick
+ * does, and from then on each does. UINT64_MAX where no tick before that time does, as of a dead handle. It changes
+ * nothing. */
+uint64_t gasnet_c_next_due(gasnet_c_node *node);
+
 /* Which handler of the client's a delivery of these bytes would run. It changes nothing. */
 gasnet_c_coming gasnet_c_peek(gasnet_c_node *node, const uint8_t *bytes, size_t len);
 
-/* Delivers bytes. Where `gasnet_c_peek` told of a handler that runs, C ran it before this call and made no other call in
- * between, and `run` is what it did. Else it doesn't matter what `run` says, but its pointers are right. RAN, NOTED, AGAIN,
- * RETURNED; STALE, LATE or REFUSED, and nothing happened. */
+/* Delivers bytes. Where `gasnet_c_peek` told of a handler that runs, C ran it before this call and made no other call
+ * in between, and `run` is what it did. Else it doesn't matter what `run` says, but its pointers are right. RAN, NOTED,
+ * AGAIN, RETURNED; STALE, LATE or REFUSED, and nothing happened. */
 gasnet_c_told gasnet_c_deliver(gasnet_c_node *node, uint64_t now, const uint8_t *bytes, size_t len,
                                const gasnet_c_run *run, uint8_t *buffer, size_t room);
 
@@ -275,28 +291,28 @@ gasnet_c_told gasnet_c_begin(gasnet_c_node *node, uint64_t now, const gasnet_c_m
  * NOT_READY, WORN_OUT, BAD. */
 gasnet_c_told gasnet_c_sync(gasnet_c_node *node, uint64_t now, uint64_t handle);
 
-/* Tries to synchronise the implicit operations: 0 for puts and memsets, 1 for gets, else all. OK, NOT_READY, WORN_OUT; BAD
- * while a region is begun. */
+/* Tries to synchronise the implicit operations: 0 for puts and memsets, 1 for gets, else all. OK, NOT_READY, WORN_OUT;
+ * BAD while a region is begun. */
 gasnet_c_told gasnet_c_sync_implicit(gasnet_c_node *node, uint64_t now, uint32_t which);
 
 /* Begins an access region (DONE), or ends it (HANDLE, or DONE where no operation joined). BAD out of turn. */
 gasnet_c_told gasnet_c_region(gasnet_c_node *node, uint64_t now, bool ends);
 
-/* Notifies the barrier: flags are 0 for a named one, 1 for an anonymous one, 2 for a mismatch, 3 for both. OK; BAD out of
- * turn, for other flags, and where the last phase was reached. Its notes are sent by ticks. */
+/* Notifies the barrier: flags are 0 for a named one, 1 for an anonymous one, 2 for a mismatch, 3 for both. OK; BAD out
+ * of turn, for other flags, and where the last phase was reached. Its notes are sent by ticks. */
 gasnet_c_told gasnet_c_notify(gasnet_c_node *node, uint64_t now, int32_t id, uint8_t flags);
 
 /* Tries the barrier. OK, NOT_READY, MISMATCH, WORN_OUT; BAD out of turn. */
 gasnet_c_told gasnet_c_try(gasnet_c_node *node, uint64_t now, int32_t id, uint8_t flags);
 
-/* ---- Collectives over all nodes. Each node starts the same ones in the same order, one at a time: gasnet_c_coll_start,
- * then gasnet_c_coll_step until it was ACCEPTED once for each other node, then gasnet_c_coll_end until it is OK, with
- * deliveries in between. */
+/* ---- Collectives over all nodes. Each node starts the same ones in the same order, one at a time:
+ * gasnet_c_coll_start, then gasnet_c_coll_step until it was ACCEPTED once for each other node, then gasnet_c_coll_end
+ * until it is OK, with deliveries in between. */
 
 /* Makes the collectives of a node: 0; or 1 where the area isn't one, 2 for want of memory, 3 where their handle is live
- * already, GASNET_C_DEAD where the node's is dead. Their area begins at `base` in each segment and has two parts for each
- * node, of GASNET_C_COLLECTIVE_HEADER + `room` bytes: `base` and `room` are multiples of 8, `room` is 8 to 8,192, and it
- * ends inside the segment. All nodes name one area, and nothing else writes there. */
+ * already, GASNET_C_DEAD where the node's is dead. Their area begins at `base` in each segment and has two parts for
+ * each node, of GASNET_C_COLLECTIVE_HEADER + `room` bytes: `base` and `room` are multiples of 8, `room` is 8 to 8,192,
+ * and it ends inside the segment. All nodes name one area, and nothing else writes there. */
 uint32_t gasnet_c_coll_new(gasnet_c_node *node, gasnet_c_collectives *collectives, uint64_t base, uint64_t room);
 
 /* Gives their memory back; before the node's. The handle is dead then, as one of zeros. */
@@ -312,10 +328,10 @@ gasnet_c_told gasnet_c_coll_start(gasnet_c_node *node, gasnet_c_collectives *col
 gasnet_c_told gasnet_c_coll_step(gasnet_c_node *node, gasnet_c_collectives *collectives, uint64_t now, uint8_t *buffer,
                                  size_t room);
 
-/* Tries to end it, with the result at `dest` in the local segment. OK; MISMATCH, and it is ended without a result, since
- * the node `to`, the first of these, started another one; NOT_READY; WORN_OUT, by the node `to`; BAD where none is
- * started, or the result passes the end of the segment, shares a byte with the area, or is one of words that this node
- * has and isn't at a multiple of 8. */
+/* Tries to end it, with the result at `dest` in the local segment. OK; MISMATCH, and it is ended without a result,
+ * since the node `to`, the first of these, started another one; NOT_READY; WORN_OUT, by the node `to`; BAD where none
+ * is started, or the result passes the end of the segment, shares a byte with the area, or is one of words that this
+ * node has and isn't at a multiple of 8. */
 gasnet_c_told gasnet_c_coll_end(gasnet_c_node *node, gasnet_c_collectives *collectives, uint64_t now, uint64_t dest);
 
 #ifdef __cplusplus

@@ -1,4 +1,5 @@
-/* The requests and replies of GASNet 1.8.1's core API: gasnet_AMRequestShort0 to gasnet_AMReplyLong16. Part of gasnet.h.
+/* The requests and replies of GASNet 1.8.1's core API: gasnet_AMRequestShort0 to gasnet_AMReplyLong16. Part of
+ * gasnet.h.
  *
  * Each of them is a small inline function that hands its arguments on as an array. */
 #ifndef GASNET_MESSAGES_H
@@ -56,26 +57,26 @@ int gasnetl_reply(gasnet_token_t token, const struct gasnetl_message *message);
 
 /* A function with N arguments: its name, the way (request or reply), its first and its own parameters, and what stands
  * at the category, the source, its length and a Long's place. */
-#define GASNETL_DEFINE(name, n, way, first_type, own, category, source, nbytes, dest)                       \
-    static inline int gasnet_AM##name##n(first_type first, gasnet_handler_t handler own GASNETL_P##n) {     \
-        const gasnet_handlerarg_t args[] = { GASNETL_A##n };                                                \
-        const struct gasnetl_message message = { category, handler, source, nbytes, dest, n, args };        \
-        return gasnetl_##way(first, &message);                                                              \
+#define GASNETL_DEFINE(name, n, way, first_type, own, category, source, nbytes, dest)                                  \
+    static inline int gasnet_AM##name##n(first_type first, gasnet_handler_t handler own GASNETL_P##n) {                \
+        const gasnet_handlerarg_t args[] = { GASNETL_A##n };                                                           \
+        const struct gasnetl_message message = { category, handler, source, nbytes, dest, n, args };                   \
+        return gasnetl_##way(first, &message);                                                                         \
     }
 
 #define GASNETL_NOTHING
 #define GASNETL_SOURCE , const void *source_addr, size_t nbytes
 #define GASNETL_SOURCE_DEST , const void *source_addr, size_t nbytes, void *dest_addr
 
-#define GASNETL_WAY(n, name, way, first)                                                                    \
-    GASNETL_DEFINE(name##Short, n, way, first, GASNETL_NOTHING, 0, NULL, 0, NULL)                           \
-    GASNETL_DEFINE(name##Medium, n, way, first, GASNETL_SOURCE, 1, source_addr, nbytes, NULL)               \
+#define GASNETL_WAY(n, name, way, first)                                                                               \
+    GASNETL_DEFINE(name##Short, n, way, first, GASNETL_NOTHING, 0, NULL, 0, NULL)                                      \
+    GASNETL_DEFINE(name##Medium, n, way, first, GASNETL_SOURCE, 1, source_addr, nbytes, NULL)                          \
     GASNETL_DEFINE(name##Long, n, way, first, GASNETL_SOURCE_DEST, 2, source_addr, nbytes, dest_addr)
 
-#define GASNETL_ALL(n)                                                                                      \
-    GASNETL_WAY(n, Request, request, gasnet_node_t)                                                         \
-    GASNETL_DEFINE(RequestLongAsync, n, request, gasnet_node_t, GASNETL_SOURCE_DEST, 2, source_addr, nbytes, \
-                   dest_addr)                                                                               \
+#define GASNETL_ALL(n)                                                                                                 \
+    GASNETL_WAY(n, Request, request, gasnet_node_t)                                                                    \
+    GASNETL_DEFINE(RequestLongAsync, n, request, gasnet_node_t, GASNETL_SOURCE_DEST, 2, source_addr, nbytes,           \
+                   dest_addr)                                                                                          \
     GASNETL_WAY(n, Reply, reply, gasnet_token_t)
 
 GASNETL_ALL(0)

@@ -10,7 +10,8 @@ enum { SHORT = 0, MEDIUM = 1, LONG = 2, NONE = 3, POLL_MOST = 64 };
 static const gasnet_handlerarg_t no_args[1];
 static const uint8_t no_bytes[1];
 
-#define NOTHING { no_bytes, 0 }
+#define NOTHING                                                                                                        \
+    { no_bytes, 0 }
 const gasnet_c_run gasnetl_no_run = { { { no_args, 0 }, NOTHING, 0, NONE, 0 }, NOTHING };
 
 size_t gasnet_AMMaxArgs(void) { return GASNETL_ARGS; }
@@ -20,25 +21,37 @@ size_t gasnet_AMMaxLongReply(void) { return GASNET_C_PAYLOAD; }
 
 /* ---- The table. */
 
-/* The index of an entry that takes any: the highest free one, those of operations on words last. 0 where none is free. */
+/* Whether the endpoint serves this index itself, as long as no handler of the client's has it. */
+static bool is_served(int index) { return gasnetl_is_atomic(index) || index == GASNET_C_COLLECTIVE_HANDLER; }
+
+/* The index of an entry that takes any: the highest free one, those that the endpoint serves last. 0 where none is
+ * free. */
 static gasnet_handler_t free_index(const struct gasnetl_messages *messages) {
-    for (int own = 0; own < 2; own++)
+    for (int served = 0; served < 2; served++)
         for (int index = GASNETL_INDEXES - 1; index >= GASNETL_FIRST_INDEX; index--)
-            if (gasnetl_is_atomic(index) == own && !messages->handlers[index])
+            if (is_served(index) == served && !messages->handlers[index])
                 return (gasnet_handler_t)index;
     return 0;
+}
+
+const char *gasnetl_who_chose(const struct gasnetl_messages *messages, int index) {
+    if (messages->is_chosen[index])
+        return "gasnet_attach gave it to an entry of index 0, as all others were taken: register fewer handlers";
+    return "the client's table names it: give that handler another index";
 }
 
 static int register_entry(struct gasnetl_messages *messages, gasnet_handlerentry_t *entry, bool any) {
     if (any && !(entry->index = free_index(messages)))
         return gasnetl_refuse(GASNET_ERR_RESOURCE, "gasnet_attach: the indexes from 128 to 255 are used up");
     if (entry->index < GASNETL_FIRST_INDEX)
-        return gasnetl_refuse(GASNET_ERR_BAD_ARG, "gasnet_attach: index %u isn't a client's: use 128 to 255, or 0 for any", entry->index);
+        return gasnetl_refuse(GASNET_ERR_BAD_ARG,
+                              "gasnet_attach: index %u isn't a client's: use 128 to 255, or 0 for any", entry->index);
     if (messages->handlers[entry->index])
         return gasnetl_refuse(GASNET_ERR_BAD_ARG, "gasnet_attach: index %u has two handlers", entry->index);
     if (!entry->fnptr)
         return gasnetl_refuse(GASNET_ERR_BAD_ARG, "gasnet_attach: index %u has no function", entry->index);
     messages->handlers[entry->index] = entry->fnptr;
+    messages->is_chosen[entry->index] = any;
     return GASNET_OK;
 }
 
@@ -62,12 +75,15 @@ int gasnetl_register(struct gasnetl_messages *messages, gasnet_handlerentry_t *t
 static void run_handler(struct gasnetl_job *job, gasnet_token_t token, const struct gasnetl_run *run) {
     gasnetl_handler *handler = job->messages.handlers[run->handler];
     if (!handler)
-        gasnetl_stop(GASNETL_MISUSE, "a message of node %u came for handler %u, which isn't registered here", token->from, run->handler);
+        gasnetl_stop(GASNETL_MISUSE, "a message of node %u came for handler %u, which isn't registered here",
+                     token->from, run->handler);
     gasnetl_thread.token = token;
+    atomic_store_explicit(&job->messages.runs_handler, true, memory_order_release);
     gasnetl_call(handler, token, run);
     if (gasnetl_another_ends()) /* it had no turn left to wait for */
         gasnetl_stay_out(&job->turns);
     gasnetl_thread.token = NULL;
+    atomic_store_explicit(&job->messages.runs_handler, false, memory_order_relaxed);
     if (gasnetl_thread.locks)
         gasnetl_stop(GASNETL_MISUSE, "handler %u returned while it held a handler-safe lock", run->handler);
 }
@@ -99,11 +115,12 @@ static gasnet_c_bytes what_is_left(const struct gasnetl_run *run, const uint8_t 
 
 static void read_args(gasnet_handlerarg_t *args, const uint8_t *bytes, uint32_t count) {
     for (uint32_t i = 0; i < count; i++, bytes += 4)
-        args[i] = (gasnet_handlerarg_t)((uint32_t)bytes[0] << 24 | (uint32_t)bytes[1] << 16 | (uint32_t)bytes[2] << 8 | bytes[3]);
+        args[i] = (gasnet_handlerarg_t)((uint32_t)bytes[0] << 24 | (uint32_t)bytes[1] << 16 | (uint32_t)bytes[2] << 8 |
+                                        bytes[3]);
 }
 
-/* The payload as the handler sees it: a Long's at its place, a Medium's in a buffer. Both are copies, since the handler may
- * change them, and the datagram is delivered as it came. */
+/* The payload as the handler sees it: a Long's at its place, a Medium's in a buffer. Both are copies, since the handler
+ * may change them, and the datagram is delivered as it came. */
 static uint8_t *payload_for(struct gasnetl_job *job, const gasnet_c_coming *coming, const uint8_t *payload) {
     uint8_t *seen = coming->category == LONG ? job->segment.base + coming->place : job->messages.medium;
     memcpy(seen, payload, coming->payload_len);
@@ -111,14 +128,23 @@ static uint8_t *payload_for(struct gasnetl_job *job, const gasnet_c_coming *comi
 }
 
 /* The handler of a message that is about to be delivered runs. */
-static void run_coming(struct gasnetl_job *job, gasnet_token_t token, const gasnet_c_coming *coming, const uint8_t *bytes) {
+static void run_coming(struct gasnetl_job *job, gasnet_token_t token, const gasnet_c_coming *coming,
+                       const uint8_t *bytes) {
     gasnet_handlerarg_t args[GASNETL_ARGS];
     const uint8_t *payload = bytes + coming->payload_at;
-    const struct gasnetl_run run = { (gasnet_handler_t)coming->handler, coming->category, payload_for(job, coming, payload),
-                                     coming->payload_len, coming->count, args };
+    const struct gasnetl_run run = { (gasnet_handler_t)coming->handler,
+                                     coming->category,
+                                     payload_for(job, coming, payload),
+                                     coming->payload_len,
+                                     coming->count,
+                                     args };
     read_args(args, bytes + coming->args_at, coming->count);
     run_handler(job, token, &run);
     token->done.left = what_is_left(&run, payload, job->messages.left);
+}
+
+bool gasnetl_message_runs(struct gasnetl_job *job, const uint8_t *bytes, size_t length) {
+    return gasnet_c_peek(&job->node, bytes, length).runs != 0;
 }
 
 void gasnetl_message_take(struct gasnetl_job *job, const uint8_t *bytes, size_t length) {
@@ -129,7 +155,8 @@ void gasnetl_message_take(struct gasnetl_job *job, const uint8_t *bytes, size_t 
     token_start(&token, (gasnet_node_t)coming.from, coming.runs == 1);
     if (coming.runs)
         run_coming(job, &token, &coming, bytes);
-    const gasnet_c_told told = gasnet_c_deliver(&job->node, job->progress.time, bytes, length, &token.done, gasnetl_network_room(&job->network), GASNET_C_ROOM);
+    const gasnet_c_told told = gasnet_c_deliver(&job->node, job->progress.time, bytes, length, &token.done,
+                                                gasnetl_network_room(&job->network), GASNET_C_ROOM);
     gasnetl_told(job, &told);
     if (coming.runs && told.code != (coming.runs == 1 ? GASNET_C_RAN : GASNET_C_RETURNED))
         gasnetl_stop(GASNETL_BROKEN, "a delivery was answered %u where its handler ran", told.code);
@@ -138,18 +165,24 @@ void gasnetl_message_take(struct gasnetl_job *job, const uint8_t *bytes, size_t 
 /* ---- Replies. */
 
 /* What is wrong with a message to a node, if anything is; else the offset of a Long's place. */
-static int judge(const struct gasnetl_job *job, gasnet_node_t node, const struct gasnetl_message *message, uint64_t *offset) {
+static int judge_message(const struct gasnetl_job *job, gasnet_node_t node, const struct gasnetl_message *message,
+                         uint64_t *offset) {
     *offset = 0;
     if (node >= job->nodes)
         return gasnetl_refuse(GASNET_ERR_BAD_ARG, "a message to node %u: there are %u nodes", node, job->nodes);
     if (message->handler < GASNETL_FIRST_INDEX)
-        return gasnetl_refuse(GASNET_ERR_BAD_ARG, "a message for handler %u: a client's are 128 to 255", message->handler);
+        return gasnetl_refuse(GASNET_ERR_BAD_ARG, "a message for handler %u: a client's are 128 to 255",
+                              message->handler);
     if (message->nbytes > GASNET_C_PAYLOAD)
-        return gasnetl_refuse(GASNET_ERR_BAD_ARG, "a message of %zu bytes: the most is %d", message->nbytes, GASNET_C_PAYLOAD);
+        return gasnetl_refuse(GASNET_ERR_BAD_ARG, "a message of %zu bytes: the most is %d", message->nbytes,
+                              GASNET_C_PAYLOAD);
     if (message->nbytes && (!message->source || gasnetl_straddles(job, message->source, message->nbytes)))
-        return gasnetl_refuse(GASNET_ERR_BAD_ARG, "a message whose payload is at %p: that is NULL, or only in part in the local segment", message->source);
+        return gasnetl_refuse(GASNET_ERR_BAD_ARG,
+                              "a message whose payload is at %p: that is NULL, or only in part in the local segment",
+                              message->source);
     if (message->category == LONG && !gasnetl_far(job, node, message->dest, message->nbytes, offset))
-        return gasnetl_refuse(GASNET_ERR_BAD_ARG, "a Long message to %p of node %u: that isn't in its segment", message->dest, node);
+        return gasnetl_refuse(GASNET_ERR_BAD_ARG, "a Long message to %p of node %u: that isn't in its segment",
+                              message->dest, node);
     return GASNET_OK;
 }
 
@@ -168,15 +201,18 @@ int gasnetl_reply(gasnet_token_t token, const struct gasnetl_message *message) {
     struct gasnetl_job *job = &gasnetl_job;
     uint64_t offset;
     judge_reply(token);
-    int code = judge(job, token->from, message, &offset);
+    int code = judge_message(job, token->from, message, &offset);
     if (code != GASNET_OK)
         return code;
     memcpy(token->args, message->args, message->count * sizeof *message->args);
     if (message->nbytes)
         memcpy(job->messages.reply, message->source, message->nbytes);
     token->has_replied = true;
-    token->done.reply = (gasnet_c_reply){ { token->args, message->count }, { job->messages.reply, message->nbytes }, offset,
-                                          (uint32_t)message->category, message->handler };
+    token->done.reply = (gasnet_c_reply){ { token->args, message->count },
+                                          { job->messages.reply, message->nbytes },
+                                          offset,
+                                          (uint32_t)message->category,
+                                          message->handler };
     return GASNET_OK;
 }
 
@@ -188,7 +224,8 @@ static bool is_out_of_turn(const struct gasnetl_job *job) {
 }
 
 /* Makes the run of a message to the local node: its payload stands where the handler is to see it. */
-static struct gasnetl_run run_here(struct gasnetl_job *job, gasnet_handler_t handler, uint32_t category, uint64_t offset, gasnet_c_bytes payload, gasnet_c_args args) {
+static struct gasnetl_run run_here(struct gasnetl_job *job, gasnet_handler_t handler, uint32_t category,
+                                   uint64_t offset, gasnet_c_bytes payload, gasnet_c_args args) {
     void *place = category == LONG ? job->segment.base + offset : job->messages.medium;
     memcpy(place, payload.at, payload.len);
     return (struct gasnetl_run){ handler, category, place, payload.len, (unsigned)args.len, args.at };
@@ -209,21 +246,26 @@ static void request_here(struct gasnetl_job *job, gasnet_c_ask *ask, const struc
     run_handler(job, &token, &run);
     if (token.has_replied) {
         token_start(&reply_token, job->me, false);
-        const struct gasnetl_run back = run_here(job, reply->handler, reply->category, reply->offset, reply->payload, reply->args);
+        const struct gasnetl_run back =
+            run_here(job, reply->handler, reply->category, reply->offset, reply->payload, reply->args);
         run_handler(job, &reply_token, &back);
         reply_left = what_is_left(&back, own->reply, own->reply_left);
     }
     token.done.left = what_is_left(&run, payload, own->left);
-    const gasnet_c_told told = gasnet_c_request_own(&job->node, job->progress.time, ask, &token.done, reply_left.at, reply_left.len);
+    const gasnet_c_told told =
+        gasnet_c_request_own(&job->node, job->progress.time, ask, &token.done, reply_left.at, reply_left.len);
     if (told.code != GASNET_C_RAN_HERE)
         gasnetl_stop(GASNETL_BROKEN, "a request to the local node was answered %u", told.code);
 }
 
+/* Asks, where the node's window has room. */
 static gasnet_c_told ask_once(struct gasnetl_job *job, const gasnet_c_ask *ask) {
+    if (!gasnetl_recovery_may_send(job, ask->to, GASNETL_BY_CLIENT, 0))
+        return (gasnet_c_told){ .code = GASNET_C_NOT_YET };
     return gasnet_c_request(&job->node, job->progress.time, ask, gasnetl_network_room(&job->network), GASNET_C_ROOM);
 }
 
-/* A request to another node; it waits for a credit. */
+/* A request to another node; it waits for a credit, and for room in the window. */
 static void request_there(struct gasnetl_job *job, gasnet_c_ask *ask, const struct gasnetl_message *message) {
     unsigned turn = 0;
     if (message->nbytes && gasnetl_far(job, job->me, message->source, message->nbytes, &ask->source)) {
@@ -249,9 +291,12 @@ int gasnetl_request(gasnet_node_t node, const struct gasnetl_message *message) {
     if (is_out_of_turn(&gasnetl_job))
         return gasnetl_refuse(GASNET_ERR_NOT_INIT, "gasnet_AMRequest is called before gasnet_attach");
     struct gasnetl_job *job = gasnetl_enter("gasnet_AMRequest");
-    gasnet_c_ask ask = { .args = { message->args, message->count }, .payload = NOTHING, .category = (uint32_t)message->category,
-                         .to = node, .handler = message->handler };
-    int code = judge(job, node, message, &ask.offset);
+    gasnet_c_ask ask = { .args = { message->args, message->count },
+                         .payload = NOTHING,
+                         .category = (uint32_t)message->category,
+                         .to = node,
+                         .handler = message->handler };
+    int code = judge_message(job, node, message, &ask.offset);
     if (code == GASNET_OK) {
         gasnetl_request_begins(job);
         if (node == job->me)

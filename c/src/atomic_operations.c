@@ -6,12 +6,18 @@ static const struct form {
     uint32_t kind;
     bool by_one;
 } forms[] = {
-    { GEX_OP_AND, GEX_OP_FAND, GASNET_C_OP_AND, false },  { GEX_OP_OR, GEX_OP_FOR, GASNET_C_OP_OR, false },
-    { GEX_OP_XOR, GEX_OP_FXOR, GASNET_C_OP_XOR, false },  { GEX_OP_ADD, GEX_OP_FADD, GASNET_C_OP_ADD, false },
-    { GEX_OP_SUB, GEX_OP_FSUB, GASNET_C_OP_SUB, false },  { GEX_OP_MULT, GEX_OP_FMULT, GASNETL_MULTIPLY, false },
-    { GEX_OP_MIN, GEX_OP_FMIN, GASNET_C_OP_MIN, false },  { GEX_OP_MAX, GEX_OP_FMAX, GASNET_C_OP_MAX, false },
-    { GEX_OP_INC, GEX_OP_FINC, GASNET_C_OP_ADD, true },   { GEX_OP_DEC, GEX_OP_FDEC, GASNET_C_OP_SUB, true },
-    { GEX_OP_SET, GEX_OP_SWAP, GASNET_C_OP_SWAP, false }, { GEX_OP_CAS, GEX_OP_FCAS, GASNET_C_OP_COMPARE_SWAP, false },
+    { GEX_OP_AND, GEX_OP_FAND, GASNET_C_OP_AND, false },
+    { GEX_OP_OR, GEX_OP_FOR, GASNET_C_OP_OR, false },
+    { GEX_OP_XOR, GEX_OP_FXOR, GASNET_C_OP_XOR, false },
+    { GEX_OP_ADD, GEX_OP_FADD, GASNET_C_OP_ADD, false },
+    { GEX_OP_SUB, GEX_OP_FSUB, GASNET_C_OP_SUB, false },
+    { GEX_OP_MULT, GEX_OP_FMULT, GASNETL_MULTIPLY, false },
+    { GEX_OP_MIN, GEX_OP_FMIN, GASNET_C_OP_MIN, false },
+    { GEX_OP_MAX, GEX_OP_FMAX, GASNET_C_OP_MAX, false },
+    { GEX_OP_INC, GEX_OP_FINC, GASNET_C_OP_ADD, true },
+    { GEX_OP_DEC, GEX_OP_FDEC, GASNET_C_OP_SUB, true },
+    { GEX_OP_SET, GEX_OP_SWAP, GASNET_C_OP_SWAP, false },
+    { GEX_OP_CAS, GEX_OP_FCAS, GASNET_C_OP_COMPARE_SWAP, false },
     { 0, GEX_OP_GET, GASNET_C_OP_GET, false },
 };
 enum { FORMS = sizeof forms / sizeof *forms };
@@ -41,12 +47,15 @@ static uint64_t cut(const struct gasnetl_change *change, uint64_t number) {
     return change->bits == 64 ? number : number & UINT32_MAX;
 }
 
-bool gasnetl_change_of(struct gasnetl_change *change, gex_DT_t type, gex_OP_t op, uint64_t a, uint64_t b, unsigned byte) {
+bool gasnetl_change_of(struct gasnetl_change *change, gex_DT_t type, gex_OP_t op, uint64_t a, uint64_t b,
+                       unsigned byte) {
     for (int i = 0; i < FORMS; i++) {
         const struct form *form = &forms[i];
         if (!op || (form->plain != op && form->fetching != op))
             continue;
-        *change = (struct gasnetl_change){ .kind = form->kind, .bits = 8 * (unsigned)gasnetl_size_of(type), .shift = 8 * byte };
+        *change = (struct gasnetl_change){ .kind = form->kind,
+                                           .bits = 8 * (unsigned)gasnetl_size_of(type),
+                                           .shift = 8 * byte };
         change->is_signed = type == GEX_DT_I32 || type == GEX_DT_I64;
         change->brings = form->fetching == op;
         change->a = form->by_one ? 1 : cut(change, a);
@@ -56,7 +65,9 @@ bool gasnetl_change_of(struct gasnetl_change *change, gex_DT_t type, gex_OP_t op
     return false;
 }
 
-uint64_t gasnetl_number_in(const struct gasnetl_change *change, uint64_t word) { return cut(change, word >> change->shift); }
+uint64_t gasnetl_number_in(const struct gasnetl_change *change, uint64_t word) {
+    return cut(change, word >> change->shift);
+}
 
 static bool is_less(const struct gasnetl_change *change, uint64_t x, uint64_t y) {
     const uint64_t sign = change->is_signed ? (uint64_t)1 << (change->bits - 1) : 0;

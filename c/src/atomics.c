@@ -61,7 +61,8 @@ static gasnet_c_told ask_once(struct gasnetl_job *job, struct gasnetl_block *blo
 
 static uint16_t first_on_word(const struct gasnetl_atomics *atomics, const struct gasnetl_block *block) {
     uint16_t index = atomics->swapping;
-    while (index != GASNETL_NONE && (atomics->blocks[index].to != block->to || atomics->blocks[index].offset != block->offset))
+    while (index != GASNETL_NONE &&
+           (atomics->blocks[index].to != block->to || atomics->blocks[index].offset != block->offset))
         index = atomics->blocks[index].next;
     return index;
 }
@@ -94,8 +95,8 @@ static void gather(const struct gasnetl_atomics *atomics, struct gasnetl_block *
 
 /* ---- Replies. */
 
-/* The operation acted when the word was this one: the client is told what the number was, and the block is free again. Answers
- * what the operation made of the word. */
+/* The operation acted when the word was this one: the client is told what the number was, and the block is free again.
+ * Answers what the operation made of the word. */
 static uint64_t complete(struct gasnetl_atomics *atomics, uint16_t index, uint64_t word) {
     struct gasnetl_block *block = &atomics->blocks[index];
     const uint64_t number = gasnetl_number_in(&block->change, word);
@@ -107,8 +108,8 @@ static uint64_t complete(struct gasnetl_atomics *atomics, uint16_t index, uint64
     return gasnetl_word_made(&block->change, word);
 }
 
-/* All that went with a compare-and-swap acted when the word was this one. Answers the first one of the others, which expects
- * what they made of it; or GASNETL_NONE. */
+/* All that went with a compare-and-swap acted when the word was this one. Answers the first one of the others, which
+ * expects what they made of it; or GASNETL_NONE. */
 static uint16_t complete_together(struct gasnetl_atomics *atomics, uint16_t index, uint64_t word) {
     const uint16_t last = atomics->blocks[index].last;
     const unsigned together = atomics->blocks[index].together;
@@ -134,8 +135,8 @@ static uint16_t bring(struct gasnetl_job *job, uint16_t index, uint16_t from) {
     uint64_t came[2];
     memcpy(came, job->segment.base + place_of(job, index), sizeof came);
     if (came[1] != block->tag)
-        gasnetl_stop(GASNETL_MISUSE, "node %u doesn't serve operations on words: its handler %d or %d is the client's", from,
-                     GASNET_C_BATCH_HANDLER, GASNET_C_BLOCK_HANDLER);
+        gasnetl_stop(GASNETL_MISUSE, "node %u doesn't serve operations on words: its handler %d or %d is the client's",
+                     from, GASNET_C_BATCH_HANDLER, GASNET_C_BLOCK_HANDLER);
     if (is_direct(block)) {
         complete(atomics, index, came[0]);
         return GASNETL_NONE;
@@ -173,7 +174,8 @@ void gasnetl_atomic_back(struct gasnetl_job *job, uint16_t to, uint16_t slot) {
 bool gasnetl_atomic_take(struct gasnetl_job *job, const uint8_t *bytes, size_t length) {
     if (!job->atomics.served || length <= GASNET_C_HANDLER_AT || !gasnetl_is_atomic(bytes[GASNET_C_HANDLER_AT]))
         return false;
-    gasnet_c_told told = gasnet_c_serve(&job->node, job->progress.time, bytes, length, gasnetl_network_room(&job->network), GASNET_C_ROOM);
+    gasnet_c_told told = gasnet_c_serve(&job->node, job->progress.time, bytes, length,
+                                        gasnetl_network_room(&job->network), GASNET_C_ROOM);
     gasnetl_told(job, &told);
     return true;
 }
@@ -185,12 +187,18 @@ struct gasnetl_domain {
     gex_OP_t ops;
 };
 
+/* The one of the two indexes that a handler of the client's has. */
+static int own_index(const struct gasnetl_messages *messages) {
+    return messages->handlers[GASNET_C_BLOCK_HANDLER] ? GASNET_C_BLOCK_HANDLER : GASNET_C_BATCH_HANDLER;
+}
+
 void gex_AD_Create(gex_AD_t *ad_p, gex_TM_t tm, gex_DT_t dt, gex_OP_t ops, gex_Flags_t flags) {
     struct gasnetl_job *job = gasnetl_enter("gex_AD_Create");
     (void)tm;
     (void)flags;
     if (!job->atomics.served)
-        gasnetl_stop(GASNETL_MISUSE, "gex_AD_Create: the client registered handler %d or %d itself", GASNET_C_BATCH_HANDLER, GASNET_C_BLOCK_HANDLER);
+        gasnetl_stop(GASNETL_MISUSE, "gex_AD_Create: handler %d, which operations on words need, is the client's: %s",
+                     own_index(&job->messages), gasnetl_who_chose(&job->messages, own_index(&job->messages)));
     if (!gasnetl_size_of(dt))
         gasnetl_stop(GASNETL_MISUSE, "gex_AD_Create: a number is of GEX_DT_I32, GEX_DT_U32, GEX_DT_I64 or GEX_DT_U64");
     if (ops & ~gasnetl_all_operations())
@@ -223,14 +231,17 @@ static struct gasnetl_block judge(const struct gasnetl_job *job, struct gasnetl_
     if (asked->node >= job->nodes)
         gasnetl_stop(GASNETL_MISUSE, "%s to node %u: there are %u nodes", asked->call, asked->node, job->nodes);
     if (!gasnetl_far(job, (gasnet_node_t)asked->node, asked->at, size, &block.offset) || block.offset % size)
-        gasnetl_stop(GASNETL_MISUSE, "%s at %p: that is no number in the segment of node %u", asked->call, asked->at, asked->node);
+        gasnetl_stop(GASNETL_MISUSE, "%s at %p: that is no number in the segment of node %u", asked->call, asked->at,
+                     asked->node);
     const unsigned byte = block.offset % WORD;
     block.offset -= byte;
     if (!asked->domain || asked->domain->type != asked->type || !(asked->domain->ops & asked->op) ||
         !gasnetl_change_of(&block.change, asked->type, asked->op, asked->a, asked->b, byte))
-        gasnetl_stop(GASNETL_MISUSE, "%s of operation %#x: its domain hasn't it, or is of another type", asked->call, asked->op);
+        gasnetl_stop(GASNETL_MISUSE, "%s of operation %#x: its domain hasn't it, or is of another type", asked->call,
+                     asked->op);
     if (block.change.brings && !asked->result)
-        gasnetl_stop(GASNETL_MISUSE, "%s of operation %#x: there is no place for what the number was", asked->call, asked->op);
+        gasnetl_stop(GASNETL_MISUSE, "%s of operation %#x: there is no place for what the number was", asked->call,
+                     asked->op);
     block.result = block.change.brings ? asked->result : NULL;
     return block;
 }
@@ -244,10 +255,12 @@ static uint16_t take_block(struct gasnetl_atomics *atomics, const struct gasnetl
     return index;
 }
 
-/* Asks with the first free block, where there is one. */
+/* Asks with the first free block, where there is one, and the window of the word's node has room. */
 static gasnet_c_told ask_if_free(struct gasnetl_job *job, struct gasnetl_block *block) {
     const uint16_t index = job->atomics.free;
-    return index == GASNETL_NONE ? (gasnet_c_told){ .code = GASNET_C_NOT_YET } : ask_once(job, block, index);
+    bool may_send = block->to == job->me || gasnetl_recovery_may_send(job, block->to, GASNETL_BY_LIBRARY, 0);
+    return index == GASNETL_NONE || !may_send ? (gasnet_c_told){ .code = GASNET_C_NOT_YET }
+                                              : ask_once(job, block, index);
 }
 
 /* The same, and waits for a block and a credit where it has to. */
@@ -316,10 +329,11 @@ static int implicit(const struct asked *asked) {
     return 0;
 }
 
-#define ASKED(call, type) \
-    ((void)flags, &(struct asked){ call, ad, type, tgt_rank, tgt_addr, result_p, op, (uint64_t)operand1, (uint64_t)operand2 })
-#define CALLS(name, type)                                                                                             \
-    gex_Event_t gex_AD_OpNB_##name(GASNETL_OF(type)) { return explicit(ASKED("gex_AD_OpNB_" #name, GEX_DT_##name)); } \
+#define ASKED(call, type)                                                                                              \
+    ((void)flags,                                                                                                      \
+     &(struct asked){ call, ad, type, tgt_rank, tgt_addr, result_p, op, (uint64_t)operand1, (uint64_t)operand2 })
+#define CALLS(name, type)                                                                                              \
+    gex_Event_t gex_AD_OpNB_##name(GASNETL_OF(type)) { return explicit(ASKED("gex_AD_OpNB_" #name, GEX_DT_##name)); }  \
     int gex_AD_OpNBI_##name(GASNETL_OF(type)) { return implicit(ASKED("gex_AD_OpNBI_" #name, GEX_DT_##name)); }
 
 CALLS(I32, int32_t)

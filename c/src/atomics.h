@@ -1,10 +1,10 @@
 /* Operations on numbers in words of 64 bits, which the endpoint of the word's node does.
  *
- * Each step is one request, and its reply brings what the word was, and a tag, to a block of the layer's part of the own
- * segment, behind the stage. The endpoint names the slot of a request that goes out, and of one that is back: so the layer
- * knows whose step it is without a search. An operation that the node can't do in one step goes by compare-and-swaps, and
- * those of this node on one word go together: while one of them waits for its reply the others wait behind it, and then
- * one compare-and-swap does all of them. */
+ * Each step is one request, and its reply brings what the word was, and a tag, to a block of the layer's part of the
+ * own segment, behind the stage. The endpoint names the slot of a request that goes out, and of one that is back: so
+ * the layer knows whose step it is without a search. An operation that the node can't do in one step goes by
+ * compare-and-swaps, and those of this node on one word go together: while one of them waits for its reply the others
+ * wait behind it, and then one compare-and-swap does all of them. */
 #ifndef GASNETL_ATOMICS_H
 #define GASNETL_ATOMICS_H
 
@@ -24,13 +24,13 @@ struct gasnetl_messages;
 enum {
     GASNETL_BLOCK = 16, /* the bytes of a block: what the word was, and the tag */
     GASNETL_BLOCKS = GASNET_C_MAX_NODES * GASNET_C_MAX_CREDITS, /* as many as can be out */
-    GASNETL_BLOCKS_OWN = GASNETL_BLOCK * GASNETL_BLOCKS /* their part of each segment */
+    GASNETL_BLOCKS_OWN = GASNETL_BLOCK * GASNETL_BLOCKS         /* their part of each segment */
 };
 
 /* An operation. The first one of those on a word has the others behind it. */
 struct gasnetl_block {
     struct gasnetl_op *op;
-    void *result;      /* where what the number was goes; or NULL */
+    void *result; /* where what the number was goes; or NULL */
     struct gasnetl_change change;
     uint64_t offset;   /* of the word in its node's segment */
     uint16_t to;       /* the word's node */
@@ -55,14 +55,17 @@ struct gasnetl_atomics {
     uint16_t free;
     uint16_t swapping; /* the first ones of each word on which a compare-and-swap is out */
     struct gasnetl_known known;
-    uint16_t owner[GASNET_MAXNODES][GASNET_C_MAX_CREDITS]; /* whose block waits for the request in a slot, or GASNETL_NONE */
+    uint16_t owner[GASNET_MAXNODES]
+                  [GASNET_C_MAX_CREDITS]; /* whose block waits for the request in a slot, or GASNETL_NONE */
 };
 
 /* Makes ready, where the client's handlers are registered. */
 void gasnetl_atomics_start(struct gasnetl_atomics *atomics, const struct gasnetl_messages *messages);
 
 /* Whether a handler's index is one of theirs. */
-static inline bool gasnetl_is_atomic(int index) { return index == GASNET_C_BATCH_HANDLER || index == GASNET_C_BLOCK_HANDLER; }
+static inline bool gasnetl_is_atomic(int index) {
+    return index == GASNET_C_BATCH_HANDLER || index == GASNET_C_BLOCK_HANDLER;
+}
 
 /* Takes a datagram, if it is one for the handlers of operations: false where it isn't. */
 bool gasnetl_atomic_take(struct gasnetl_job *job, const uint8_t *bytes, size_t length);

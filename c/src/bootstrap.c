@@ -10,6 +10,7 @@
 
 #include "config.h"
 #include "hosts.h"
+#include "runner.h"
 
 /* Has a description of the pipe that is this node's own, as its signals go to one owner of each. All nodes inherit one.
  * Where the system has no /proc the inherited one it is. */
@@ -47,10 +48,10 @@ static bool hold_lifeline(void) {
 
 /* Reads the addresses of all nodes. */
 static bool read_places(const struct gasnetl_hosts *hosts, struct gasnetl_places *places, uint16_t nodes) {
-    const char *why;
+    struct gasnetl_why why;
     if (gasnetl_places_read(places, nodes, hosts->addresses, &why))
         return true;
-    fprintf(stderr, "gasnet: %s is broken: %s; ", hosts->variable, why);
+    fprintf(stderr, "gasnet: %s is broken: %s; ", hosts->variable, why.text);
     if (hosts->count)
         fprintf(stderr, "set it to a host for each of %u nodes\n", nodes);
     else
@@ -58,15 +59,33 @@ static bool read_places(const struct gasnetl_hosts *hosts, struct gasnetl_places
     return false;
 }
 
+static bool is_rank(const struct gasnetl_hosts *hosts, uint64_t rank, uint64_t nodes) {
+    const char *variable = getenv("GASNET_NODES") || !hosts->variable ? "GASNET_NODES" : hosts->variable;
+    if (rank < nodes)
+        return true;
+    fprintf(stderr,
+            "gasnet: GASNET_RANK is '%d', but by %s the ranks are 0 to %d: set it to one of these, or set %s "
+            "for more nodes\n",
+            (int)rank, variable, (int)nodes - 1, variable);
+    return false;
+}
+
 /* Reads what is said of this node, where all nodes are known. */
 static bool read_start(struct gasnetl_start *start, const struct gasnetl_hosts *hosts) {
     uint64_t nodes, rank, job, socket;
     const uint64_t none = 1 << 20;
+    if (!hosts->count && !getenv("GASNET_NODES")) {
+        fprintf(stderr, "gasnet: GASNET_RANK is set, but not how many nodes there are: set GASNET_HOSTS to their "
+                        "hosts, or GASNET_NODES to their number and GASNET_ADDRESSES to where they are, or unset "
+                        "GASNET_RANK for a job of one node\n");
+        return false;
+    }
     if (!gasnetl_config_number("GASNET_NODES", 1, GASNET_C_MAX_NODES, hosts->count ? hosts->count : 1, &nodes) ||
-        !gasnetl_config_number("GASNET_RANK", 0, nodes - 1, 0, &rank) ||
+        !gasnetl_config_number("GASNET_RANK", 0, GASNET_C_MAX_NODES - 1, 0, &rank) || !is_rank(hosts, rank, nodes) ||
         !gasnetl_config_number("GASNET_JOB", 0, UINT64_MAX, 0, &job) ||
         !gasnetl_config_number("GASNET_SOCKET", 0, none - 1, none, &socket) || !hold_lifeline())
         return false;
+    gasnetl_runner_start();
     start->nodes = (uint16_t)nodes;
     start->me = (uint16_t)rank;
     start->job = job;
@@ -78,7 +97,8 @@ static bool start_by_variables(struct gasnetl_start *start, struct gasnetl_place
     struct gasnetl_hosts hosts;
     bool is_read = gasnetl_hosts_ask(&hosts) && read_start(start, &hosts);
     if (is_read && !hosts.variable) {
-        fprintf(stderr, "gasnet: neither GASNET_ADDRESSES nor GASNET_HOSTS is set: set one, to where each of %u nodes is\n",
+        fprintf(stderr,
+                "gasnet: neither GASNET_ADDRESSES nor GASNET_HOSTS is set: set one, to where each of %u nodes is\n",
                 start->nodes);
         is_read = false;
     }
@@ -87,16 +107,37 @@ static bool start_by_variables(struct gasnetl_start *start, struct gasnetl_place
     return is_read;
 }
 
+/* Where variables tell of several nodes, but not which one this is: the variable that does; else NULL. */
+static const char *rankless(void) {
+    static const char *const names[] = { "GASNET_ADDRESSES", "GASNET_HOSTS", "GASNET_HOSTS_FILE", "GASNET_NODES" };
+    for (int i = 0; i < 4; i++)
+        if (getenv(names[i]))
+            return names[i];
+    return NULL;
+}
+
+/* Nobody says which node this is: it is a job of its own, unless a variable tells of others. */
+static bool start_alone(struct gasnetl_start *start) {
+    const char *variable = rankless();
+    start->nodes = 1;
+    start->neighbours = 1;
+    if (!variable)
+        return true;
+    fprintf(stderr,
+            "gasnet: %s is set, but not which node this is: set GASNET_RANK to it, from 0, or unset %s for a "
+            "job of one node\n",
+            variable, variable);
+    return false;
+}
+
 bool gasnetl_bootstrap(struct gasnetl_start *start, struct gasnetl_places *places) {
     memset(start, 0, sizeof *start);
     start->socket = -1;
-    if (getenv("GASNET_RANK") || getenv("GASNET_ADDRESSES"))
+    if (getenv("GASNET_RANK"))
         return start_by_variables(start, places);
     if (getenv("PMIX_RANK") && getenv("PMIX_NAMESPACE"))
         return gasnetl_pmix_start(start, places);
-    start->nodes = 1;
-    start->neighbours = 1;
-    return true;
+    return start_alone(start);
 }
 
 void gasnetl_bootstrap_end(const struct gasnetl_start *start) {

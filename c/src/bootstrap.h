@@ -9,16 +9,16 @@
 
 struct gasnetl_start {
     uint16_t nodes, me;
-    uint64_t job;      /* the same number on all nodes, another one for another job */
+    uint64_t job;        /* the same number on all nodes, another one for another job */
     unsigned neighbours; /* how many nodes this host has; 0 where that isn't known */
-    int socket;        /* of the local address, or -1 */
+    int socket;          /* of the local address, or -1 */
     bool by_pmix;
 };
 
-/* Asks the environment, where it has GASNET_RANK or GASNET_ADDRESSES: GASNET_NODES, GASNET_RANK, GASNET_JOB, GASNET_SOCKET
- * and GASNET_LIFELINE, as gasnetrun sets them, and where the nodes are (hosts.h); else a process manager by PMIx, where
- * this was built with it; else there is one node. It reads the places where there are several nodes. False where what it
- * is told is broken: a line on standard error has said what, and what to do. */
+/* Asks the environment, where it has GASNET_RANK: GASNET_NODES, GASNET_JOB, GASNET_SOCKET and GASNET_LIFELINE, as
+ * gasnetrun sets them, and where the nodes are (hosts.h); else a process manager by PMIx, where this was built with
+ * it; else there is one node, and no variable may tell of others. It reads the places where there are several nodes.
+ * False where what it is told is broken: a line on standard error has said what, and what to do. */
 bool gasnetl_bootstrap(struct gasnetl_start *start, struct gasnetl_places *places);
 
 /* Tells the process manager, if there is one, that this node ends well. */

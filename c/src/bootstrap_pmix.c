@@ -21,12 +21,11 @@ void gasnetl_pmix_abort(int status) { (void)status; }
 
 #else
 
-#include <ifaddrs.h>
-#include <net/if.h>
-#include <netinet/in.h>
+#include <errno.h>
 #include <pmix.h>
 #include <sys/random.h>
 
+#include "interfaces.h"
 #include "network.h"
 
 static pmix_proc_t own;
@@ -56,33 +55,35 @@ static bool job_number(const char *key, uint32_t *number) {
     return !fails(key, is_number ? PMIX_SUCCESS : PMIX_ERR_TYPE_MISMATCH);
 }
 
-/* The first address of this host that isn't its loopback's; the loopback's where there is none. */
-static void own_host(struct sockaddr_in *address) {
-    struct ifaddrs *list, *at;
-    address->sin_family = AF_INET;
-    address->sin_addr.s_addr = htonl(INADDR_LOOPBACK);
-    if (getifaddrs(&list))
-        return;
-    for (at = list; at; at = at->ifa_next)
-        if (at->ifa_addr && at->ifa_addr->sa_family == AF_INET && at->ifa_flags & IFF_UP && !(at->ifa_flags & IFF_LOOPBACK)) {
-            address->sin_addr = ((struct sockaddr_in *)at->ifa_addr)->sin_addr;
-            break;
-        }
-    freeifaddrs(list);
+/* Where this node is to be: by GASNET_INTERFACE, else at the loopback's address where all nodes are on one host,
+ * else at the host's first address. False where GASNET_INTERFACE names none. */
+static bool own_place(const struct gasnetl_start *start, struct gasnetl_place *place) {
+    const char *word = getenv("GASNET_INTERFACE");
+    if (!word && start->neighbours >= start->nodes)
+        word = "127.0.0.1";
+    if (!word)
+        gasnetl_interface_first(&place->address, &place->length);
+    else if (!gasnetl_interface_find(word, &place->address, &place->length)) {
+        fprintf(stderr,
+                "gasnet: node %u: GASNET_INTERFACE is '%s': set it to an interface of this host, as eth0, that "
+                "is up and has an address, or to an address that this host has\n",
+                start->me, word);
+        return false;
+    }
+    return true;
 }
 
 /* A socket of this host, and its address as a text. */
 static bool bind_own(struct gasnetl_start *start, char *text) {
-    struct sockaddr_in address = { .sin_family = AF_INET, .sin_addr.s_addr = htonl(INADDR_LOOPBACK) };
-    socklen_t length = sizeof address;
-    if (start->neighbours < start->nodes)
-        own_host(&address);
-    start->socket = gasnetl_network_bind((struct sockaddr *)&address, length);
-    if (start->socket < 0 || getsockname(start->socket, (struct sockaddr *)&address, &length)) {
-        fprintf(stderr, "gasnet: node %u can't have a socket\n", start->me);
+    struct gasnetl_place place = { .length = 0 };
+    if (!own_place(start, &place))
+        return false;
+    start->socket = gasnetl_network_bind((struct sockaddr *)&place.address, place.length);
+    if (start->socket < 0 || getsockname(start->socket, (struct sockaddr *)&place.address, &place.length)) {
+        fprintf(stderr, "gasnet: node %u can't have a socket (%s)\n", start->me, strerror(errno));
         return false;
     }
-    gasnetl_place_write((struct sockaddr_storage *)&address, text, TEXT);
+    gasnetl_place_write(&place.address, text, TEXT);
     return true;
 }
 
@@ -122,7 +123,7 @@ static bool get_text(uint32_t node, const char *key, char *text) {
 
 static bool gather(struct gasnetl_start *start, struct gasnetl_places *places) {
     char all[GASNET_C_MAX_NODES * TEXT] = "", job[TEXT];
-    const char *why;
+    struct gasnetl_why why;
     size_t length = 0;
     for (uint32_t node = 0; node < start->nodes; node++) {
         if (node)
@@ -136,7 +137,10 @@ static bool gather(struct gasnetl_start *start, struct gasnetl_places *places) {
     start->job = strtoull(job, NULL, 10);
     if (gasnetl_places_read(places, start->nodes, all, &why))
         return true;
-    fprintf(stderr, "gasnet: the addresses that nodes published are broken: %s\n", why);
+    fprintf(stderr,
+            "gasnet: the addresses that nodes published are broken: %s; set GASNET_INTERFACE to the interface "
+            "by which the hosts reach one another\n",
+            why.text);
     return false;
 }
 

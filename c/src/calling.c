@@ -36,13 +36,15 @@
 #define T16 T15, T1
 
 /* Each with the first arguments of its own in front: a token, or a token and a payload. */
-#define CASE(n)                                                       \
-    case n:                                                           \
-        ((void (*)(TYPES, T##n))handler)(VALUES, A##n);               \
+#define CASE(n)                                                                                                        \
+    case n:                                                                                                            \
+        ((void (*)(TYPES, T##n))handler)(VALUES, A##n);                                                                \
         break;
-#define CASES                                                         \
-    CASE(1) CASE(2) CASE(3) CASE(4) CASE(5) CASE(6) CASE(7) CASE(8)   \
+/* clang-format off */
+#define CASES                                                                                  \
+    CASE(1) CASE(2) CASE(3) CASE(4) CASE(5) CASE(6) CASE(7) CASE(8)                            \
     CASE(9) CASE(10) CASE(11) CASE(12) CASE(13) CASE(14) CASE(15) CASE(16)
+/* clang-format on */
 
 #define TYPES gasnet_token_t
 #define VALUES token

@@ -12,7 +12,9 @@ enum { WORD = 8 };
 
 /* ---- Places in the local segment. */
 
-static uint64_t area_at(const struct gasnetl_job *job) { return job->segment.stage + GASNETL_STAGE + GASNETL_BLOCKS_OWN; }
+static uint64_t area_at(const struct gasnetl_job *job) {
+    return job->segment.stage + GASNETL_STAGE + GASNETL_BLOCKS_OWN;
+}
 
 static uint64_t given_at(const struct gasnetl_job *job) { return area_at(job) + GASNETL_COLLECTIVE_AREA; }
 
@@ -28,15 +30,6 @@ bool gasnetl_collectives_open(struct gasnetl_job *job) {
     return gasnet_c_coll_new(&job->node, &job->collectives.handle, area_at(job), GASNETL_COLLECTIVE_ROOM) == 0;
 }
 
-void gasnetl_collectives_end(struct gasnetl_collectives *collectives) {
-    while (collectives->first) {
-        struct gasnetl_collective *next = collectives->first->next;
-        free(collectives->first);
-        collectives->first = next;
-    }
-    gasnet_c_coll_free(&collectives->handle);
-}
-
 /* ---- One piece. */
 
 /* How many bytes each node gives to the piece that is next. */
@@ -45,14 +38,19 @@ static size_t piece_of(const struct gasnetl_collective *one) {
     return rest < GASNETL_COLLECTIVE_ROOM ? rest : GASNETL_COLLECTIVE_ROOM;
 }
 
-static bool gives(const struct gasnetl_collective *one, gasnet_node_t me) { return one->kind != GASNET_C_BROADCAST || one->root == me; }
+static bool gives(const struct gasnetl_collective *one, gasnet_node_t me) {
+    return one->kind != GASNET_C_BROADCAST || one->root == me;
+}
 
 static bool has_result(const struct gasnetl_collective *one, gasnet_node_t me) {
-    bool at_root = one->kind == GASNET_C_GATHER || one->kind == GASNET_C_SUM || one->kind == GASNET_C_MIN || one->kind == GASNET_C_MAX;
+    bool at_root = one->kind == GASNET_C_GATHER || one->kind == GASNET_C_SUM || one->kind == GASNET_C_MIN ||
+                   one->kind == GASNET_C_MAX;
     return !at_root || one->root == me;
 }
 
-static bool gathers(const struct gasnetl_collective *one) { return one->kind == GASNET_C_GATHER || one->kind == GASNET_C_ALL_GATHER; }
+static bool gathers(const struct gasnetl_collective *one) {
+    return one->kind == GASNET_C_GATHER || one->kind == GASNET_C_ALL_GATHER;
+}
 
 /* Turns this bit of each word. */
 static void turn(uint8_t *words, size_t nbytes, uint64_t bit) {
@@ -66,7 +64,9 @@ static void turn(uint8_t *words, size_t nbytes, uint64_t bit) {
 
 static void start_piece(struct gasnetl_job *job, const struct gasnetl_collective *one) {
     struct gasnetl_collectives *collectives = &job->collectives;
-    gasnet_c_collective what = { .from = given_at(job), .len = piece_of(one), .kind = one->kind, .root = (uint16_t)one->root };
+    gasnet_c_collective what = {
+        .from = given_at(job), .len = piece_of(one), .kind = one->kind, .root = (uint16_t)one->root
+    };
     uint8_t *given = job->segment.base + what.from;
     if (what.len && gives(one, job->me)) {
         memcpy(given, one->source + one->done, what.len);
@@ -86,7 +86,8 @@ static void start_piece(struct gasnetl_job *job, const struct gasnetl_collective
 static void send_piece(struct gasnetl_job *job) {
     struct gasnetl_collectives *collectives = &job->collectives;
     while (collectives->unsent) {
-        gasnet_c_told told = gasnet_c_coll_step(&job->node, &collectives->handle, job->progress.time, gasnetl_network_room(&job->network), GASNET_C_ROOM);
+        gasnet_c_told told = gasnet_c_coll_step(&job->node, &collectives->handle, job->progress.time,
+                                                gasnetl_network_room(&job->network), GASNET_C_ROOM);
         if (told.code == GASNET_C_NOTHING)
             return;
         if (told.code != GASNET_C_ACCEPTED)
@@ -108,6 +109,17 @@ static void bring(struct gasnetl_job *job, const struct gasnetl_collective *one)
         memcpy(one->dest + i * one->nbytes + one->done, result + i * length, length);
 }
 
+void gasnetl_collectives_on_mismatch(void (*end)(int node)) { gasnetl_job.collectives.on_mismatch = end; }
+
+static _Noreturn void end_by_mismatch(const struct gasnetl_collectives *collectives, const char *call, uint16_t node) {
+    if (collectives->on_mismatch) {
+        gasnetl_thread.ends_itself = true;
+        collectives->on_mismatch(node);
+    }
+    gasnetl_stop(GASNETL_MISUSE,
+                 "%s: node %u called another collective here, or with another root, length or operation", call, node);
+}
+
 /* Tries to end the piece. Whether it did. */
 static bool end_piece(struct gasnetl_job *job, const struct gasnetl_collective *one) {
     struct gasnetl_collectives *collectives = &job->collectives;
@@ -116,7 +128,7 @@ static bool end_piece(struct gasnetl_job *job, const struct gasnetl_collective *
     if (told.code == GASNET_C_NOT_READY)
         return false;
     if (told.code == GASNET_C_MISMATCH)
-        gasnetl_stop(GASNETL_MISUSE, "%s: node %u called another collective here, or with another root, length or operation", one->call, told.to);
+        end_by_mismatch(collectives, one->call, told.to);
     if (told.code != GASNET_C_OK)
         gasnetl_stop(GASNETL_BROKEN, "%s: the end of a collective was answered %u", one->call, told.code);
     bring(job, one);
@@ -153,9 +165,11 @@ void gasnetl_collectives_advance(struct gasnetl_job *job) {
 
 bool gasnetl_collective_take(struct gasnetl_job *job, const uint8_t *bytes, size_t length) {
     struct gasnetl_collectives *collectives = &job->collectives;
-    if (!collectives->served || length <= GASNET_C_HANDLER_AT || bytes[GASNET_C_HANDLER_AT] != GASNET_C_COLLECTIVE_HANDLER)
+    if (!collectives->served || length <= GASNET_C_HANDLER_AT ||
+        bytes[GASNET_C_HANDLER_AT] != GASNET_C_COLLECTIVE_HANDLER)
         return false;
-    gasnet_c_told told = gasnet_c_serve(&job->node, job->progress.time, bytes, length, gasnetl_network_room(&job->network), GASNET_C_ROOM);
+    gasnet_c_told told = gasnet_c_serve(&job->node, job->progress.time, bytes, length,
+                                        gasnetl_network_room(&job->network), GASNET_C_ROOM);
     collectives->heard = collectives->heard || told.code == GASNET_C_RAN;
     gasnetl_told(job, &told);
     return true;
@@ -165,7 +179,8 @@ bool gasnetl_collective_take(struct gasnetl_job *job, const uint8_t *bytes, size
 
 static void judge(const struct gasnetl_job *job, const struct gasnetl_collective *asked) {
     if (!job->collectives.served)
-        gasnetl_stop(GASNETL_MISUSE, "%s: the client registered handler %d itself", asked->call, GASNET_C_COLLECTIVE_HANDLER);
+        gasnetl_stop(GASNETL_MISUSE, "%s: handler %d, which collectives need, is the client's: %s", asked->call,
+                     GASNET_C_COLLECTIVE_HANDLER, gasnetl_who_chose(&job->messages, GASNET_C_COLLECTIVE_HANDLER));
     if (asked->root >= job->nodes)
         gasnetl_stop(GASNETL_MISUSE, "%s to node %u: there are %u nodes", asked->call, asked->root, job->nodes);
     if (asked->nbytes && ((gives(asked, job->me) && !asked->source) || (has_result(asked, job->me) && !asked->dest)))
@@ -197,15 +212,18 @@ gex_Event_t gex_Coll_BarrierNB(gex_TM_t tm, gex_Flags_t flags) {
     return begin(&(struct gasnetl_collective){ .call = "gex_Coll_BarrierNB", .kind = GASNET_C_ALL_GATHER });
 }
 
-#define OF_BYTES(name, number, at)                                                                                             \
-    ((void)tm, (void)flags,                                                                                                    \
-     begin(&(struct gasnetl_collective){ .call = name, .kind = number, .root = at, .source = src, .dest = dst, .nbytes = nbytes }))
+#define OF_BYTES(name, number, at)                                                                                     \
+    ((void)tm, (void)flags,                                                                                            \
+     begin(&(struct gasnetl_collective){                                                                               \
+         .call = name, .kind = number, .root = at, .source = src, .dest = dst, .nbytes = nbytes }))
 
-gex_Event_t gex_Coll_BroadcastNB(gex_TM_t tm, gex_Rank_t root, void *dst, const void *src, size_t nbytes, gex_Flags_t flags) {
+gex_Event_t gex_Coll_BroadcastNB(gex_TM_t tm, gex_Rank_t root, void *dst, const void *src, size_t nbytes,
+                                 gex_Flags_t flags) {
     return OF_BYTES("gex_Coll_BroadcastNB", GASNET_C_BROADCAST, root);
 }
 
-gex_Event_t gasnet_coll_gather_nb(gex_TM_t tm, gex_Rank_t root, void *dst, const void *src, size_t nbytes, gex_Flags_t flags) {
+gex_Event_t gasnet_coll_gather_nb(gex_TM_t tm, gex_Rank_t root, void *dst, const void *src, size_t nbytes,
+                                  gex_Flags_t flags) {
     return OF_BYTES("gasnet_coll_gather_nb", GASNET_C_GATHER, root);
 }
 
@@ -247,16 +265,18 @@ static gex_Event_t reduce(struct gasnetl_collective asked, const struct words *w
     return begin(&asked);
 }
 
-#define OF_WORDS(name, at, to_all)                                                                                             \
-    ((void)tm, (void)user_op, (void)user_cdata, (void)flags,                                                                   \
-     reduce((struct gasnetl_collective){ .call = name, .root = at, .source = src, .dest = dst }, &(struct words){ dt, dt_sz, dt_cnt, op }, to_all))
+#define OF_WORDS(name, at, to_all)                                                                                     \
+    ((void)tm, (void)user_op, (void)user_cdata, (void)flags,                                                           \
+     reduce((struct gasnetl_collective){ .call = name, .root = at, .source = src, .dest = dst },                       \
+            &(struct words){ dt, dt_sz, dt_cnt, op }, to_all))
 
-gex_Event_t gex_Coll_ReduceToOneNB(gex_TM_t tm, gex_Rank_t root, void *dst, const void *src, gex_DT_t dt, size_t dt_sz, size_t dt_cnt, gex_OP_t op,
-                                   gex_Coll_ReduceFn_t user_op, void *user_cdata, gex_Flags_t flags) {
+gex_Event_t gex_Coll_ReduceToOneNB(gex_TM_t tm, gex_Rank_t root, void *dst, const void *src, gex_DT_t dt, size_t dt_sz,
+                                   size_t dt_cnt, gex_OP_t op, gex_Coll_ReduceFn_t user_op, void *user_cdata,
+                                   gex_Flags_t flags) {
     return OF_WORDS("gex_Coll_ReduceToOneNB", root, false);
 }
 
-gex_Event_t gex_Coll_ReduceToAllNB(gex_TM_t tm, void *dst, const void *src, gex_DT_t dt, size_t dt_sz, size_t dt_cnt, gex_OP_t op,
-                                   gex_Coll_ReduceFn_t user_op, void *user_cdata, gex_Flags_t flags) {
+gex_Event_t gex_Coll_ReduceToAllNB(gex_TM_t tm, void *dst, const void *src, gex_DT_t dt, size_t dt_sz, size_t dt_cnt,
+                                   gex_OP_t op, gex_Coll_ReduceFn_t user_op, void *user_cdata, gex_Flags_t flags) {
     return OF_WORDS("gex_Coll_ReduceToAllNB", 0, true);
 }

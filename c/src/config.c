@@ -5,8 +5,12 @@
 #include <inttypes.h>
 #include <stdio.h>
 #include <stdlib.h>
+#include <string.h>
+
+#include "gasnet_c.h"
 
 enum { MICROSECONDS = 1000, SECONDS = 1000000 };
+enum { LEAST_MTU = 576, MOST_MTU = 65536 }; /* IPv4 hosts take packets of 576 bytes (RFC 791); a loopback has 65,536 */
 
 bool gasnetl_config_number(const char *name, uint64_t least, uint64_t most, uint64_t other, uint64_t *value) {
     const char *text = getenv(name);
@@ -76,14 +80,33 @@ static bool read_spin(int *spin) {
     return true;
 }
 
-bool gasnetl_config_read(struct gasnetl_config *config) {
-    config->tells_counts = getenv("GASNET_COUNTS") != NULL;
-    if (!read_time("GASNET_RESEND", 1000, 20, MICROSECONDS, &config->resend))
+/* What decides how requests go: their credits, their size, and when they go again. */
+static bool read_sending(struct gasnetl_config *config) {
+    uint64_t credits, mtu;
+    if (!read_time("GASNET_RESEND", 60000, 2000, MICROSECONDS, &config->resend) ||
+        !gasnetl_config_number("GASNET_CREDITS", 1, GASNET_C_MAX_CREDITS, GASNET_C_MAX_CREDITS, &credits) ||
+        !gasnetl_config_number("GASNET_MTU", LEAST_MTU, MOST_MTU, 0, &mtu))
         return false;
     if (!config->resend)
         config->resend = 1;
-    return read_percent("GASNET_DROP", &config->drop) && read_percent("GASNET_TWICE", &config->twice) &&
-           read_percent("GASNET_SWAP", &config->swap) &&
+    config->credits = (unsigned)credits;
+    config->mtu = (uint32_t)mtu;
+    return true;
+}
+
+static bool read_progress(bool *has_thread) {
+    const char *text = getenv("GASNET_PROGRESS");
+    *has_thread = !text || !strcmp(text, "thread");
+    if (*has_thread || !strcmp(text, "poll"))
+        return true;
+    fprintf(stderr, "gasnet: GASNET_PROGRESS is '%s': set it to 'thread' or to 'poll', or unset it\n", text);
+    return false;
+}
+
+bool gasnetl_config_read(struct gasnetl_config *config) {
+    config->tells_counts = getenv("GASNET_COUNTS") != NULL;
+    return read_sending(config) && read_progress(&config->has_thread) && read_percent("GASNET_DROP", &config->drop) &&
+           read_percent("GASNET_TWICE", &config->twice) && read_percent("GASNET_SWAP", &config->swap) &&
            gasnetl_config_number("GASNET_SEED", 0, UINT64_MAX, 1, &config->seed) &&
            read_time("GASNET_PEER_TIMEOUT", 1000000, 300, SECONDS, &config->peer_timeout) &&
            read_time("GASNET_EXIT_TIMEOUT", 1000000, 20, SECONDS, &config->exit_timeout) &&

@@ -6,10 +6,8 @@
 #include "exit.h"
 #include "job.h"
 
-enum { LINE = 400 };
-
 static void say(const char *format, va_list values) {
-    char line[LINE];
+    char line[GASNETL_LINE];
     vsnprintf(line, sizeof line, format, values);
     if (gasnetl_job.initialised)
         fprintf(stderr, "gasnet: node %u of %u: %s\n", gasnetl_job.me, gasnetl_job.nodes, line);
@@ -25,6 +23,13 @@ void gasnetl_stop(int status, const char *format, ...) {
     gasnetl_end_all(&gasnetl_job, status);
 }
 
+void gasnetl_warn(const char *format, ...) {
+    va_list values;
+    va_start(values, format);
+    say(format, values);
+    va_end(values);
+}
+
 int gasnetl_refuse(int code, const char *format, ...) {
     va_list values;
     va_start(values, format);
@@ -35,7 +40,8 @@ int gasnetl_refuse(int code, const char *format, ...) {
 
 void gasnetl_unsafe(int code, const char *call, const char *file, int line) {
     const int status = code == GASNET_ERR_RESOURCE ? GASNETL_BROKEN : GASNETL_MISUSE;
-    gasnetl_stop(status, "%s:%d: %s is answered %s (%s)", file, line, call, gasnet_ErrorName(code), gasnet_ErrorDesc(code));
+    gasnetl_stop(status, "%s:%d: %s is answered %s (%s)", file, line, call, gasnet_ErrorName(code),
+                 gasnet_ErrorDesc(code));
 }
 
 static const struct {

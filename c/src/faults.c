@@ -49,8 +49,3 @@ void gasnetl_faults_send(struct gasnetl_faults *faults, gasnetl_sender *send, vo
         send(network, faults->held_to, faults->held, faults->held_length);
     }
 }
-
-void gasnetl_faults_free(struct gasnetl_faults *faults) {
-    free(faults->held);
-    faults->held = NULL;
-}

@@ -12,7 +12,7 @@ struct gasnetl_faults {
     unsigned drop, twice, swap; /* percent */
     uint64_t state;             /* of the random numbers */
     bool is_on;
-    bool is_held;               /* a datagram waits for the next one */
+    bool is_held; /* a datagram waits for the next one */
     uint16_t held_to;
     size_t held_length;
     uint8_t *held;
@@ -27,7 +27,5 @@ bool gasnetl_faults_start(struct gasnetl_faults *faults, const struct gasnetl_co
 /* Sends a datagram through the faults: never, once or twice, or after the next one. */
 void gasnetl_faults_send(struct gasnetl_faults *faults, gasnetl_sender *send, void *network, uint16_t to,
                          const void *bytes, size_t length);
-
-void gasnetl_faults_free(struct gasnetl_faults *faults);
 
 #endif

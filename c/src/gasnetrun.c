@@ -1,4 +1,5 @@
-/* gasnetrun -n N PROGRAM ARGS: starts N nodes of a GASNet program on this host, and ends with the first status that isn't 0. */
+/* gasnetrun -n N PROGRAM ARGS: starts N nodes of a GASNet program on this host, and ends with the first status that
+ * isn't 0. */
 #include <arpa/inet.h>
 #include <errno.h>
 #include <fcntl.h>
@@ -12,25 +13,38 @@
 #include <sys/prctl.h>
 #include <sys/random.h>
 #include <sys/signalfd.h>
+#include <sys/stat.h>
 #include <sys/wait.h>
 #include <poll.h>
 #include <unistd.h>
 
 #include "gasnet_c.h"
 #include "network.h"
+#include "runner.h"
 
-enum { NODES = GASNET_C_MAX_NODES, USAGE = 64, REFUSED = 71, GRACE = 1000, MOST_GRACE = 1000000, LAST = 2000, TEXT = 24 };
+enum {
+    NODES = GASNET_C_MAX_NODES,
+    USAGE = 64,
+    REFUSED = 71,
+    GRACE = 1000,
+    MOST_GRACE = 1000000,
+    LAST = 2000,
+    TEXT = 24
+};
 
 struct run {
     int nodes, alive;
-    int grace;       /* the milliseconds that the others have where a node failed: GASNET_GRACE */
+    int grace; /* the milliseconds that the others have where a node failed: GASNET_GRACE */
     int sockets[NODES];
     char addresses[NODES * TEXT];
     pid_t children[NODES];
     int lifeline[2]; /* a pipe whose writing end, until it is -1, this process alone has: the nodes end as it does */
+    int reports[2];  /* a pipe by which nodes tell how they end (runner.h) */
+    bool is_by_peer[NODES]; /* a node told that another one ended it */
     int signals;
     int status;      /* the first that isn't 0 */
-    bool is_told;    /* a node told by SIGUSR1 that it ended the job with status 0: that is the job's */
+    bool is_settled; /* it is that of the node that ended the job, or of a signal to this process */
+    bool is_told;    /* a node told that it ended the job with status 0: that is the job's */
     int ends;        /* 0: no; 1: a node failed, the others may end by themselves; 2: TERM was sent; 3: KILL was */
 };
 
@@ -53,7 +67,8 @@ static void make_sockets(struct run *run) {
         run->sockets[node] = gasnetl_network_bind((struct sockaddr *)&address, size);
         if (run->sockets[node] < 0 || getsockname(run->sockets[node], (struct sockaddr *)&address, &size))
             fail("no socket can be had");
-        length += (size_t)snprintf(run->addresses + length, TEXT, "%s127.0.0.1:%u", node ? "," : "", ntohs(address.sin_port));
+        length +=
+            (size_t)snprintf(run->addresses + length, TEXT, "%s127.0.0.1:%u", node ? "," : "", ntohs(address.sin_port));
     }
 }
 
@@ -64,6 +79,18 @@ static void set_number(const char *name, uint64_t value) {
         fail("there is no memory");
 }
 
+/* Names the pipe by its inode too: a descriptor of this number may be something else where the variable is
+ * inherited. */
+static void set_runner(const struct run *run) {
+    struct stat pipe;
+    char text[2 * TEXT];
+    if (fstat(run->reports[1], &pipe))
+        fail("no pipe can be had");
+    snprintf(text, sizeof text, "%d:%llu", run->reports[1], (unsigned long long)pipe.st_ino);
+    if (setenv("GASNET_RUNNER", text, 1))
+        fail("there is no memory");
+}
+
 static void set_job(const struct run *run) {
     uint64_t job;
     if (getrandom(&job, sizeof job, 0) != sizeof job)
@@ -71,7 +98,7 @@ static void set_job(const struct run *run) {
     set_number("GASNET_JOB", job);
     set_number("GASNET_NODES", (uint64_t)run->nodes);
     set_number("GASNET_LIFELINE", (uint64_t)run->lifeline[0]);
-    set_number("GASNET_RUNNER", (uint64_t)getpid());
+    set_runner(run);
     if (setenv("GASNET_ADDRESSES", run->addresses, 1))
         fail("there is no memory");
 }
@@ -89,6 +116,7 @@ static _Noreturn void become_node(const struct run *run, int node, pid_t parent,
     set_number("GASNET_SOCKET", (uint64_t)run->sockets[node]);
     fcntl(run->sockets[node], F_SETFD, 0);
     fcntl(run->lifeline[0], F_SETFD, 0);
+    fcntl(run->reports[1], F_SETFD, 0);
     execvp(words[0], words);
     fprintf(stderr, "gasnetrun: %s can't be started (%s)\n", words[0], strerror(errno));
     _exit(127);
@@ -108,6 +136,7 @@ static void start(struct run *run, char **words) {
     for (int node = 0; node < run->nodes; node++)
         close(run->sockets[node]);
     close(run->lifeline[0]);
+    close(run->reports[1]);
 }
 
 static void end_all(struct run *run, int signal) {
@@ -130,30 +159,36 @@ static void end_more(struct run *run) {
     }
 }
 
-static void note_end(struct run *run, int node, int how) {
-    int status = WIFSIGNALED(how) ? 128 + WTERMSIG(how) : WEXITSTATUS(how);
-    run->children[node] = 0;
-    run->alive--;
-    if (!status || run->status || run->is_told)
-        return;
-    run->status = status;
+static void tell_end(int node, int how) {
     if (WIFSIGNALED(how))
-        fprintf(stderr, "gasnetrun: node %d was ended by signal %d (%s); the others are ended\n", node, WTERMSIG(how), strsignal(WTERMSIG(how)));
+        fprintf(stderr, "gasnetrun: node %d was ended by signal %d (%s); the others are ended\n", node, WTERMSIG(how),
+                strsignal(WTERMSIG(how)));
     else
-        fprintf(stderr, "gasnetrun: node %d ended with status %d; the others are ended\n", node, status);
-    if (!run->ends)
-        end_more(run);
-    if (WIFSIGNALED(how)) /* it can't have told the others */
-        end_more(run);
+        fprintf(stderr, "gasnetrun: node %d ended with status %d; the others are ended\n", node, WEXITSTATUS(how));
 }
 
-static void reap(struct run *run) {
-    int how;
-    pid_t child;
-    while ((child = waitpid(-1, &how, WNOHANG)) > 0)
-        for (int node = 0; node < run->nodes; node++)
-            if (run->children[node] == child)
-                note_end(run, node, how);
+/* Whether the end is another's doing: that of the node that ended this one, or of this process. */
+static bool is_of_another(const struct run *run, int node, int how) {
+    return run->is_by_peer[node] || (run->ends > 1 && WIFSIGNALED(how));
+}
+
+/* The first node that ends the job is named, and its status is the job's. Those that it ended may come before it. */
+static void note_end(struct run *run, int node, int how) {
+    int status = WIFSIGNALED(how) ? 128 + WTERMSIG(how) : WEXITSTATUS(how);
+    bool is_first = !is_of_another(run, node, how);
+    run->children[node] = 0;
+    run->alive--;
+    if (!status || run->is_settled || run->is_told)
+        return;
+    if (is_first || !run->status)
+        run->status = status;
+    if (is_first)
+        tell_end(node, how);
+    run->is_settled = is_first;
+    if (!run->ends)
+        end_more(run);
+    if (WIFSIGNALED(how) && run->ends < 2) /* it can't have told the others */
+        end_more(run);
 }
 
 /* A node ended the job with status 0: the others have the grace, as where one failed. */
@@ -163,35 +198,69 @@ static void take_told(struct run *run) {
         end_more(run);
 }
 
-/* Waits for a signal: of a child, of a node that ended the job, or one that ends it. */
-static void wait_once(struct run *run) {
-    struct pollfd ready = { .fd = run->signals, .events = POLLIN };
-    struct signalfd_siginfo signal;
-    int time = run->ends == 0 ? -1 : run->ends == 1 ? run->grace : LAST;
-    int got = poll(&ready, 1, time);
-    if (got == 0)
-        end_more(run);
-    if (got <= 0 || read(run->signals, &signal, sizeof signal) != sizeof signal || signal.ssi_signo == SIGCHLD)
-        return;
-    if (signal.ssi_signo == SIGUSR1) {
-        take_told(run);
-        return;
+/* Takes what nodes told. */
+static void take_reports(struct run *run) {
+    struct gasnetl_report report;
+    while (read(run->reports[0], &report, sizeof report) == sizeof report) {
+        if (report.kind == GASNETL_ENDED_BY_PEER && report.node < run->nodes)
+            run->is_by_peer[report.node] = true;
+        if (report.kind == GASNETL_ENDED_WELL)
+            take_told(run);
     }
+}
+
+/* Of each node that ended it takes first what that told. */
+static void reap(struct run *run) {
+    int how;
+    pid_t child;
+    while ((child = waitpid(-1, &how, WNOHANG)) > 0) {
+        take_reports(run);
+        for (int node = 0; node < run->nodes; node++)
+            if (run->children[node] == child)
+                note_end(run, node, how);
+    }
+}
+
+/* A signal ends this process, and the nodes with it. */
+static void take_signal(struct run *run, int signal) {
     if (!run->status)
-        run->status = 128 + (int)signal.ssi_signo;
+        run->status = 128 + signal;
+    run->is_settled = true;
     if (run->ends < 2)
         run->ends = 1;
     end_more(run);
 }
 
+/* Waits for a signal, of a child or one that ends this process, or for what a node tells. */
+static void wait_once(struct run *run) {
+    struct pollfd ready[2] = { { .fd = run->signals, .events = POLLIN }, { .fd = run->reports[0], .events = POLLIN } };
+    struct signalfd_siginfo signal;
+    int time = run->ends == 0 ? -1 : run->ends == 1 ? run->grace : LAST;
+    int got = poll(ready, 2, time);
+    if (got == 0)
+        end_more(run);
+    if (got <= 0)
+        return;
+    take_reports(run);
+    if (ready[1].revents & POLLHUP) { /* the nodes closed the pipe, or ended */
+        close(run->reports[0]);
+        run->reports[0] = -1;
+    }
+    if (!(ready[0].revents & POLLIN) || read(run->signals, &signal, sizeof signal) != sizeof signal)
+        return;
+    if (signal.ssi_signo != SIGCHLD)
+        take_signal(run, (int)signal.ssi_signo);
+}
+
 static void catch_signals(struct run *run) {
     sigset_t set;
     sigemptyset(&set);
-    for (int i = 0; i < 5; i++)
-        sigaddset(&set, (const int[]){ SIGCHLD, SIGTERM, SIGINT, SIGHUP, SIGUSR1 }[i]);
+    for (int i = 0; i < 4; i++)
+        sigaddset(&set, (const int[]){ SIGCHLD, SIGTERM, SIGINT, SIGHUP }[i]);
     sigprocmask(SIG_BLOCK, &set, NULL);
     run->signals = signalfd(-1, &set, SFD_CLOEXEC);
-    if (run->signals < 0 || pipe2(run->lifeline, O_CLOEXEC))
+    if (run->signals < 0 || pipe2(run->lifeline, O_CLOEXEC) || pipe2(run->reports, O_CLOEXEC) ||
+        fcntl(run->reports[0], F_SETFL, O_NONBLOCK))
         fail("no signals can be had");
 }
 
@@ -204,7 +273,8 @@ static int read_grace(void) {
     long value = strtol(text, &end, 10);
     if (*text && !*end && value >= 0 && value <= MOST_GRACE)
         return (int)value;
-    fprintf(stderr, "gasnetrun: GASNET_GRACE is '%s': set it to a number from 0 to %d, or unset it\n", text, MOST_GRACE);
+    fprintf(stderr, "gasnetrun: GASNET_GRACE is '%s': set it to a number from 0 to %d, or unset it\n", text,
+            MOST_GRACE);
     exit(USAGE);
 }
 
@@ -226,5 +296,7 @@ int main(int argc, char **argv) {
         wait_once(&run);
         reap(&run);
     }
+    if (run.status && !run.is_settled && !run.is_told)
+        fprintf(stderr, "gasnetrun: the job ended with status %d\n", run.status);
     return run.status;
 }

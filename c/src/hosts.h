@@ -12,9 +12,9 @@ struct gasnetl_hosts {
     uint16_t count;       /* how many those are; 0 where GASNET_ADDRESSES has them */
 };
 
-/* Asks GASNET_ADDRESSES; else GASNET_HOSTS, else the file of GASNET_HOSTS_FILE: a host for each node, by rank, with spaces,
- * commas or line ends between them. The node of rank R then has the port GASNET_PORT + R. False where a variable is broken:
- * a line on standard error has said what. Whoever asks frees `addresses`. */
+/* Asks GASNET_ADDRESSES; else GASNET_HOSTS, else the file of GASNET_HOSTS_FILE: a host for each node, by rank, with
+ * spaces, commas or line ends between them. The node of rank R then has the port GASNET_PORT + R. False where a
+ * variable is broken: a line on standard error has said what. Whoever asks frees `addresses`. */
 bool gasnetl_hosts_ask(struct gasnetl_hosts *hosts);
 
 #endif

@@ -1,35 +1,78 @@
 #include "job.h"
 
+#include <errno.h>
 #include <stdlib.h>
 #include <string.h>
 #include <unistd.h>
 
 #include "errors.h"
 #include "exit.h"
+#include "names.h"
 
 struct gasnetl_job gasnetl_job = { .network = { .socket = -1 }, .turns = { .alarm = -1 } };
 
 /* The configuration, to be found in a program's file: `strings PROGRAM | grep GASNetConfig`. */
-__attribute__((used)) static const char configuration[] = "$GASNetConfig: (libgasnet) " GASNETL_CONFIG("SEQ|PARSYNC|PAR") " $";
+__attribute__((used)) static const char configuration[] =
+    "$GASNetConfig: (libgasnet) " GASNETL_CONFIG("SEQ|PARSYNC|PAR") " $";
 
-enum { PAGE = GASNET_PAGESIZE };
+/* How many times GASNET_RESEND the endpoint waits before it sends a request again by itself, where recovery has not. */
+enum { PAGE = GASNET_PAGESIZE, LAST_RESORT = 4 };
 
 static uintptr_t pages(uintptr_t bytes) { return bytes / PAGE * PAGE; }
 
 /* ---- The beginning. */
+
+enum { MEBIBYTE = 1 << 20 };
+
+/* Half of the host's memory, in equal parts for its nodes. */
+static uintptr_t share_of_host(const struct gasnetl_job *job) {
+    unsigned neighbours = job->start.neighbours ? job->start.neighbours : job->nodes ? job->nodes : 1;
+    long count = sysconf(_SC_PHYS_PAGES), size = sysconf(_SC_PAGESIZE);
+    return count > 0 && size > 0 ? (uintptr_t)count * (uintptr_t)size / 2 / neighbours : GASNETL_MOST;
+}
+
+/* Fixes the greatest segment: what GASNET_MAX_SEGSIZE says, else a share of the host's memory, or what the system
+ * gives of it. */
+static void fix_most(struct gasnetl_job *job) {
+    struct gasnetl_segment *segment = &job->segment;
+    uintptr_t asked = job->config.max_segment ? job->config.max_segment : share_of_host(job);
+    asked = pages(asked < GASNETL_MOST ? asked : GASNETL_MOST);
+    segment->most = job->config.max_segment ? asked : gasnetl_segment_given(asked);
+    segment->asked = asked;
+}
+
+/* Says so where a client that asks for the greatest segment gets less than its share. */
+static void tell_most(const struct gasnetl_job *job, uintptr_t segsize) {
+    const struct gasnetl_segment *segment = &job->segment;
+    if (segsize == segment->most && segment->most < segment->asked && !job->me)
+        gasnetl_warn("the segment has %zu MiB, not %zu: the system gives the process no more addresses (ulimit -v), so "
+                     "set GASNET_MAX_SEGSIZE or that limit",
+                     (size_t)(segment->most / MEBIBYTE), (size_t)(segment->asked / MEBIBYTE));
+}
 
 static int start(struct gasnetl_job *job, int threaded) {
     if (!gasnetl_config_read(&job->config) || !gasnetl_bootstrap(&job->start, &job->network.places))
         return GASNET_ERR_BAD_ARG;
     job->me = job->start.me;
     job->nodes = job->start.nodes;
+    bool has_launcher = job->start.by_pmix || getenv("GASNET_RUNNER");
+    if (!job->me || !has_launcher) /* what a launcher hands on, one node tells for all */
+        gasnetl_warn_of_names();
     if (job->nodes > 1 && !gasnetl_network_open(&job->network, &job->config, job->me, job->start.socket))
         return GASNET_ERR_RESOURCE;
-    if (!gasnetl_turns_start(&job->turns, threaded))
+    if (!gasnetl_control_start(job))
+        return gasnetl_refuse(GASNET_ERR_RESOURCE, "the system has no random numbers (%s)", strerror(errno));
+    job->network.came_back = gasnetl_peer_refused;
+    job->network.job = job;
+    job->config.has_thread = job->config.has_thread && job->nodes > 1;
+    if (!gasnetl_turns_start(&job->turns, threaded, job->config.has_thread))
         return gasnetl_refuse(GASNET_ERR_RESOURCE, "the system has no mutex or no eventfd for threads");
+    job->turns.first = threaded ? NULL : &gasnetl_thread;
+    fix_most(job);
     gasnetl_progress_start(job);
     gasnetl_transfers_start(&job->transfers);
-    gasnetl_exit_start();
+    if (!gasnetl_exit_start(job))
+        return gasnetl_refuse(GASNET_ERR_RESOURCE, "there is no memory");
     return GASNET_OK;
 }
 
@@ -49,13 +92,17 @@ static int judge_attach(const struct gasnetl_job *job, uintptr_t segsize) {
     if (job->attached)
         return gasnetl_refuse(GASNET_ERR_NOT_INIT, "gasnet_attach is called a second time");
     if (segsize % PAGE)
-        return gasnetl_refuse(GASNET_ERR_BAD_ARG, "gasnet_attach: %zu bytes of a segment aren't a multiple of GASNET_PAGESIZE", (size_t)segsize);
+        return gasnetl_refuse(GASNET_ERR_BAD_ARG,
+                              "gasnet_attach: %zu bytes of a segment aren't a multiple of GASNET_PAGESIZE",
+                              (size_t)segsize);
     if (job->nodes > 1 && job->control.has_size && segsize != job->segment.size)
         return gasnetl_refuse(GASNET_ERR_BAD_ARG,
                               "gasnet_attach: a call that failed told the others of %zu bytes: ask for as many again",
                               (size_t)job->segment.size);
     if (segsize > gasnet_getMaxLocalSegmentSize())
-        return gasnetl_refuse(GASNET_ERR_BAD_ARG, "gasnet_attach: a segment of %zu bytes is more than gasnet_getMaxLocalSegmentSize(), which is %zu; GASNET_MAX_SEGSIZE sets it",
+        return gasnetl_refuse(GASNET_ERR_BAD_ARG,
+                              "gasnet_attach: a segment of %zu bytes is more than gasnet_getMaxLocalSegmentSize(), "
+                              "which is %zu; GASNET_MAX_SEGSIZE sets it",
                               (size_t)segsize, (size_t)gasnet_getMaxLocalSegmentSize());
     return GASNET_OK;
 }
@@ -93,10 +140,17 @@ static int open_endpoint(struct gasnetl_job *job, uintptr_t minheapoffset) {
         if (job->segment.sizes[node] > longest)
             longest = job->segment.sizes[node];
     job->segment.stage = longest;
-    const gasnet_c_setup setup = { .job = job->start.job, .segment = longest + GASNETL_OWN, .resend = job->config.resend,
-                                   .nodes = job->nodes, .me = job->me, .credits = (uint16_t)job->progress.credits };
+    const gasnet_c_setup setup = { .job = gasnetl_control_job(&job->control),
+                                   .segment = longest + GASNETL_OWN,
+                                   .resend = LAST_RESORT * (job->config.resend / 1000 + 1),
+                                   .nodes = job->nodes,
+                                   .me = job->me,
+                                   .credits = (uint16_t)job->progress.credits };
     if (!gasnetl_segment_open(&job->segment, setup.segment))
-        return gasnetl_refuse(GASNET_ERR_RESOURCE, "gasnet_attach: the system has no segment of %zu bytes", (size_t)setup.segment);
+        return gasnetl_refuse(GASNET_ERR_RESOURCE,
+                              "gasnet_attach: the system has no segment of %zu bytes: set GASNET_MAX_SEGSIZE to less "
+                              "on all nodes",
+                              (size_t)setup.segment);
     int code = fill_segment(job, &setup, minheapoffset);
     if (code != GASNET_OK)
         gasnetl_segment_close(&job->segment, setup.segment);
@@ -110,15 +164,21 @@ int gasnet_attach(gasnet_handlerentry_t *table, int numentries, uintptr_t segsiz
         code = gasnetl_register(&job->messages, table, numentries);
     if (code != GASNET_OK)
         return code;
+    tell_most(job, segsize);
     gasnetl_atomics_start(&job->atomics, &job->messages);
     gasnetl_collectives_start(job);
     gasnetl_take_turn(&job->turns);
     job->segment.size = segsize;
+    gasnetl_recovery_start(job);
     gasnetl_exchange_sizes(job);
+    gasnetl_recovery_open(job);
     code = open_endpoint(job, minheapoffset);
     if (code == GASNET_OK) {
         gasnetl_exchange_bases(job);
+        gasnetl_meet(job);
         job->attached = true;
+        if (job->config.has_thread)
+            gasnetl_progress_thread_start(job);
     }
     gasnetl_give_turn(&job->turns);
     return code;
@@ -132,17 +192,7 @@ gasnet_node_t gasnet_nodes(void) { return gasnetl_job.nodes; }
 
 char *gasnet_getenv(const char *s) { return getenv(s); }
 
-/* Half of the host's memory, in equal parts for its nodes, where GASNET_MAX_SEGSIZE doesn't say otherwise. */
-uintptr_t gasnet_getMaxLocalSegmentSize(void) {
-    const struct gasnetl_job *job = &gasnetl_job;
-    const uintptr_t most = ((uintptr_t)1 << 40) - GASNETL_OWN;
-    unsigned neighbours = job->start.neighbours ? job->start.neighbours : job->nodes ? job->nodes : 1;
-    long count = sysconf(_SC_PHYS_PAGES), size = sysconf(_SC_PAGESIZE);
-    uintptr_t share = count > 0 && size > 0 ? (uintptr_t)count * (uintptr_t)size / 2 / neighbours : most;
-    if (job->config.max_segment)
-        share = job->config.max_segment;
-    return pages(share < most ? share : most);
-}
+uintptr_t gasnet_getMaxLocalSegmentSize(void) { return gasnetl_job.segment.most; }
 
 uintptr_t gasnet_getMaxGlobalSegmentSize(void) { return gasnet_getMaxLocalSegmentSize(); }
 

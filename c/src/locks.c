@@ -1,5 +1,5 @@
-/* Handler-safe locks, and sections without interrupts. Handlers run in polls alone, so nothing interrupts a thread: a lock
- * is a mutex among the client's threads, and a section is a rule that is checked. */
+/* Handler-safe locks, and sections without interrupts. Handlers run in polls alone, so nothing interrupts a thread: a
+ * lock is a mutex among the client's threads, and a section is a rule that is checked. */
 #include "errors.h"
 #include "threads.h"
 

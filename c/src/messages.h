@@ -3,6 +3,7 @@
 #define GASNETL_MESSAGES_INTERNAL_H
 
 #include <stdalign.h>
+#include <stdatomic.h>
 #include <stdbool.h>
 #include <stddef.h>
 #include <stdint.h>
@@ -26,6 +27,8 @@ typedef void gasnetl_handler();
 
 struct gasnetl_messages {
     gasnetl_handler *handlers[GASNETL_INDEXES];
+    bool is_chosen[GASNETL_INDEXES]; /* the index was chosen for an entry that takes any */
+    atomic_bool runs_handler; /* stored by the thread that has the turn, behind all that it did before the handler */
     /* Handlers run one at a time, so one of each buffer is enough. */
     alignas(16) uint8_t reply[GASNET_C_PAYLOAD];  /* the payload of the reply that a handler asked for */
     alignas(16) uint8_t medium[GASNET_C_PAYLOAD]; /* the payload of a Medium, as its handler sees it */
@@ -46,11 +49,19 @@ struct gasnetl_run {
 /* What a handler did that didn't run. */
 extern const gasnet_c_run gasnetl_no_run;
 
-/* Registers the client's table, and writes the indexes that it chose into it. GASNET_OK, or the code of what is wrong. */
+/* Registers the client's table, and writes the indexes that it chose into it. GASNET_OK, or the code of what is wrong.
+ */
 int gasnetl_register(struct gasnetl_messages *messages, gasnet_handlerentry_t *table, int entries);
 
-/* Takes a datagram whose delivery may run a handler of the client's: runs it, and delivers the datagram with what it did. */
+/* Why a handler of the client's has this index, and what to do where it shouldn't: the end of a line. */
+const char *gasnetl_who_chose(const struct gasnetl_messages *messages, int index);
+
+/* Takes a datagram whose delivery may run a handler of the client's: runs it, and delivers the datagram with what it
+ * did. */
 void gasnetl_message_take(struct gasnetl_job *job, const uint8_t *bytes, size_t length);
+
+/* Whether the delivery of such a datagram runs one now. */
+bool gasnetl_message_runs(struct gasnetl_job *job, const uint8_t *bytes, size_t length);
 
 /* Calls a handler with as many arguments as the run has. */
 void gasnetl_call(gasnetl_handler *handler, gasnet_token_t token, const struct gasnetl_run *run);

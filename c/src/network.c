@@ -7,10 +7,28 @@
 #include <netinet/udp.h>
 #include <stdio.h>
 #include <string.h>
+#include <sys/syscall.h>
 #include <unistd.h>
 
+/* What the C library has of these is a point of cancellation: that costs where the process has a second thread. */
+static ssize_t send_message(int socket, const struct msghdr *message) {
+    return syscall(SYS_sendmsg, socket, message, MSG_DONTWAIT);
+}
+
+static ssize_t receive_message(int socket, struct msghdr *message) {
+    return syscall(SYS_recvmsg, socket, message, MSG_DONTWAIT);
+}
+
+static int receive_messages(int socket, struct mmsghdr *messages, int most) {
+    return (int)syscall(SYS_recvmmsg, socket, messages, most, MSG_DONTWAIT, NULL);
+}
+
+static ssize_t send_to(int socket, const void *bytes, size_t length, const struct gasnetl_place *place) {
+    return syscall(SYS_sendto, socket, bytes, length, MSG_DONTWAIT, &place->address, place->length);
+}
+
 /* Asks for wide buffers. The system may give less. */
-static void widen(int socket) {
+static void widen_buffers(int socket) {
     int bytes = GASNETL_RECEIVE_BYTES;
     if (setsockopt(socket, SOL_SOCKET, SO_RCVBUFFORCE, &bytes, sizeof bytes))
         setsockopt(socket, SOL_SOCKET, SO_RCVBUF, &bytes, sizeof bytes);
@@ -22,7 +40,7 @@ int gasnetl_network_bind(const struct sockaddr *address, socklen_t length) {
     int made = socket(address->sa_family, SOCK_DGRAM | SOCK_CLOEXEC, 0);
     if (made < 0)
         return -1;
-    widen(made);
+    widen_buffers(made);
     if (!bind(made, address, length))
         return made;
     int why = errno;
@@ -30,6 +48,8 @@ int gasnetl_network_bind(const struct sockaddr *address, socklen_t length) {
     errno = why;
     return -1;
 }
+
+enum { FRONT = 64 }; /* the bytes of a refused datagram that are looked at */
 
 /* Whether an entry of the error queue says that nobody has the socket. Others say what is wrong with the way. */
 static bool is_refusal(struct msghdr *message) {
@@ -44,21 +64,29 @@ static bool is_refusal(struct msghdr *message) {
     return false;
 }
 
-/* Takes what hosts told of datagrams that nobody there wanted. */
+/* Takes ICMP's messages: port unreachable, with the front of the datagram that was refused. */
 static void take_refusals(struct gasnetl_network *network) {
-    for (;;) {
+    for (int taken = 0; taken < GASNETL_STRAYS; taken++) {
         struct sockaddr_storage address;
         _Alignas(struct cmsghdr) char control[512];
-        struct msghdr message = { .msg_name = &address, .msg_namelen = sizeof address, .msg_control = control, .msg_controllen = sizeof control };
-        if (recvmsg(network->socket, &message, MSG_ERRQUEUE | MSG_DONTWAIT) < 0)
+        uint8_t front[FRONT];
+        struct iovec bytes = { front, sizeof front };
+        struct msghdr message = { .msg_name = &address,
+                                  .msg_namelen = sizeof address,
+                                  .msg_iov = &bytes,
+                                  .msg_iovlen = 1,
+                                  .msg_control = control,
+                                  .msg_controllen = sizeof control };
+        ssize_t got = recvmsg(network->socket, &message, MSG_ERRQUEUE | MSG_DONTWAIT);
+        if (got < 0)
             return;
         uint16_t node = gasnetl_places_find(&network->places, &address);
-        if (node != GASNETL_NO_NODE && is_refusal(&message))
-            network->is_refused[node] = true;
+        if (node != GASNETL_NO_NODE && network->came_back && is_refusal(&message))
+            network->came_back(network->job, node, front, (size_t)got);
     }
 }
 
-/* Asks the system to tell what hosts say of datagrams that nobody there wanted. */
+/* Asks the system for ICMP's messages about what the socket sent. */
 static void tell_refusals(struct gasnetl_network *network) {
     int yes = 1;
     if (network->places.of[network->me].address.ss_family == AF_INET6)
@@ -95,13 +123,15 @@ static bool take_socket(struct gasnetl_network *network, int socket) {
     network->socket = gasnetl_network_bind((const struct sockaddr *)&own->address, own->length);
     if (network->socket >= 0)
         return true;
+    int why = errno;
     gasnetl_place_write(&own->address, text, sizeof text);
-    fprintf(stderr, "gasnet: node %u can't have the address %s (%s): give it a free port of this host\n", network->me, text,
-            strerror(errno));
+    fprintf(stderr, "gasnet: node %u can't have the address %s (%s): %s\n", network->me, text, strerror(why),
+            gasnetl_place_remedy(why));
     return false;
 }
 
-bool gasnetl_network_open(struct gasnetl_network *network, const struct gasnetl_config *config, uint16_t me, int socket) {
+bool gasnetl_network_open(struct gasnetl_network *network, const struct gasnetl_config *config, uint16_t me,
+                          int socket) {
     network->me = me;
     if (!gasnetl_key_read(&network->key) || !take_socket(network, socket))
         return false;
@@ -116,23 +146,28 @@ bool gasnetl_network_open(struct gasnetl_network *network, const struct gasnetl_
 /* ---- What is sent. */
 
 /* Sends bytes as datagrams of as many bytes each. */
-static ssize_t send_group(struct gasnetl_network *network, const struct gasnetl_place *place, const void *bytes, size_t length, size_t each) {
+static ssize_t send_group(struct gasnetl_network *network, const struct gasnetl_place *place, const void *bytes,
+                          size_t length, size_t each) {
     struct iovec all = { (void *)(uintptr_t)bytes, length };
     _Alignas(struct cmsghdr) char control[CMSG_SPACE(sizeof(uint16_t))] = { 0 };
-    struct msghdr message = { .msg_name = (void *)(uintptr_t)&place->address, .msg_namelen = place->length, .msg_iov = &all,
-                              .msg_iovlen = 1, .msg_control = control, .msg_controllen = sizeof control };
+    struct msghdr message = { .msg_name = (void *)(uintptr_t)&place->address,
+                              .msg_namelen = place->length,
+                              .msg_iov = &all,
+                              .msg_iovlen = 1,
+                              .msg_control = control,
+                              .msg_controllen = sizeof control };
     struct cmsghdr *cut = CMSG_FIRSTHDR(&message);
     const uint16_t size = (uint16_t)each;
     *cut = (struct cmsghdr){ .cmsg_len = CMSG_LEN(sizeof size), .cmsg_level = IPPROTO_UDP, .cmsg_type = UDP_SEGMENT };
     memcpy(CMSG_DATA(cut), &size, sizeof size);
-    return sendmsg(network->socket, &message, MSG_DONTWAIT);
+    return send_message(network->socket, &message);
 }
 
 static ssize_t send_once(struct gasnetl_network *network, uint16_t to, const void *bytes, size_t length, size_t each) {
     const struct gasnetl_place *place = &network->places.of[to];
     if (each < length)
         return send_group(network, place, bytes, length, each);
-    return sendto(network->socket, bytes, length, MSG_DONTWAIT, (const struct sockaddr *)&place->address, place->length);
+    return send_to(network->socket, bytes, length, place);
 }
 
 /* The same; whether the system took them. */
@@ -242,59 +277,130 @@ static size_t bytes_of_one(struct msghdr *message, size_t got) {
     return got;
 }
 
-/* Asks the system for datagrams: false where there are none. Those of strangers are dropped and counted. */
+/* Notes what a message of the system brought. Those of strangers are dropped and counted. */
+static void note_arrival(struct gasnetl_network *network, struct gasnetl_arrival *arrival, struct msghdr *message,
+                         size_t got) {
+    arrival->first = arrival->end = 0;
+    arrival->from = gasnetl_places_find(&network->places, message->msg_name);
+    if (arrival->from == GASNETL_NO_NODE || arrival->from == network->me || !got) {
+        network->strays++;
+        return;
+    }
+    arrival->end = got;
+    arrival->each = bytes_of_one(message, got);
+}
+
+/* What a call of the system fills in of an arrival. */
+struct reception {
+    struct sockaddr_storage address;
+    struct iovec bytes;
+    _Alignas(struct cmsghdr) char control[64];
+};
+
+static void make_ready(struct reception *reception, struct msghdr *message, struct gasnetl_arrival *arrival) {
+    reception->bytes = (struct iovec){ arrival->bytes, GASNETL_TRAIN_BYTES };
+    *message = (struct msghdr){ .msg_name = &reception->address,
+                                .msg_namelen = sizeof reception->address,
+                                .msg_iov = &reception->bytes,
+                                .msg_iovlen = 1,
+                                .msg_control = reception->control,
+                                .msg_controllen = sizeof reception->control };
+}
+
+/* Asks the system for one arrival: how many came, or -1 with errno. */
+static int receive_one(struct gasnetl_network *network) {
+    struct gasnetl_arrival *arrival = network->coming.of;
+    struct reception reception;
+    struct msghdr message;
+    make_ready(&reception, &message, arrival);
+    ssize_t got = receive_message(network->socket, &message);
+    if (got < 0)
+        return -1;
+    note_arrival(network, arrival, &message, (size_t)got);
+    return 1;
+}
+
+/* The same for up to `most`. */
+static int receive_many(struct gasnetl_network *network, int most) {
+    struct gasnetl_arrival *arrivals = network->coming.of;
+    struct reception receptions[GASNETL_ARRIVALS];
+    struct mmsghdr messages[GASNETL_ARRIVALS];
+    for (int i = 0; i < most; i++)
+        make_ready(&receptions[i], &messages[i].msg_hdr, &arrivals[i]);
+    int got = receive_messages(network->socket, messages, most);
+    for (int i = 0; i < got; i++)
+        note_arrival(network, &arrivals[i], &messages[i].msg_hdr, messages[i].msg_len);
+    return got;
+}
+
+/* How many arrivals the next call asks for, where this one asked for `most`: more where as many came, and the call
+ * before found some too. A long train is enough for one call. */
+static int next_most(const struct gasnetl_coming *coming, int most, int got) {
+    enum { SHORT = 4096 };
+    if (got <= 0 || !coming->count || coming->of[0].end > SHORT)
+        return 1;
+    if (got < most)
+        return got;
+    return 2 * most < GASNETL_ARRIVALS ? 2 * most : GASNETL_ARRIVALS;
+}
+
+/* Asks the system for datagrams: false where there are none. */
 static bool receive_more(struct gasnetl_network *network) {
     struct gasnetl_coming *coming = &network->coming;
-    struct sockaddr_storage address;
-    struct iovec all = { coming->bytes, sizeof coming->bytes };
-    _Alignas(struct cmsghdr) char control[256];
-    struct msghdr message = { .msg_name = &address, .msg_namelen = sizeof address, .msg_iov = &all, .msg_iovlen = 1,
-                              .msg_control = control, .msg_controllen = sizeof control };
-    ssize_t got = recvmsg(network->socket, &message, MSG_DONTWAIT);
-    coming->first = coming->end = 0;
+    int most = coming->most, got = most <= 1 ? receive_one(network) : receive_many(network, most);
+    coming->most = next_most(coming, most > 1 ? most : 1, got);
+    coming->next = 0;
+    coming->count = got > 0 ? (unsigned)got : 0;
     if (got < 0 && errno == EAGAIN)
         return false;
-    if (got < 0) {
+    if (got < 0)
         take_refusals(network);
-        return true;
-    }
-    coming->from = gasnetl_places_find(&network->places, &address);
-    if (coming->from == GASNETL_NO_NODE || coming->from == network->me || !got) {
-        network->strays++;
-        return true;
-    }
-    coming->end = (size_t)got;
-    coming->each = bytes_of_one(&message, (size_t)got);
     return true;
 }
 
 /* How many bytes a datagram has without its tag, where a key is set; 0 where the key didn't seal it. */
-static size_t opened(struct gasnetl_network *network, const uint8_t *bytes, size_t got) {
+static size_t open_sealed(struct gasnetl_network *network, uint16_t from, const uint8_t *bytes, size_t got) {
     if (!network->key.is_set)
         return got;
     size_t length = gasnetl_open(&network->key, bytes, got);
-    if (!length)
+    if (!length) {
         network->unsealed++;
+        network->is_unsealed[from] = true;
+    }
     return length;
 }
 
-bool gasnetl_network_has_more(const struct gasnetl_network *network) { return network->coming.first < network->coming.end; }
+/* The arrival that is taken from; NULL where all were taken. */
+static struct gasnetl_arrival *arrival_now(struct gasnetl_coming *coming) {
+    while (coming->next < coming->count && coming->of[coming->next].first >= coming->of[coming->next].end)
+        coming->next++;
+    return coming->next < coming->count ? &coming->of[coming->next] : NULL;
+}
+
+bool gasnetl_network_has_more(struct gasnetl_network *network) { return arrival_now(&network->coming); }
+
+/* The same, where the system has more; NULL where it hasn't. */
+static struct gasnetl_arrival *next_arrival(struct gasnetl_network *network) {
+    struct gasnetl_arrival *arrival = arrival_now(&network->coming);
+    for (int call = 0; !arrival && call < GASNETL_STRAYS; call++) {
+        gasnetl_network_flush(network);
+        if (!receive_more(network))
+            return NULL;
+        arrival = arrival_now(&network->coming);
+    }
+    return arrival;
+}
 
 const uint8_t *gasnetl_network_receive(struct gasnetl_network *network, size_t *length, uint16_t *from) {
-    struct gasnetl_coming *coming = &network->coming;
     for (int stray = 0; stray < GASNETL_STRAYS; stray++) {
-        if (!gasnetl_network_has_more(network)) {
-            gasnetl_network_flush(network);
-            if (!receive_more(network))
-                return NULL;
-            if (!gasnetl_network_has_more(network))
-                continue;
-        }
-        const uint8_t *bytes = coming->bytes + coming->first;
-        size_t left = coming->end - coming->first, got = left < coming->each ? left : coming->each;
-        coming->first += got;
-        *length = opened(network, bytes, got);
-        *from = coming->from;
+        struct gasnetl_arrival *arrival = next_arrival(network);
+        if (!arrival)
+            return NULL;
+        const uint8_t *bytes = arrival->bytes + arrival->first;
+        size_t left = arrival->end - arrival->first, got = left < arrival->each ? left : arrival->each;
+        arrival->first += got;
+        *length = open_sealed(network, arrival->from, bytes, got);
+        *from = arrival->from;
         if (!*length)
             continue;
         if (*length > GASNETL_DATAGRAM)
@@ -308,13 +414,11 @@ const uint8_t *gasnetl_network_receive(struct gasnetl_network *network, size_t *
 void gasnetl_network_forget(struct gasnetl_network *network) {
     network->going.count = 0;
     network->going.first = network->going.end = 0;
-    network->coming.first = network->coming.end = 0;
+    network->coming.count = network->coming.next = 0;
 }
 
 void gasnetl_network_close(struct gasnetl_network *network) {
     if (network->socket >= 0)
         close(network->socket);
     network->socket = -1;
-    gasnetl_faults_free(&network->faults);
-    gasnetl_places_free(&network->places);
 }

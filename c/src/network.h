@@ -15,11 +15,14 @@ enum {
     GASNETL_RECEIVE_BYTES = 4 << 20,
     GASNETL_DATAGRAM = GASNET_C_ROOM + GASNETL_TAG_BYTES, /* the bytes of a datagram of ours at most */
     GASNETL_GROUP = 64,                                   /* the datagrams of a group at most, and their bytes */
-    GASNETL_GROUP_BYTES = 65000
+    GASNETL_GROUP_BYTES = 65000,
+    GASNETL_ARRIVALS = 16,                            /* what one call of the system receives at most */
+    GASNETL_TRAIN_BYTES = 1 << 16,                    /* the bytes of one of these at most */
+    GASNETL_ARRIVAL_BYTES = GASNETL_TRAIN_BYTES + 192 /* so that two of them don't share lines of a cache */
 };
 
-/* Datagrams to one node that wait to be sent by one call of the system, which cuts them (UDP_SEGMENT): each has as many bytes
- * as the first one, but for the last, which may have fewer. */
+/* Datagrams to one node that wait to be sent by one call of the system, which cuts them (UDP_SEGMENT): each has as many
+ * bytes as the first one, but for the last, which may have fewer. */
 struct gasnetl_going {
     uint16_t to;
     unsigned count;
@@ -27,12 +30,24 @@ struct gasnetl_going {
     uint8_t bytes[2 * GASNETL_GROUP_BYTES];
 };
 
-/* Datagrams of one sender that one call of the system received (UDP_GRO), in the same form. */
-struct gasnetl_coming {
+/* Datagrams of one sender that the system received together (UDP_GRO), in the same form. */
+struct gasnetl_arrival {
     uint16_t from;
     size_t each, first, end; /* where those begin that weren't taken yet */
-    uint8_t bytes[1 << 16];
+    uint8_t bytes[GASNETL_ARRIVAL_BYTES];
 };
+
+/* What one call of the system received. */
+struct gasnetl_coming {
+    unsigned count, next; /* the arrivals, and the one that is taken from */
+    int most;             /* how many the next call asks for; 0 as 1 */
+    struct gasnetl_arrival of[GASNETL_ARRIVALS];
+};
+
+/* The front of a datagram to a node, as it came back from a host that says that nobody has the socket: whoever can
+ * send ICMP may say so. It is called while others wait to be sent, and sends none. */
+struct gasnetl_job;
+typedef void gasnetl_came_back(struct gasnetl_job *job, uint16_t to, const uint8_t *bytes, size_t length);
 
 struct gasnetl_network {
     int socket; /* -1 where there is none */
@@ -40,9 +55,11 @@ struct gasnetl_network {
     bool has_groups; /* the system sends and receives groups */
     struct gasnetl_places places;
     struct gasnetl_faults faults;
-    bool is_refused[GASNET_C_MAX_NODES];  /* the node's host said that nobody has its socket */
+    gasnetl_came_back *came_back;          /* takes what came back; NULL where nobody does */
+    struct gasnetl_job *job;               /* what it is handed */
+    bool is_unsealed[GASNET_C_MAX_NODES];  /* a datagram without a right tag came from the node's address */
     bool takes_single[GASNET_C_MAX_NODES]; /* the way to the node has no groups */
-    struct gasnetl_key key;               /* where one is set, datagrams are sealed under it */
+    struct gasnetl_key key;                /* where one is set, datagrams are sealed under it */
     struct gasnetl_going going;
     struct gasnetl_coming coming;
     uint64_t sent, received, strays, unsealed, unsent;
@@ -50,17 +67,18 @@ struct gasnetl_network {
 
 /* Makes a socket for the node's own address, or takes the one of this number where it isn't -1. The places are read
  * already. False where that fails: a line on standard error has said why. */
-bool gasnetl_network_open(struct gasnetl_network *network, const struct gasnetl_config *config, uint16_t me, int socket);
+bool gasnetl_network_open(struct gasnetl_network *network, const struct gasnetl_config *config, uint16_t me,
+                          int socket);
 
 /* Makes a datagram socket for this address, with a wide receive buffer. -1 where that fails, with errno. */
 int gasnetl_network_bind(const struct sockaddr *address, socklen_t length);
 
-/* Where the next datagram may be written, of GASNET_C_ROOM bytes at most, before it is sent. It stays there until something
- * is sent. */
+/* Where the next datagram may be written, of GASNET_C_ROOM bytes at most, before it is sent. It stays there until
+ * something is sent. */
 uint8_t *gasnetl_network_room(struct gasnetl_network *network);
 
-/* Sends a datagram to a node, at the latest as gasnetl_network_flush is called. It doesn't wait: what can't be sent at once
- * is lost, as a network loses it. */
+/* Sends a datagram to a node, at the latest as gasnetl_network_flush is called. It doesn't wait: what can't be sent at
+ * once is lost, as a network loses it. */
 void gasnetl_network_send(struct gasnetl_network *network, uint16_t to, const void *bytes, size_t length);
 
 /* Sends what waits to be sent. */
@@ -68,18 +86,19 @@ void gasnetl_network_flush(struct gasnetl_network *network);
 
 /* Takes the next datagram that came from a node of the job, and sends what waits before it asks the system for one. Its
  * bytes, which stay until the next call, how many they are, cut to GASNETL_DATAGRAM, and its sender; NULL where none is
- * there. It doesn't wait. Others' datagrams are dropped and counted, and so are, where a key is set, those that it didn't
- * seal; after GASNETL_STRAYS of both it answers NULL, so that a flood of them holds up nothing. */
+ * there. It doesn't wait. Others' datagrams are dropped and counted, and so are, where a key is set, those that it
+ * didn't seal; after GASNETL_STRAYS of both it answers NULL, so that a flood of them holds up nothing. */
 const uint8_t *gasnetl_network_receive(struct gasnetl_network *network, size_t *length, uint16_t *from);
 
 /* Whether a datagram was received already, and not taken. */
-bool gasnetl_network_has_more(const struct gasnetl_network *network);
+bool gasnetl_network_has_more(struct gasnetl_network *network);
 
 /* Forgets what waits to be sent, and what wasn't taken: a signal interrupted who had them in hand. */
 void gasnetl_network_forget(struct gasnetl_network *network);
 
 enum { GASNETL_STRAYS = 64 };
 
+/* Closes the socket. Nothing is freed: the process ends. */
 void gasnetl_network_close(struct gasnetl_network *network);
 
 #endif

@@ -16,12 +16,15 @@ struct gasnetl_op {
 /* A list of free operations, which grows by whole blocks. */
 struct gasnetl_ops {
     struct gasnetl_op *free;
+    struct gasnetl_op *left;   /* those of threads that ended, which aren't complete yet */
     struct gasnetl_op *blocks; /* the first of each block leads to the block before it */
 };
 
 /* An operation with nothing open. */
 struct gasnetl_op *gasnetl_op_new(struct gasnetl_ops *ops);
 void gasnetl_op_free(struct gasnetl_ops *ops, struct gasnetl_op *op);
-void gasnetl_ops_end(struct gasnetl_ops *ops);
+
+/* Gives back an operation that nobody synchronises any more, once it is complete. It may be NULL. */
+void gasnetl_op_leave(struct gasnetl_ops *ops, struct gasnetl_op *op);
 
 #endif

@@ -15,20 +15,26 @@ struct side {
     size_t levels;
 };
 
-static struct side of_list(size_t count, const gasnet_memvec_t *list) { return (struct side){ .ranges = count, .list = list }; }
+static struct side of_list(size_t count, const gasnet_memvec_t *list) {
+    return (struct side){ .ranges = count, .list = list };
+}
 
 static struct side of_places(size_t count, void *const *places, size_t each) {
     return (struct side){ .ranges = count, .places = places, .each = each };
 }
 
 static struct side of_strides(void *base, const size_t *strides, const size_t *count, size_t levels) {
-    struct side side = { .ranges = 1, .each = count[0], .base = base, .strides = strides, .counts = count + 1, .levels = levels };
+    struct side side = {
+        .ranges = 1, .each = count[0], .base = base, .strides = strides, .counts = count + 1, .levels = levels
+    };
     for (size_t level = 0; level < levels; level++)
         side.ranges *= side.counts[level];
     return side;
 }
 
-static size_t length_of(const struct side *side, size_t range) { return side->list ? side->list[range].len : side->each; }
+static size_t length_of(const struct side *side, size_t range) {
+    return side->list ? side->list[range].len : side->each;
+}
 
 static char *place_of(const struct side *side, size_t range) {
     if (side->list)
@@ -82,7 +88,8 @@ struct pieces {
 };
 
 /* Begins a piece for an operation. */
-static void begin_piece(struct gasnetl_job *job, struct gasnetl_op *op, const struct pieces *all, char *far, char *near, size_t nbytes) {
+static void begin_piece(struct gasnetl_job *job, struct gasnetl_op *op, const struct pieces *all, char *far, char *near,
+                        size_t nbytes) {
     gasnetl_begin(job, op, &(struct gasnetl_asked){ all->call, all->kind, all->node, far, near, nbytes, 0, true });
 }
 
@@ -92,7 +99,8 @@ static void begin_all(struct gasnetl_job *job, struct gasnetl_op *op, const stru
     char *far_at = NULL, *near_at = NULL;
     size_t held = 0, total = total_of(&all->far);
     if (total != total_of(&all->near))
-        gasnetl_stop(GASNETL_MISUSE, "%s: one side has %zu bytes, the other %zu", all->call, total, total_of(&all->near));
+        gasnetl_stop(GASNETL_MISUSE, "%s: one side has %zu bytes, the other %zu", all->call, total,
+                     total_of(&all->near));
     go_on(&far, 0);
     go_on(&near, 0);
     for (size_t nbytes; total; total -= nbytes) {
@@ -143,12 +151,24 @@ static void implicit(const struct pieces *all) {
 #define PUT(call, far, near) (&(struct pieces){ call, GASNETL_PUT, dstnode, far, near })
 #define GET(call, far, near) (&(struct pieces){ call, GASNETL_GET, srcnode, far, near })
 
-#define PUTV gasnet_node_t dstnode, size_t dstcount, gasnet_memvec_t const dstlist[], size_t srccount, gasnet_memvec_t const srclist[]
-#define GETV size_t dstcount, gasnet_memvec_t const dstlist[], gasnet_node_t srcnode, size_t srccount, gasnet_memvec_t const srclist[]
-#define PUTI gasnet_node_t dstnode, size_t dstcount, void *const dstlist[], size_t dstlen, size_t srccount, void *const srclist[], size_t srclen
-#define GETI size_t dstcount, void *const dstlist[], size_t dstlen, gasnet_node_t srcnode, size_t srccount, void *const srclist[], size_t srclen
-#define PUTS gasnet_node_t dstnode, void *dstaddr, const size_t dststrides[], void *srcaddr, const size_t srcstrides[], const size_t count[], size_t stridelevels
-#define GETS void *dstaddr, const size_t dststrides[], gasnet_node_t srcnode, void *srcaddr, const size_t srcstrides[], const size_t count[], size_t stridelevels
+#define PUTV                                                                                                           \
+    gasnet_node_t dstnode, size_t dstcount, gasnet_memvec_t const dstlist[], size_t srccount,                          \
+        gasnet_memvec_t const srclist[]
+#define GETV                                                                                                           \
+    size_t dstcount, gasnet_memvec_t const dstlist[], gasnet_node_t srcnode, size_t srccount,                          \
+        gasnet_memvec_t const srclist[]
+#define PUTI                                                                                                           \
+    gasnet_node_t dstnode, size_t dstcount, void *const dstlist[], size_t dstlen, size_t srccount,                     \
+        void *const srclist[], size_t srclen
+#define GETI                                                                                                           \
+    size_t dstcount, void *const dstlist[], size_t dstlen, gasnet_node_t srcnode, size_t srccount,                     \
+        void *const srclist[], size_t srclen
+#define PUTS                                                                                                           \
+    gasnet_node_t dstnode, void *dstaddr, const size_t dststrides[], void *srcaddr, const size_t srcstrides[],         \
+        const size_t count[], size_t stridelevels
+#define GETS                                                                                                           \
+    void *dstaddr, const size_t dststrides[], gasnet_node_t srcnode, void *srcaddr, const size_t srcstrides[],         \
+        const size_t count[], size_t stridelevels
 
 #define LIST(side) of_list(side##count, side##list)
 #define PLACES(side) of_places(side##count, side##list, side##len)

@@ -1,8 +1,11 @@
 #include "places.h"
 
 #include <arpa/inet.h>
+#include <ctype.h>
+#include <errno.h>
 #include <netdb.h>
 #include <netinet/in.h>
+#include <stdarg.h>
 #include <stdio.h>
 #include <stdlib.h>
 #include <string.h>
@@ -39,17 +42,51 @@ static bool cut(char *word, char **host, char **port) {
     return true;
 }
 
-static bool read_place(struct gasnetl_place *place, char *word) {
-    char *host, *port;
+static bool say(struct gasnetl_why *why, const char *format, ...) __attribute__((format(printf, 2, 3)));
+
+/* Writes what is wrong; false. */
+static bool say(struct gasnetl_why *why, const char *format, ...) {
+    va_list values;
+    va_start(values, format);
+    vsnprintf(why->text, sizeof why->text, format, values);
+    va_end(values);
+    return false;
+}
+
+static bool is_port(const char *text) {
+    char *end;
+    unsigned long port = strtoul(text, &end, 10);
+    return isdigit((unsigned char)*text) && !*end && port && port < PORTS;
+}
+
+/* Asks for the address of a host and a port: one of this family where there is one, else any. The answer of
+ * getaddrinfo. */
+static int ask(const char *host, const char *port, int family, struct addrinfo **found) {
+    struct addrinfo wanted = { .ai_family = family, .ai_socktype = SOCK_DGRAM, .ai_flags = AI_NUMERICSERV };
+    int code = getaddrinfo(host, port, &wanted, found);
+    wanted.ai_family = AF_UNSPEC;
+    return code && family != AF_UNSPEC ? getaddrinfo(host, port, &wanted, found) : code;
+}
+
+/* Reads a word HOST:PORT, which `whole` has uncut, to an address of this family. */
+static bool read_place(struct gasnetl_place *place, char *word, int family, struct gasnetl_why *why) {
+    char whole[WORD], *host, *port;
+    struct addrinfo *found;
+    snprintf(whole, sizeof whole, "%s", word);
     if (!cut(word, &host, &port))
-        return false;
-    struct addrinfo wanted = { .ai_family = AF_UNSPEC, .ai_socktype = SOCK_DGRAM, .ai_flags = AI_NUMERICSERV }, *found;
-    if (getaddrinfo(host, port, &wanted, &found))
-        return false;
+        return say(why, "'%s' in it isn't HOST:PORT", whole);
+    if (!is_port(port))
+        return say(why, "the port of '%s' in it isn't a number from 1 to 65535", whole);
+    int code = ask(host, port, family, &found);
+    if (code)
+        return say(why, "the host of '%s' in it isn't known (%s)", whole, gai_strerror(code));
     memcpy(&place->address, found->ai_addr, found->ai_addrlen);
     place->length = found->ai_addrlen;
     freeaddrinfo(found);
-    return port_of(&place->address) != 0;
+    if (family != AF_UNSPEC && place->address.ss_family != family)
+        return say(why, "'%s' in it is of IPv%d, and the first address of IPv%d, so no datagram goes between the two",
+                   whole, family == AF_INET ? 6 : 4, family == AF_INET ? 4 : 6);
+    return true;
 }
 
 /* Enters a node behind the others of its port; false where one of them has its address. */
@@ -74,27 +111,41 @@ static size_t first_word(const char **text, char *word) {
     return length;
 }
 
-bool gasnetl_places_read(struct gasnetl_places *places, uint16_t nodes, const char *text, const char **why) {
-    char word[WORD];
+/* Reads the address of the next node from the text. */
+static bool read_next(struct gasnetl_places *places, uint16_t node, const char **text, struct gasnetl_why *why) {
+    char word[WORD], whole[WORD];
+    int family = node ? places->of[0].address.ss_family : AF_UNSPEC;
+    if (!**text)
+        return say(why, "it has fewer addresses than nodes");
+    if (first_word(text, word) >= WORD)
+        return say(why, "a word of it is longer than %d letters", WORD - 1);
+    memcpy(whole, word, sizeof whole);
+    if (!read_place(&places->of[node], word, family, why))
+        return false;
+    return enter(places, node) || say(why, "two of its addresses are the same: '%s' is that of two nodes", whole);
+}
+
+bool gasnetl_places_read(struct gasnetl_places *places, uint16_t nodes, const char *text, struct gasnetl_why *why) {
     places->nodes = nodes;
     places->first = malloc(PORTS * sizeof *places->first);
-    *why = "there is no memory";
     if (!places->first)
-        return false;
+        return say(why, "there is no memory");
     memset(places->first, 0xff, PORTS * sizeof *places->first);
-    for (uint16_t node = 0; node < nodes; node++) {
-        *why = "it has fewer addresses than nodes";
-        if (!*text)
+    for (uint16_t node = 0; node < nodes; node++)
+        if (!read_next(places, node, &text, why))
             return false;
-        *why = "an address of it is none, or its host isn't known";
-        if (first_word(&text, word) >= WORD || !read_place(&places->of[node], word))
-            return false;
-        *why = "two of its addresses are the same";
-        if (!enter(places, node))
-            return false;
-    }
-    *why = "it has more addresses than nodes";
-    return !*text;
+    return !*text || say(why, "it has more addresses than nodes");
+}
+
+const char *gasnetl_place_remedy(int error) {
+    if (error == EADDRNOTAVAIL)
+        return "this host has no such address: see that GASNET_RANK is this host's place in the list, and that the "
+               "name there leads to an address of it";
+    if (error == EADDRINUSE)
+        return "another process has the port: set GASNET_PORT, or those of GASNET_ADDRESSES, to others on all nodes";
+    if (error == EACCES)
+        return "the port is kept for the system: take one from 1024 on";
+    return "see what the system says of it";
 }
 
 uint16_t gasnetl_places_find(const struct gasnetl_places *places, const struct sockaddr_storage *address) {
@@ -113,9 +164,4 @@ void gasnetl_place_write(const struct sockaddr_storage *address, char *text, siz
     else
         inet_ntop(AF_INET6, &((const struct sockaddr_in6 *)address)->sin6_addr, host, sizeof host);
     snprintf(text, room, address->ss_family == AF_INET ? "%s:%u" : "[%s]:%u", host, port_of(address));
-}
-
-void gasnetl_places_free(struct gasnetl_places *places) {
-    free(places->first);
-    places->first = NULL;
 }

@@ -5,16 +5,19 @@
 
 #include "errors.h"
 #include "job.h"
+#include "words.h"
+
+enum { SENDER_AT = 16 }; /* where the sender stands in a message (docs/FORMATS.md) */
 
 enum {
-    LOOK = 1000,       /* microseconds between two looks for what is to be sent again */
-    PATIENCE = 20000,  /* microseconds for which such a look waits while datagrams come */
-    TICKS = 64,        /* the datagrams that one round sends at most */
-    SPIN = 400,        /* the empty looks before a call that waits sleeps, where each node has a processor */
-    POLL_EACH = 32,  /* requests between two polls */
+    LOOK = 1000,      /* microseconds that a look for datagrams counts at most */
+    PATIENCE = 20000, /* microseconds for which a look for what is due waits while datagrams come */
+    TICKS = 64,       /* the datagrams that one round sends at most */
+    SPIN = 400,       /* the empty looks before a call that waits sleeps, where each node has a processor */
+    POLL_EACH = 32,   /* requests between two polls */
     POLL_MOST = 64,
-    SLEEP = 100,       /* milliseconds that it sleeps at most, where nothing is out */
-    SLEEP_THREADED = 5 /* the same where another thread may see what it waits for */
+    SLEEP = 100000,       /* microseconds that it sleeps at most */
+    SLEEP_THREADED = 5000 /* the same where another thread may see what it waits for */
 };
 
 uint64_t gasnetl_clock(void) {
@@ -23,26 +26,25 @@ uint64_t gasnetl_clock(void) {
     return (uint64_t)time.tv_sec * 1000000 + (uint64_t)time.tv_nsec / 1000;
 }
 
-/* ---- The endpoint's time. It sends a request again when GASNET_RESEND of its time went by without an answer. What went by
- * while this node didn't look for answers doesn't count, or all that is out would go again as it comes back. */
-
-enum { PARTS = 4 }; /* a look counts as so great a part of GASNET_RESEND at most */
+/* ---- The endpoint's time. What went by while this node didn't look for answers doesn't count, or all that is out
+ * would be late as it comes back. */
 
 void gasnetl_read_clock(struct gasnetl_job *job) {
     struct gasnetl_progress *progress = &job->progress;
-    uint64_t now = gasnetl_clock(), passed = now - progress->now, most = job->config.resend / PARTS;
-    if (most < LOOK)
-        most = LOOK;
+    uint64_t now = gasnetl_clock(), passed = now - progress->now;
     progress->now = now;
-    progress->time += passed < most ? passed : most;
+    progress->elapsed += passed < LOOK ? passed : LOOK;
+    progress->time = progress->elapsed / 1000;
+    gasnetl_progress_thread_called(&job->thread);
 }
 
 void gasnetl_progress_start(struct gasnetl_job *job) {
     struct gasnetl_progress *progress = &job->progress;
     progress->now = gasnetl_clock();
+    progress->next_tick = UINT64_MAX;
     long processors = sysconf(_SC_NPROCESSORS_ONLN);
     unsigned neighbours = job->start.neighbours ? job->start.neighbours : job->nodes;
-    progress->credits = GASNET_C_MAX_CREDITS;
+    progress->credits = job->config.credits;
     while (progress->credits > 1 && job->nodes * (job->nodes - 1u) * progress->credits > GASNET_C_ALL_CREDITS)
         progress->credits--;
     atomic_init(&progress->wait_mode, GASNET_WAIT_SPINBLOCK);
@@ -55,16 +57,28 @@ void gasnetl_progress_start(struct gasnetl_job *job) {
 
 /* ---- What is sent. */
 
-static void transmit(struct gasnetl_job *job, const gasnet_c_told *told) {
+static void send_told(struct gasnetl_job *job, const gasnet_c_told *told) {
     if (told->len)
         gasnetl_network_send(&job->network, told->to, gasnetl_network_room(&job->network), told->len);
 }
 
+bool gasnetl_is_for_client(const struct gasnetl_job *job, const uint8_t *bytes, size_t length) {
+    if (length <= GASNET_C_HANDLER_AT || bytes[GASNET_C_HANDLER_AT] < GASNET_C_FIRST_HANDLER)
+        return false;
+    uint8_t handler = bytes[GASNET_C_HANDLER_AT];
+    return !(job->atomics.served && gasnetl_is_atomic(handler)) &&
+           !(job->collectives.served && handler == GASNET_C_COLLECTIVE_HANDLER);
+}
+
 /* A new request is out. */
-static void went_out(struct gasnetl_job *job, const gasnet_c_told *told) {
+static void request_went_out(struct gasnetl_job *job, const gasnet_c_told *told) {
+    struct gasnetl_progress *progress = &job->progress;
+    bool is_for_client = gasnetl_is_for_client(job, gasnetl_network_room(&job->network), told->len);
     gasnetl_peer_asked(job, told->to);
-    job->progress.out++;
-    transmit(job, told);
+    if (!progress->out++)
+        progress->next_tick = gasnet_c_next_due(&job->node);
+    gasnetl_recovery_sent(job, told->to, told->slot, is_for_client ? GASNETL_BY_CLIENT : GASNETL_BY_LIBRARY);
+    send_told(job, told);
 }
 
 /* Of a request and a chunk that want the same credit, each gets every other one. */
@@ -75,26 +89,28 @@ static bool chunk_may_go(struct gasnetl_peer *peer) {
     return peer->chunk_goes;
 }
 
-static bool tick(struct gasnetl_job *job) {
-    gasnet_c_told told = gasnet_c_tick(&job->node, job->progress.time, gasnetl_network_room(&job->network), GASNET_C_ROOM);
+static bool tick_once(struct gasnetl_job *job) {
+    gasnet_c_told told =
+        gasnet_c_tick(&job->node, job->progress.time, gasnetl_network_room(&job->network), GASNET_C_ROOM);
     gasnetl_told(job, &told);
     return told.code != GASNET_C_NOTHING;
 }
 
-static void came_back(struct gasnetl_job *job, const gasnet_c_told *told) {
+static void request_came_back(struct gasnetl_job *job, const gasnet_c_told *told) {
     struct gasnetl_progress *progress = &job->progress;
     job->peers.of[told->to].out--;
     progress->out--;
+    gasnetl_recovery_answered(job, told->to, told->slot);
     gasnetl_chunk_back(job, told->to, told->slot);
     gasnetl_atomic_back(job, told->to, told->slot);
     if (progress->has_notes)
-        tick(job);
+        tick_once(job);
     gasnetl_send_chunks(job, told->to);
+    gasnetl_transfers_feed(job, told->to);
 }
 
 /* Nothing is due. A note that is due had no credit, or there is none. */
 static void nothing_due(struct gasnetl_progress *progress) {
-    progress->next_look = progress->now + LOOK;
     if (progress->out < progress->credits)
         progress->has_notes = false;
 }
@@ -103,26 +119,26 @@ void gasnetl_told(struct gasnetl_job *job, const gasnet_c_told *told) {
     switch (told->code) {
     case GASNET_C_NOTED:
         job->progress.has_notes = true;
-        transmit(job, told);
+        send_told(job, told);
         break;
     case GASNET_C_RESENT:
         job->progress.resent++;
-        transmit(job, told);
+        send_told(job, told);
         break;
     case GASNET_C_RAN:
     case GASNET_C_AGAIN:
-        transmit(job, told);
+        send_told(job, told);
         break;
     case GASNET_C_RETURNED:
-        came_back(job, told);
+        request_came_back(job, told);
         break;
     case GASNET_C_CHUNK:
         gasnetl_chunk_out(job, told->to, told->slot);
-        went_out(job, told);
+        request_went_out(job, told);
         break;
     case GASNET_C_ACCEPTED:
     case GASNET_C_NOTE:
-        went_out(job, told);
+        request_went_out(job, told);
         break;
     case GASNET_C_NOTHING:
         nothing_due(&job->progress);
@@ -137,33 +153,77 @@ void gasnetl_told(struct gasnetl_job *job, const gasnet_c_told *told) {
 void gasnetl_send_chunks(struct gasnetl_job *job, uint16_t to) {
     struct gasnetl_peer *peer = &job->peers.of[to];
     while (gasnetl_has_chunk(&job->transfers, to) && peer->out < job->progress.credits && chunk_may_go(peer))
-        if (!tick(job))
+        if (!tick_once(job))
             break;
 }
 
 void gasnetl_tick(struct gasnetl_job *job) {
-    for (int sent = 0; sent < TICKS && tick(job); sent++)
+    for (int sent = 0; sent < TICKS && tick_once(job); sent++)
         continue;
+}
+
+/* The endpoint sends again by itself what has no answer for long: the last resort. */
+static void last_resort(struct gasnetl_job *job) {
+    struct gasnetl_progress *progress = &job->progress;
+    if (progress->time < progress->next_tick)
+        return;
+    gasnetl_tick(job);
+    progress->next_tick = gasnet_c_next_due(&job->node);
+}
+
+/* Sends the notes of the barrier that are due, and, where what came is taken, what is to go again. */
+static void send_due(struct gasnetl_job *job, bool may_look) {
+    if (job->progress.has_notes)
+        gasnetl_tick(job);
+    if (!may_look || !job->progress.out)
+        return;
+    gasnetl_recovery_look(job);
+    last_resort(job);
 }
 
 /* ---- What comes. */
 
-static void take(struct gasnetl_job *job, uint16_t from, const uint8_t *bytes, size_t length) {
-    gasnetl_peer_heard(job, from);
-    if (gasnetl_control_is(bytes, length)) {
-        gasnetl_control_take(job, from, bytes);
-        return;
-    }
-    if (!job->attached) /* it comes again */
-        return;
+static void deliver_message(struct gasnetl_job *job, const uint8_t *bytes, size_t length) {
     if (gasnetl_atomic_take(job, bytes, length) || gasnetl_collective_take(job, bytes, length))
         return;
-    if (length > GASNET_C_HANDLER_AT && bytes[GASNET_C_HANDLER_AT] >= GASNET_C_FIRST_HANDLER) {
-        gasnetl_message_take(job, bytes, length);
+    if (gasnetl_is_for_client(job, bytes, length)) {
+        if (job->progress.keeps && gasnetl_message_runs(job, bytes, length))
+            gasnetl_keep(&job->kept, bytes, length);
+        else
+            gasnetl_message_take(job, bytes, length);
         return;
     }
-    gasnet_c_told told = gasnet_c_deliver(&job->node, job->progress.time, bytes, length, &gasnetl_no_run, gasnetl_network_room(&job->network), GASNET_C_ROOM);
+    gasnet_c_told told = gasnet_c_deliver(&job->node, job->progress.time, bytes, length, &gasnetl_no_run,
+                                          gasnetl_network_room(&job->network), GASNET_C_ROOM);
     gasnetl_told(job, &told);
+}
+
+/* Whether a message is of this job, and of the node whose address it has. */
+static bool is_of(const struct gasnetl_job *job, uint16_t from, const uint8_t *bytes, size_t length) {
+    return gasnetl_control_is_of_job(&job->control, bytes, length) && length >= SENDER_AT + 2 &&
+           gasnetl_word_read(bytes + SENDER_AT, 2) == from;
+}
+
+/* Others' messages are of no use, and nor are those that come before this node may take any: these come again. */
+static void take_datagram(struct gasnetl_job *job, uint16_t from, const uint8_t *bytes, size_t length) {
+    if (gasnetl_control_is(bytes, length)) {
+        gasnetl_control_take(job, from, bytes, length);
+    } else if ((job->attached || job->control.is_meeting) && is_of(job, from, bytes, length)) {
+        gasnetl_peer_heard(job, from);
+        deliver_message(job, bytes, length);
+    }
+}
+
+/* Takes up to `most` of the datagrams that wait for the client. How many it took. */
+static int take_kept(struct gasnetl_job *job, int most) {
+    const uint8_t *bytes;
+    size_t length;
+    int took = 0;
+    while (took < most && (bytes = gasnetl_kept_take(&job->kept, &length))) {
+        deliver_message(job, bytes, length);
+        took++;
+    }
+    return took;
 }
 
 bool gasnetl_poll(struct gasnetl_job *job, int most) {
@@ -174,19 +234,22 @@ bool gasnetl_poll(struct gasnetl_job *job, int most) {
     uint16_t from;
     gasnetl_read_clock(job);
     progress->since_poll = 0;
+    if (!progress->keeps)
+        gasnetl_progress_thread_polled(&job->thread, progress->now);
+    if (job->kept.count && job->attached && !progress->keeps)
+        came = take_kept(job, most);
     while (job->nodes > 1 && (came < most || gasnetl_network_has_more(&job->network)) &&
            (bytes = gasnetl_network_receive(&job->network, &length, &from))) {
-        take(job, from, bytes, length);
+        take_datagram(job, from, bytes, length);
         came++;
     }
     if (job->attached && !job->ender)
         gasnetl_collectives_advance(job);
     /* What came is taken before anything goes again; but whoever sends without end doesn't hold that up. */
     if (!bytes)
-        progress->last_empty = progress->now;
-    bool may_look = !bytes || progress->now - progress->last_empty >= PATIENCE;
-    if (job->attached && (progress->has_notes || (may_look && progress->out && progress->now >= progress->next_look)))
-        gasnetl_tick(job);
+        progress->last_empty = progress->elapsed;
+    if (job->attached)
+        send_due(job, !bytes || progress->elapsed - progress->last_empty >= PATIENCE);
     gasnetl_network_flush(&job->network);
     gasnetl_peers_look(job);
     if (came)
@@ -201,12 +264,13 @@ void gasnetl_request_begins(struct gasnetl_job *job) {
         gasnetl_read_clock(job);
 }
 
-/* How long a call that waits may sleep: until a request may be due again. */
-static int sleep_time(const struct gasnetl_job *job) {
-    int resend = (int)(job->config.resend / 4000), most = job->turns.threaded ? SLEEP_THREADED : SLEEP;
-    if (!job->progress.out || resend > most)
+/* How long a call that waits may sleep, in microseconds: until a request is due. */
+static uint64_t sleep_time(const struct gasnetl_job *job) {
+    const struct gasnetl_progress *progress = &job->progress;
+    uint64_t most = job->turns.threaded ? SLEEP_THREADED : SLEEP, due = job->recovery.next_look;
+    if (!progress->out || due >= progress->now + most)
         return most;
-    return resend ? resend : 1;
+    return due > progress->now ? due - progress->now : 0;
 }
 
 void gasnetl_wait(struct gasnetl_job *job, unsigned *turn) {

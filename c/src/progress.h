@@ -13,17 +13,19 @@
 struct gasnetl_job;
 
 struct gasnetl_progress {
-    uint64_t now;            /* the time of this round, in microseconds */
-    uint64_t time;           /* the endpoint's */
-    uint64_t last_empty;     /* when nothing more had come */
-    uint64_t next_look;      /* when a tick looks next for what is to be sent again */
-    unsigned out;            /* the requests to all peers that aren't back */
-    uint64_t resent;         /* how often a request was sent again */
-    unsigned credits;        /* how many may be out to one peer */
-    bool has_notes;          /* a note of the barrier may be due */
-    unsigned since_poll;     /* requests since the last poll */
-    atomic_int wait_mode;    /* a client's thread sets it without a turn */
-    unsigned spin;           /* the empty looks of a call that waits, before it sleeps */
+    uint64_t now;         /* the time of this round, in microseconds */
+    uint64_t elapsed;     /* the time in which this node looked for datagrams, in microseconds */
+    uint64_t time;        /* the endpoint's, in milliseconds: what of it elapsed */
+    uint64_t last_empty;  /* what had elapsed when nothing more had come */
+    uint64_t next_tick;   /* when a request is due that the endpoint sends again by itself, by its time */
+    unsigned out;         /* the requests to all peers that aren't back */
+    uint64_t resent;      /* how often a request was sent again */
+    unsigned credits;     /* how many may be out to one peer */
+    bool has_notes;       /* a note of the barrier may be due */
+    unsigned since_poll;  /* requests since the last poll */
+    bool keeps;           /* no handler of the client's may run: what runs one is kept for the next poll */
+    atomic_int wait_mode; /* a client's thread sets it without a turn */
+    unsigned spin;        /* the empty looks of a call that waits, before it sleeps */
 };
 
 /* The time, in microseconds. */
@@ -41,9 +43,13 @@ bool gasnetl_poll(struct gasnetl_job *job, int most);
 /* A request of the client's begins: it reads the clock, and polls at each 32nd one. */
 void gasnetl_request_begins(struct gasnetl_job *job);
 
-/* A round of a call that waits: takes one datagram, or, where none came for a while, sleeps until one comes. `turn` is 0 at
- * first. Another thread may have its turn meanwhile. */
+/* A round of a call that waits: takes one datagram, or, where none came for a while, sleeps until one comes. `turn` is
+ * 0 at first. Another thread may have its turn meanwhile. */
 void gasnetl_wait(struct gasnetl_job *job, unsigned *turn);
+
+/* Whether a datagram is for a handler of the client's: its delivery, or the delivery of the request that it is, runs
+ * one. */
+bool gasnetl_is_for_client(const struct gasnetl_job *job, const uint8_t *bytes, size_t length);
 
 /* Does what an answer of the endpoint wants done: sends its datagram, and counts. */
 void gasnetl_told(struct gasnetl_job *job, const gasnet_c_told *told);

@@ -11,31 +11,37 @@ enum { BLOCK = 64 };
 
 /* SHA-256's constants (FIPS 180-4, 4.2.2). */
 static const uint32_t constants[64] = {
-    0x428a2f98, 0x71374491, 0xb5c0fbcf, 0xe9b5dba5, 0x3956c25b, 0x59f111f1, 0x923f82a4, 0xab1c5ed5, 0xd807aa98, 0x12835b01,
-    0x243185be, 0x550c7dc3, 0x72be5d74, 0x80deb1fe, 0x9bdc06a7, 0xc19bf174, 0xe49b69c1, 0xefbe4786, 0x0fc19dc6, 0x240ca1cc,
-    0x2de92c6f, 0x4a7484aa, 0x5cb0a9dc, 0x76f988da, 0x983e5152, 0xa831c66d, 0xb00327c8, 0xbf597fc7, 0xc6e00bf3, 0xd5a79147,
-    0x06ca6351, 0x14292967, 0x27b70a85, 0x2e1b2138, 0x4d2c6dfc, 0x53380d13, 0x650a7354, 0x766a0abb, 0x81c2c92e, 0x92722c85,
-    0xa2bfe8a1, 0xa81a664b, 0xc24b8b70, 0xc76c51a3, 0xd192e819, 0xd6990624, 0xf40e3585, 0x106aa070, 0x19a4c116, 0x1e376c08,
-    0x2748774c, 0x34b0bcb5, 0x391c0cb3, 0x4ed8aa4a, 0x5b9cca4f, 0x682e6ff3, 0x748f82ee, 0x78a5636f, 0x84c87814, 0x8cc70208,
-    0x90befffa, 0xa4506ceb, 0xbef9a3f7, 0xc67178f2};
+    0x428a2f98, 0x71374491, 0xb5c0fbcf, 0xe9b5dba5, 0x3956c25b, 0x59f111f1, 0x923f82a4, 0xab1c5ed5,
+    0xd807aa98, 0x12835b01, 0x243185be, 0x550c7dc3, 0x72be5d74, 0x80deb1fe, 0x9bdc06a7, 0xc19bf174,
+    0xe49b69c1, 0xefbe4786, 0x0fc19dc6, 0x240ca1cc, 0x2de92c6f, 0x4a7484aa, 0x5cb0a9dc, 0x76f988da,
+    0x983e5152, 0xa831c66d, 0xb00327c8, 0xbf597fc7, 0xc6e00bf3, 0xd5a79147, 0x06ca6351, 0x14292967,
+    0x27b70a85, 0x2e1b2138, 0x4d2c6dfc, 0x53380d13, 0x650a7354, 0x766a0abb, 0x81c2c92e, 0x92722c85,
+    0xa2bfe8a1, 0xa81a664b, 0xc24b8b70, 0xc76c51a3, 0xd192e819, 0xd6990624, 0xf40e3585, 0x106aa070,
+    0x19a4c116, 0x1e376c08, 0x2748774c, 0x34b0bcb5, 0x391c0cb3, 0x4ed8aa4a, 0x5b9cca4f, 0x682e6ff3,
+    0x748f82ee, 0x78a5636f, 0x84c87814, 0x8cc70208, 0x90befffa, 0xa4506ceb, 0xbef9a3f7, 0xc67178f2
+};
 
-static const uint32_t first_state[8] = {0x6a09e667, 0xbb67ae85, 0x3c6ef372, 0xa54ff53a, 0x510e527f, 0x9b05688c, 0x1f83d9ab, 0x5be0cd19};
+static const uint32_t first_state[8] = { 0x6a09e667, 0xbb67ae85, 0x3c6ef372, 0xa54ff53a,
+                                         0x510e527f, 0x9b05688c, 0x1f83d9ab, 0x5be0cd19 };
 
 static uint32_t turn(uint32_t x, int n) { return x >> n | x << (32 - n); }
 
 /* The words of a block, and those that follow from them (6.2.2, step 1). */
 static void schedule(const uint8_t *block, uint32_t words[64]) {
     for (int t = 0; t < 16; t++)
-        words[t] = (uint32_t)block[4 * t] << 24 | (uint32_t)block[4 * t + 1] << 16 | (uint32_t)block[4 * t + 2] << 8 | block[4 * t + 3];
+        words[t] = (uint32_t)block[4 * t] << 24 | (uint32_t)block[4 * t + 1] << 16 | (uint32_t)block[4 * t + 2] << 8 |
+                   block[4 * t + 3];
     for (int t = 16; t < 64; t++) {
         uint32_t x = words[t - 15], y = words[t - 2];
-        words[t] = (turn(y, 17) ^ turn(y, 19) ^ y >> 10) + words[t - 7] + (turn(x, 7) ^ turn(x, 18) ^ x >> 3) + words[t - 16];
+        words[t] =
+            (turn(y, 17) ^ turn(y, 19) ^ y >> 10) + words[t - 7] + (turn(x, 7) ^ turn(x, 18) ^ x >> 3) + words[t - 16];
     }
 }
 
 static void take_block(uint32_t state[8], const uint8_t *block) {
     uint32_t words[64];
-    uint32_t a = state[0], b = state[1], c = state[2], d = state[3], e = state[4], f = state[5], g = state[6], h = state[7];
+    uint32_t a = state[0], b = state[1], c = state[2], d = state[3], e = state[4], f = state[5], g = state[6],
+             h = state[7];
     schedule(block, words);
     for (int t = 0; t < 64; t++) {
         uint32_t one = h + (turn(e, 6) ^ turn(e, 11) ^ turn(e, 25)) + ((e & f) ^ (~e & g)) + constants[t] + words[t];
@@ -66,7 +72,7 @@ static void feed(struct gasnetl_hash *hash, const void *bytes, size_t length) {
 }
 
 static void end(struct gasnetl_hash *hash, uint8_t digest[GASNETL_HASH_BYTES]) {
-    static const uint8_t padding[BLOCK] = {0x80};
+    static const uint8_t padding[BLOCK] = { 0x80 };
     uint64_t bits = 8 * hash->length;
     uint8_t size[8];
     for (int i = 0; i < 8; i++)
@@ -78,7 +84,7 @@ static void end(struct gasnetl_hash *hash, uint8_t digest[GASNETL_HASH_BYTES]) {
 }
 
 void gasnetl_key_make(struct gasnetl_key *key, const void *bytes, size_t length) {
-    uint8_t block[BLOCK] = {0}, pad[BLOCK];
+    uint8_t block[BLOCK] = { 0 }, pad[BLOCK];
     struct gasnetl_hash hash;
     if (length > BLOCK) {
         begin(&hash);
@@ -98,7 +104,8 @@ void gasnetl_key_make(struct gasnetl_key *key, const void *bytes, size_t length)
     key->is_set = true;
 }
 
-void gasnetl_key_code(const struct gasnetl_key *key, const void *message, size_t length, uint8_t code[GASNETL_HASH_BYTES]) {
+void gasnetl_key_code(const struct gasnetl_key *key, const void *message, size_t length,
+                      uint8_t code[GASNETL_HASH_BYTES]) {
     struct gasnetl_hash inner = key->inner, outer = key->outer;
     feed(&inner, message, length);
     end(&inner, code);

@@ -1,5 +1,5 @@
-/* Sealed datagrams: each has a tag of 16 bytes behind it, the front of HMAC-SHA-256 (RFC 2104, FIPS 180-4) of the datagram
- * under the key of the job. */
+/* Sealed datagrams: each has a tag of 16 bytes behind it, the front of HMAC-SHA-256 (RFC 2104, FIPS 180-4) of the
+ * datagram under the key of the job. */
 #ifndef GASNETL_SEAL_H
 #define GASNETL_SEAL_H
 
@@ -30,7 +30,8 @@ void gasnetl_key_make(struct gasnetl_key *key, const void *bytes, size_t length)
 bool gasnetl_key_read(struct gasnetl_key *key);
 
 /* HMAC-SHA-256 of a message. */
-void gasnetl_key_code(const struct gasnetl_key *key, const void *message, size_t length, uint8_t code[GASNETL_HASH_BYTES]);
+void gasnetl_key_code(const struct gasnetl_key *key, const void *message, size_t length,
+                      uint8_t code[GASNETL_HASH_BYTES]);
 
 /* Writes the tag of a datagram behind it. How many bytes both have. */
 size_t gasnetl_seal(const struct gasnetl_key *key, uint8_t *datagram, size_t length);

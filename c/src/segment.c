@@ -4,6 +4,20 @@
 
 #include "job.h"
 
+enum { LEAST = 1 << 20 };
+
+/* Whether the system gives so many addresses; it has them back. */
+static bool gives(uint64_t length) {
+    void *pages = mmap(NULL, length, PROT_READ | PROT_WRITE, MAP_PRIVATE | MAP_ANONYMOUS | MAP_NORESERVE, -1, 0);
+    return pages != MAP_FAILED && !munmap(pages, length);
+}
+
+uintptr_t gasnetl_segment_given(uintptr_t bytes) {
+    while (bytes > LEAST && !gives(2 * (bytes + GASNETL_OWN)))
+        bytes = bytes / 2 / GASNET_PAGESIZE * GASNET_PAGESIZE;
+    return bytes;
+}
+
 bool gasnetl_segment_open(struct gasnetl_segment *segment, uint64_t length) {
     void *pages = mmap(NULL, length, PROT_READ | PROT_WRITE, MAP_PRIVATE | MAP_ANONYMOUS | MAP_NORESERVE, -1, 0);
     if (pages == MAP_FAILED)

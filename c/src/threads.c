@@ -1,26 +1,100 @@
 #include "threads.h"
 
 #include <errno.h>
+#include <linux/membarrier.h>
 #include <poll.h>
 #include <string.h>
 #include <sys/eventfd.h>
+#include <sys/syscall.h>
 #include <time.h>
 #include <unistd.h>
 
 #include "errors.h"
 #include "job.h"
 
+enum {
+    LAST_TIME = 1000000,
+    LAST_TRIES = 1000
+}; /* microseconds that the end waits for a turn, and how often it tries */
+
 _Thread_local struct gasnetl_thread gasnetl_thread;
 
-bool gasnetl_turns_start(struct gasnetl_turns *turns, bool threaded) {
-    turns->threaded = threaded;
-    turns->alarm = -1;
-    atomic_init(&turns->queued, 0);
-    if (!threaded)
-        return true;
-    turns->alarm = eventfd(0, EFD_CLOEXEC | EFD_NONBLOCK);
-    return turns->alarm >= 0 && !pthread_mutex_init(&turns->mutex, NULL);
+static bool make_barrier(int command) { return !syscall(SYS_membarrier, command, 0, 0); }
+
+/* A thread of the client's ends. Its operations are given back, unless it was cancelled within a call, or the job
+ * ends. */
+static void end_thread(void *at) {
+    struct gasnetl_job *job = &gasnetl_job;
+    struct gasnetl_thread *self = at;
+    if (self->has_turn || !job->attached || gasnetl_another_ends())
+        return;
+    gasnetl_take_turn(&job->turns);
+    gasnetl_op_leave(&job->transfers.ops, self->puts);
+    gasnetl_op_leave(&job->transfers.ops, self->gets);
+    gasnetl_op_leave(&job->transfers.ops, self->region);
+    self->puts = self->gets = self->region = NULL;
+    gasnetl_give_turn(&job->turns);
 }
+
+void gasnetl_thread_has_ops(const struct gasnetl_turns *turns) {
+    if (turns->threaded)
+        pthread_setspecific(turns->ends, &gasnetl_thread);
+}
+
+bool gasnetl_turns_start(struct gasnetl_turns *turns, bool threaded, bool has_own) {
+    turns->threaded = threaded;
+    turns->is_biased = !threaded && has_own && make_barrier(MEMBARRIER_CMD_REGISTER_PRIVATE_EXPEDITED);
+    turns->is_locked = (threaded || has_own) && !turns->is_biased;
+    turns->alarm = threaded ? eventfd(0, EFD_CLOEXEC | EFD_NONBLOCK) : -1;
+    atomic_init(&turns->queued, 0);
+    atomic_init(&turns->sleepers, 0);
+    if (threaded && (turns->alarm < 0 || pthread_key_create(&turns->ends, end_thread)))
+        return false;
+    return (!threaded && !has_own) || !pthread_mutex_init(&turns->mutex, NULL);
+}
+
+bool gasnetl_may_call(const struct gasnetl_turns *turns) { return !turns->first || turns->first == &gasnetl_thread; }
+
+/* ---- Turns of two threads: the client's, and the layer's own. */
+
+/* The client's thread goes inside, unless the layer's wants the turn. */
+static inline bool go_inside(struct gasnetl_turns *turns) {
+    atomic_store_explicit(&turns->is_inside, true, memory_order_relaxed);
+    atomic_signal_fence(memory_order_seq_cst); /* the barrier of the layer's thread orders the two for the processor */
+    if (!atomic_load_explicit(&turns->is_wanted, memory_order_acquire))
+        return true;
+    atomic_store_explicit(&turns->is_inside, false, memory_order_release);
+    return false;
+}
+
+/* It does, and waits while the layer's thread has the turn. */
+static void go_inside_later(struct gasnetl_turns *turns) {
+    atomic_fetch_add(&turns->queued, 1);
+    do {
+        pthread_mutex_lock(&turns->mutex);
+        pthread_mutex_unlock(&turns->mutex);
+    } while (!go_inside(turns));
+    atomic_fetch_sub(&turns->queued, 1);
+}
+
+static bool take_from_client(struct gasnetl_turns *turns) {
+    if (pthread_mutex_trylock(&turns->mutex))
+        return false;
+    atomic_store_explicit(&turns->is_wanted, true, memory_order_relaxed);
+    if (make_barrier(MEMBARRIER_CMD_PRIVATE_EXPEDITED) &&
+        !atomic_load_explicit(&turns->is_inside, memory_order_acquire))
+        return true;
+    atomic_store_explicit(&turns->is_wanted, false, memory_order_release);
+    pthread_mutex_unlock(&turns->mutex);
+    return false;
+}
+
+static void give_to_client(struct gasnetl_turns *turns) {
+    atomic_store_explicit(&turns->is_wanted, false, memory_order_release);
+    pthread_mutex_unlock(&turns->mutex);
+}
+
+/* ---- Turns. */
 
 bool gasnetl_another_ends(void) {
     const struct gasnetl_thread *ender = gasnetl_job.ender;
@@ -29,8 +103,20 @@ bool gasnetl_another_ends(void) {
 
 void gasnetl_stay_out(struct gasnetl_turns *turns) {
     gasnetl_give_turn(turns);
+    if (gasnetl_thread.is_own)
+        gasnetl_progress_thread_out(&gasnetl_job);
     for (;;)
         pause();
+}
+
+/* The same of two threads: the calling one may have interrupted itself. */
+static bool take_last_of_two(struct gasnetl_turns *turns) {
+    for (int i = 0; i < LAST_TRIES; i++) {
+        if (gasnetl_thread.is_own ? take_from_client(turns) : !turns->is_inside && go_inside(turns))
+            return true;
+        usleep(LAST_TIME / LAST_TRIES);
+    }
+    return false;
 }
 
 bool gasnetl_take_last_turn(struct gasnetl_turns *turns) {
@@ -38,17 +124,29 @@ bool gasnetl_take_last_turn(struct gasnetl_turns *turns) {
     clock_gettime(CLOCK_REALTIME, &until);
     until.tv_sec++;
     atomic_fetch_add(&turns->queued, 1);
-    gasnetl_thread.has_turn = !turns->threaded || !pthread_mutex_timedlock(&turns->mutex, &until);
+    if (!gasnetl_may_call(turns) && !gasnetl_thread.is_own)
+        gasnetl_thread.has_turn = false;
+    else if (turns->is_biased)
+        gasnetl_thread.has_turn = take_last_of_two(turns);
+    else
+        gasnetl_thread.has_turn = !turns->is_locked || !pthread_mutex_timedlock(&turns->mutex, &until);
     atomic_fetch_sub(&turns->queued, 1);
     return gasnetl_thread.has_turn;
 }
 
+static void take_locked(struct gasnetl_turns *turns) {
+    if (!pthread_mutex_trylock(&turns->mutex))
+        return;
+    atomic_fetch_add(&turns->queued, 1);
+    pthread_mutex_lock(&turns->mutex);
+    atomic_fetch_sub(&turns->queued, 1);
+}
+
 void gasnetl_take_turn(struct gasnetl_turns *turns) {
-    if (turns->threaded && pthread_mutex_trylock(&turns->mutex)) {
-        atomic_fetch_add(&turns->queued, 1);
-        pthread_mutex_lock(&turns->mutex);
-        atomic_fetch_sub(&turns->queued, 1);
-    }
+    if (turns->is_biased && !go_inside(turns))
+        go_inside_later(turns);
+    else if (turns->is_locked)
+        take_locked(turns);
     gasnetl_thread.has_turn = true;
     if (gasnetl_another_ends())
         gasnetl_stay_out(turns);
@@ -58,31 +156,52 @@ void gasnetl_give_turn(struct gasnetl_turns *turns) {
     if (!gasnetl_thread.has_turn)
         return;
     gasnetl_thread.has_turn = false;
-    if (turns->threaded)
+    if (turns->is_locked)
         pthread_mutex_unlock(&turns->mutex);
+    else if (gasnetl_thread.is_own)
+        give_to_client(turns);
+    else if (turns->is_biased)
+        atomic_store_explicit(&turns->is_inside, false, memory_order_release);
+}
+
+bool gasnetl_try_turn(struct gasnetl_turns *turns) {
+    if (turns->is_locked ? pthread_mutex_trylock(&turns->mutex) : !take_from_client(turns))
+        return false;
+    gasnetl_thread.has_turn = true;
+    if (!gasnetl_another_ends())
+        return true;
+    gasnetl_give_turn(turns);
+    return false;
 }
 
 bool gasnetl_is_wanted(struct gasnetl_turns *turns) {
     return turns->threaded && atomic_load_explicit(&turns->queued, memory_order_relaxed) > 0;
 }
 
-static _Noreturn void misuse(const char *call) {
+static _Noreturn void stop_misuse(const char *call) {
     if (gasnetl_thread.token)
         gasnetl_stop(GASNETL_MISUSE, "%s is called within a handler, where only a reply is allowed", call);
     if (gasnetl_thread.locks)
         gasnetl_stop(GASNETL_MISUSE, "%s is called while the thread holds a handler-safe lock", call);
     if (gasnetl_thread.sections)
         gasnetl_stop(GASNETL_MISUSE, "%s is called in a section without interrupts", call);
+    if (gasnetl_job.is_child)
+        gasnetl_stop(GASNETL_MISUSE, "%s is called in a child that the node forked, which is no node", call);
     gasnetl_stop(GASNETL_MISUSE, "%s is called before gasnet_attach", call);
 }
 
 struct gasnetl_job *gasnetl_enter(const char *call) {
     const struct gasnetl_thread *self = &gasnetl_thread;
     if (self->token || self->locks || self->sections)
-        misuse(call);
+        stop_misuse(call);
+    if (!gasnetl_may_call(&gasnetl_job.turns) && gasnetl_job.initialised)
+        gasnetl_stop(GASNETL_MISUSE,
+                     "%s is called by another thread than the one that called gasnet_init: define GASNET_PAR before "
+                     "gasnet.h is included (in Fortran let one thread refer to coarrays)",
+                     call);
     gasnetl_take_turn(&gasnetl_job.turns); /* it doesn't come back where another thread ended the job */
     if (!gasnetl_job.attached)
-        misuse(call);
+        stop_misuse(call);
     return &gasnetl_job;
 }
 
@@ -91,24 +210,27 @@ void gasnetl_leave(struct gasnetl_job *job) {
     gasnetl_give_turn(&job->turns);
 }
 
-void gasnetl_sleep(struct gasnetl_turns *turns, int socket, int milliseconds) {
+void gasnetl_sleep(struct gasnetl_turns *turns, int socket, uint64_t microseconds) {
     struct pollfd ready[2] = { { .fd = socket, .events = POLLIN }, { .fd = turns->alarm, .events = POLLIN } };
+    const struct timespec time = { (time_t)(microseconds / 1000000), (long)(microseconds % 1000000 * 1000) };
     bool had_turn = gasnetl_thread.has_turn;
     uint64_t count;
-    turns->sleepers++;
+    atomic_fetch_add(&turns->sleepers, 1);
     gasnetl_give_turn(turns);
-    poll(ready, 2, milliseconds);
+    ppoll(ready, 2, &time, NULL);
     if (ready[1].revents & POLLIN && read(turns->alarm, &count, sizeof count) < 0 && errno != EAGAIN)
         gasnetl_stop(GASNETL_BROKEN, "an eventfd can't be read (%s)", strerror(errno));
     if (had_turn && gasnetl_job.ender == &gasnetl_thread)
         gasnetl_take_last_turn(turns);
     else if (had_turn)
         gasnetl_take_turn(turns);
-    turns->sleepers--;
+    atomic_fetch_sub(&turns->sleepers, 1);
 }
 
 void gasnetl_wake(struct gasnetl_turns *turns) {
     const uint64_t one = 1;
-    if (turns->threaded && turns->sleepers && write(turns->alarm, &one, sizeof one) < 0 && errno != EAGAIN)
+    if (!turns->threaded || !atomic_load_explicit(&turns->sleepers, memory_order_relaxed))
+        return;
+    if (write(turns->alarm, &one, sizeof one) < 0 && errno != EAGAIN)
         gasnetl_stop(GASNETL_BROKEN, "an eventfd can't be written (%s)", strerror(errno));
 }

@@ -9,12 +9,12 @@ _Static_assert(__BYTE_ORDER__ == __ORDER_LITTLE_ENDIAN__, "a value's low bytes c
 
 /* ---- What they have in common. */
 
-static void judge(const struct gasnetl_job *job, const struct gasnetl_asked *asked, uint64_t *remote) {
+static void judge_transfer(const struct gasnetl_job *job, const struct gasnetl_asked *asked, uint64_t *remote) {
     if (asked->node >= job->nodes)
         gasnetl_stop(GASNETL_MISUSE, "%s to node %u: there are %u nodes", asked->call, asked->node, job->nodes);
     if (asked->nbytes && !gasnetl_far(job, asked->node, asked->far, asked->nbytes, remote))
-        gasnetl_stop(GASNETL_MISUSE, "%s of %zu bytes at %p: that isn't in the segment of node %u", asked->call, asked->nbytes,
-                     asked->far, asked->node);
+        gasnetl_stop(GASNETL_MISUSE, "%s of %zu bytes at %p: that isn't in the segment of node %u", asked->call,
+                     asked->nbytes, asked->far, asked->node);
 }
 
 static void move_here(const struct gasnetl_asked *asked) {
@@ -27,9 +27,13 @@ static void move_here(const struct gasnetl_asked *asked) {
 }
 
 void gasnetl_begin(struct gasnetl_job *job, struct gasnetl_op *op, const struct gasnetl_asked *asked) {
-    struct gasnetl_move move = { .kind = asked->kind, .node = asked->node, .byte = (uint8_t)asked->byte, .near = asked->near, .nbytes = asked->nbytes };
+    struct gasnetl_move move = { .kind = asked->kind,
+                                 .node = asked->node,
+                                 .byte = (uint8_t)asked->byte,
+                                 .near = asked->near,
+                                 .nbytes = asked->nbytes };
     uint64_t own;
-    judge(job, asked, &move.remote);
+    judge_transfer(job, asked, &move.remote);
     if (!asked->nbytes)
         return;
     if (asked->node == job->me) {
@@ -49,7 +53,7 @@ void gasnetl_begin(struct gasnetl_job *job, struct gasnetl_op *op, const struct 
         gasnetl_wait(job, &turn);
 }
 
-static void blocking(const struct gasnetl_asked *asked) {
+static void move_now(const struct gasnetl_asked *asked) {
     struct gasnetl_job *job = gasnetl_enter(asked->call);
     struct gasnetl_op op = { 0 };
     unsigned turn = 0;
@@ -66,7 +70,7 @@ struct gasnetl_op *gasnetl_settled(struct gasnetl_job *job, struct gasnetl_op *o
     return GASNET_INVALID_HANDLE;
 }
 
-static gasnet_handle_t explicit(const struct gasnetl_asked *asked) {
+static gasnet_handle_t move_nb(const struct gasnetl_asked *asked) {
     struct gasnetl_job *job = gasnetl_enter(asked->call);
     struct gasnetl_op *op = gasnetl_op_new(&job->transfers.ops);
     gasnetl_begin(job, op, asked);
@@ -80,12 +84,14 @@ struct gasnetl_op *gasnetl_implicit_op(struct gasnetl_job *job, enum gasnetl_kin
     struct gasnetl_op **op = kind == GASNETL_GET ? &self->gets : &self->puts;
     if (self->region)
         return self->region;
-    if (!*op)
+    if (!*op) {
         *op = gasnetl_op_new(&job->transfers.ops);
+        gasnetl_thread_has_ops(&job->turns);
+    }
     return *op;
 }
 
-static void implicit(const struct gasnetl_asked *asked) {
+static void move_nbi(const struct gasnetl_asked *asked) {
     struct gasnetl_job *job = gasnetl_enter(asked->call);
     gasnetl_begin(job, gasnetl_implicit_op(job, asked->kind), asked);
     gasnetl_leave(job);
@@ -98,41 +104,47 @@ static void implicit(const struct gasnetl_asked *asked) {
 
 /* ---- Blocking. */
 
-void gasnet_put(gasnet_node_t node, void *dest, void *src, size_t nbytes) { blocking(PUT("gasnet_put", true)); }
-void gasnet_put_bulk(gasnet_node_t node, void *dest, void *src, size_t nbytes) { blocking(PUT("gasnet_put_bulk", true)); }
-void gasnet_get(void *dest, gasnet_node_t node, void *src, size_t nbytes) { blocking(GET("gasnet_get")); }
-void gasnet_get_bulk(void *dest, gasnet_node_t node, void *src, size_t nbytes) { blocking(GET("gasnet_get_bulk")); }
-void gasnet_memset(gasnet_node_t node, void *dest, int val, size_t nbytes) { blocking(MEMSET("gasnet_memset")); }
+void gasnet_put(gasnet_node_t node, void *dest, void *src, size_t nbytes) { move_now(PUT("gasnet_put", true)); }
+void gasnet_put_bulk(gasnet_node_t node, void *dest, void *src, size_t nbytes) {
+    move_now(PUT("gasnet_put_bulk", true));
+}
+void gasnet_get(void *dest, gasnet_node_t node, void *src, size_t nbytes) { move_now(GET("gasnet_get")); }
+void gasnet_get_bulk(void *dest, gasnet_node_t node, void *src, size_t nbytes) { move_now(GET("gasnet_get_bulk")); }
+void gasnet_memset(gasnet_node_t node, void *dest, int val, size_t nbytes) { move_now(MEMSET("gasnet_memset")); }
 
 /* ---- With a handle. */
 
 gasnet_handle_t gasnet_put_nb(gasnet_node_t node, void *dest, void *src, size_t nbytes) {
-    return explicit(PUT("gasnet_put_nb", false));
+    return move_nb(PUT("gasnet_put_nb", false));
 }
 gasnet_handle_t gasnet_put_nb_bulk(gasnet_node_t node, void *dest, void *src, size_t nbytes) {
-    return explicit(PUT("gasnet_put_nb_bulk", true));
+    return move_nb(PUT("gasnet_put_nb_bulk", true));
 }
 gasnet_handle_t gasnet_get_nb(void *dest, gasnet_node_t node, void *src, size_t nbytes) {
-    return explicit(GET("gasnet_get_nb"));
+    return move_nb(GET("gasnet_get_nb"));
 }
 gasnet_handle_t gasnet_get_nb_bulk(void *dest, gasnet_node_t node, void *src, size_t nbytes) {
-    return explicit(GET("gasnet_get_nb_bulk"));
+    return move_nb(GET("gasnet_get_nb_bulk"));
 }
 gasnet_handle_t gasnet_memset_nb(gasnet_node_t node, void *dest, int val, size_t nbytes) {
-    return explicit(MEMSET("gasnet_memset_nb"));
+    return move_nb(MEMSET("gasnet_memset_nb"));
 }
 
 /* ---- Implicit. */
 
-void gasnet_put_nbi(gasnet_node_t node, void *dest, void *src, size_t nbytes) { implicit(PUT("gasnet_put_nbi", false)); }
+void gasnet_put_nbi(gasnet_node_t node, void *dest, void *src, size_t nbytes) {
+    move_nbi(PUT("gasnet_put_nbi", false));
+}
 void gasnet_put_nbi_bulk(gasnet_node_t node, void *dest, void *src, size_t nbytes) {
-    implicit(PUT("gasnet_put_nbi_bulk", true));
+    move_nbi(PUT("gasnet_put_nbi_bulk", true));
 }
-void gasnet_get_nbi(void *dest, gasnet_node_t node, void *src, size_t nbytes) { implicit(GET("gasnet_get_nbi")); }
+void gasnet_get_nbi(void *dest, gasnet_node_t node, void *src, size_t nbytes) { move_nbi(GET("gasnet_get_nbi")); }
 void gasnet_get_nbi_bulk(void *dest, gasnet_node_t node, void *src, size_t nbytes) {
-    implicit(GET("gasnet_get_nbi_bulk"));
+    move_nbi(GET("gasnet_get_nbi_bulk"));
 }
-void gasnet_memset_nbi(gasnet_node_t node, void *dest, int val, size_t nbytes) { implicit(MEMSET("gasnet_memset_nbi")); }
+void gasnet_memset_nbi(gasnet_node_t node, void *dest, int val, size_t nbytes) {
+    move_nbi(MEMSET("gasnet_memset_nbi"));
+}
 
 /* ---- Access regions. */
 
@@ -141,6 +153,7 @@ void gasnet_begin_nbi_accessregion(void) {
     if (gasnetl_thread.region)
         gasnetl_stop(GASNETL_MISUSE, "gasnet_begin_nbi_accessregion: the thread has begun one already");
     gasnetl_thread.region = gasnetl_op_new(&job->transfers.ops);
+    gasnetl_thread_has_ops(&job->turns);
     gasnetl_leave(job);
 }
 
@@ -158,32 +171,33 @@ gasnet_handle_t gasnet_end_nbi_accessregion(void) {
 
 static void judge_value(const char *call, size_t nbytes) {
     if (nbytes < 1 || nbytes > SIZEOF_GASNET_REGISTER_VALUE_T)
-        gasnetl_stop(GASNETL_MISUSE, "%s of %zu bytes: a value has 1 to %d", call, nbytes, SIZEOF_GASNET_REGISTER_VALUE_T);
+        gasnetl_stop(GASNETL_MISUSE, "%s of %zu bytes: a value has 1 to %d", call, nbytes,
+                     SIZEOF_GASNET_REGISTER_VALUE_T);
 }
 
 void gasnet_put_val(gasnet_node_t node, void *dest, gasnet_register_value_t value, size_t nbytes) {
     void *src = &value;
     judge_value("gasnet_put_val", nbytes);
-    blocking(PUT("gasnet_put_val", true));
+    move_now(PUT("gasnet_put_val", true));
 }
 
 gasnet_handle_t gasnet_put_nb_val(gasnet_node_t node, void *dest, gasnet_register_value_t value, size_t nbytes) {
     void *src = &value;
     judge_value("gasnet_put_nb_val", nbytes);
-    return explicit(PUT("gasnet_put_nb_val", false));
+    return move_nb(PUT("gasnet_put_nb_val", false));
 }
 
 void gasnet_put_nbi_val(gasnet_node_t node, void *dest, gasnet_register_value_t value, size_t nbytes) {
     void *src = &value;
     judge_value("gasnet_put_nbi_val", nbytes);
-    implicit(PUT("gasnet_put_nbi_val", false));
+    move_nbi(PUT("gasnet_put_nbi_val", false));
 }
 
 gasnet_register_value_t gasnet_get_val(gasnet_node_t node, void *src, size_t nbytes) {
     gasnet_register_value_t value = 0;
     void *dest = &value;
     judge_value("gasnet_get_val", nbytes);
-    blocking(GET("gasnet_get_val"));
+    move_now(GET("gasnet_get_val"));
     return value;
 }
 

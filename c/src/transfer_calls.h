@@ -20,8 +20,8 @@ struct gasnetl_asked {
     bool may_wait_for_near; /* a put's source may be read until the sync, as of bulk and blocking ones */
 };
 
-/* Begins it for an operation. Returns as its near side may be changed, where that mayn't wait for the sync. Ends the job
- * where there is no such node, or the far side isn't in its segment. */
+/* Begins it for an operation. Returns as its near side may be changed, where that mayn't wait for the sync. Ends the
+ * job where there is no such node, or the far side isn't in its segment. */
 void gasnetl_begin(struct gasnetl_job *job, struct gasnetl_op *op, const struct gasnetl_asked *asked);
 
 /* The operation, or NULL where it is complete already. */

@@ -10,7 +10,28 @@ enum { BLOCK = 64 }; /* operations, or transfers, that are allocated at once */
 
 /* ---- Operations. */
 
+void gasnetl_op_free(struct gasnetl_ops *ops, struct gasnetl_op *op) {
+    op->next = ops->free;
+    ops->free = op;
+}
+
+/* Those of `left` that are complete are free. */
+static void free_left_ops(struct gasnetl_ops *ops) {
+    struct gasnetl_op **at = &ops->left;
+    while (*at) {
+        struct gasnetl_op *op = *at;
+        if (op->open) {
+            at = &op->next;
+            continue;
+        }
+        *at = op->next;
+        gasnetl_op_free(ops, op);
+    }
+}
+
 struct gasnetl_op *gasnetl_op_new(struct gasnetl_ops *ops) {
+    if (!ops->free)
+        free_left_ops(ops);
     if (!ops->free) {
         struct gasnetl_op *block = calloc(BLOCK, sizeof *block);
         if (!block)
@@ -26,18 +47,12 @@ struct gasnetl_op *gasnetl_op_new(struct gasnetl_ops *ops) {
     return op;
 }
 
-void gasnetl_op_free(struct gasnetl_ops *ops, struct gasnetl_op *op) {
-    op->next = ops->free;
-    ops->free = op;
-}
-
-void gasnetl_ops_end(struct gasnetl_ops *ops) {
-    while (ops->blocks) {
-        struct gasnetl_op *block = ops->blocks;
-        ops->blocks = block[0].next;
-        free(block);
-    }
-    ops->free = NULL;
+void gasnetl_op_leave(struct gasnetl_ops *ops, struct gasnetl_op *op) {
+    if (!op)
+        return;
+    op->next = ops->left;
+    ops->left = op;
+    free_left_ops(ops);
 }
 
 /* ---- Batches of the endpoint's operations. */
@@ -75,7 +90,7 @@ static bool batch_begin(struct gasnetl_job *job) {
     return false;
 }
 
-/* Whether a piece may be begun now. */
+/* Whether the endpoint takes one more operation. */
 static bool has_room(struct gasnetl_job *job) {
     struct gasnetl_transfers *all = &job->transfers;
     struct gasnetl_batch *batch = &all->batches[all->batch];
@@ -104,14 +119,28 @@ static void enter_lane(struct gasnetl_transfers *all, uint16_t to, uint16_t inde
     lane->last = index;
 }
 
+/* How many bytes the next piece to a node has at most: a chunk that fits the way, or two of the longest. */
+static uint32_t piece_to(const struct gasnetl_job *job, uint16_t to) {
+    uint32_t chunk = gasnetl_recovery_chunk(job, to);
+    return chunk < GASNET_C_PAYLOAD ? chunk : GASNETL_PIECE;
+}
+
 /* Begins the first piece of what is left of a transfer, which becomes shorter. There is room for it. */
-static void begin_piece(struct gasnetl_job *job, struct gasnetl_move *rest, struct gasnetl_op *op, struct gasnetl_transfer *transfer) {
+static void begin_piece(struct gasnetl_job *job, struct gasnetl_move *rest, struct gasnetl_op *op,
+                        struct gasnetl_transfer *transfer) {
     struct gasnetl_transfers *all = &job->transfers;
     uint16_t index = all->free_piece;
     struct gasnetl_piece *piece = &all->pieces[index];
-    uint32_t nbytes = rest->nbytes < GASNETL_PIECE ? (uint32_t)rest->nbytes : GASNETL_PIECE;
-    uint64_t local = rest->direct ? (uint64_t)(rest->near - job->segment.base) : job->segment.stage + (uint64_t)index * GASNETL_PIECE;
-    gasnet_c_move move = { .remote = rest->remote, .local = local, .len = nbytes, .kind = rest->kind, .to = rest->node, .byte = rest->byte, .implicit = true };
+    uint32_t most = piece_to(job, rest->node), nbytes = rest->nbytes < most ? (uint32_t)rest->nbytes : most;
+    uint64_t local = rest->direct ? (uint64_t)(rest->near - job->segment.base)
+                                  : job->segment.stage + (uint64_t)index * GASNETL_PIECE;
+    gasnet_c_move move = { .remote = rest->remote,
+                           .local = local,
+                           .len = nbytes,
+                           .kind = rest->kind,
+                           .to = rest->node,
+                           .byte = rest->byte,
+                           .implicit = true };
     if (rest->kind == GASNETL_PUT && !rest->direct)
         memcpy(job->segment.base + local, rest->near, nbytes);
     gasnet_c_told told = gasnet_c_begin(&job->node, job->progress.time, &move);
@@ -127,6 +156,7 @@ static void begin_piece(struct gasnetl_job *job, struct gasnetl_move *rest, stru
     all->batches[all->batch].begun++;
     all->batches[all->batch].open++;
     op->open++;
+    all->lanes[rest->node].unsent += piece->unissued;
     enter_lane(all, rest->node, index);
     rest->remote += nbytes;
     rest->nbytes -= nbytes;
@@ -141,11 +171,12 @@ void gasnetl_chunk_out(struct gasnetl_job *job, uint16_t to, uint16_t slot) {
         gasnetl_stop(GASNETL_BROKEN, "a chunk to node %u is nobody's", to);
     struct gasnetl_piece *piece = &job->transfers.pieces[index];
     lane->owner[slot] = index;
+    lane->unsent--;
     if (!--piece->unissued)
         lane->first = piece->next;
 }
 
-/* ---- The queue of transfers. */
+/* ---- The queues of transfers. */
 
 static struct gasnetl_transfer *transfer_new(struct gasnetl_transfers *all) {
     if (!all->free) {
@@ -164,14 +195,21 @@ static struct gasnetl_transfer *transfer_new(struct gasnetl_transfers *all) {
     return transfer;
 }
 
-static void enqueue(struct gasnetl_transfers *all, struct gasnetl_transfer *transfer) {
+static void enqueue(struct gasnetl_lane *lane, struct gasnetl_transfer *transfer) {
     transfer->next = NULL;
-    transfer->is_queued = true;
-    if (all->queue)
-        all->queue_end->next = transfer;
+    if (lane->queue)
+        lane->queue_end->next = transfer;
     else
-        all->queue = transfer;
-    all->queue_end = transfer;
+        lane->queue = transfer;
+    lane->queue_end = transfer;
+}
+
+/* The transfer at the front of a lane has begun a piece: the next one has its turn. */
+static void rotate(struct gasnetl_lane *lane) {
+    struct gasnetl_transfer *transfer = lane->queue;
+    lane->queue = transfer->next;
+    if (transfer->rest.nbytes)
+        enqueue(lane, transfer);
 }
 
 /* A transfer is told that it is begun as a whole, or that all of it is complete. */
@@ -188,19 +226,49 @@ static void transfer_settle(struct gasnetl_transfers *all, struct gasnetl_transf
     all->free = transfer;
 }
 
-/* Begins pieces of the transfers that are queued, one of each in turn, while there is room. */
-static void feed(struct gasnetl_job *job) {
-    struct gasnetl_transfers *all = &job->transfers;
-    while (all->queue && has_room(job)) {
-        struct gasnetl_transfer *transfer = all->queue;
-        gasnet_node_t to = transfer->rest.node;
-        all->queue = transfer->next;
-        transfer->is_queued = false;
-        begin_piece(job, &transfer->rest, transfer->op, transfer);
-        if (++transfer->open < GASNETL_WINDOW && transfer->rest.nbytes)
-            enqueue(all, transfer);
-        transfer_settle(all, transfer);
+/* A lane waits for a piece, behind those that do. */
+static void wait_for_piece(struct gasnetl_transfers *all, uint16_t to) {
+    struct gasnetl_lane *lane = &all->lanes[to];
+    if (lane->waits)
+        return;
+    lane->waits = true;
+    lane->next = GASNETL_NONE;
+    if (all->waiting == GASNETL_NONE)
+        all->waiting = to;
+    else
+        all->lanes[all->waiting_end].next = to;
+    all->waiting_end = to;
+}
+
+static void begin_next(struct gasnetl_job *job, uint16_t to) {
+    struct gasnetl_lane *lane = &job->transfers.lanes[to];
+    struct gasnetl_transfer *transfer = lane->queue;
+    begin_piece(job, &transfer->rest, transfer->op, transfer);
+    transfer->open++;
+    rotate(lane);
+    transfer_settle(&job->transfers, transfer);
+}
+
+void gasnetl_transfers_feed(struct gasnetl_job *job, uint16_t to) {
+    struct gasnetl_lane *lane = &job->transfers.lanes[to];
+    while (lane->queue && gasnetl_recovery_may_send(job, to, GASNETL_BY_LIBRARY, lane->unsent)) {
+        if (!has_room(job)) {
+            wait_for_piece(&job->transfers, to);
+            return;
+        }
+        begin_next(job, to);
         gasnetl_send_chunks(job, to);
+    }
+}
+
+/* A piece is free: the lanes that wait take it in order, as their windows let them. */
+static void feed_waiting(struct gasnetl_job *job) {
+    struct gasnetl_transfers *all = &job->transfers;
+    while (all->waiting != GASNETL_NONE && has_room(job)) {
+        uint16_t to = all->waiting;
+        all->waiting = all->lanes[to].next;
+        all->lanes[to].waits = false;
+        gasnetl_transfers_feed(job, to);
     }
 }
 
@@ -218,11 +286,9 @@ static void piece_complete(struct gasnetl_job *job, uint16_t index) {
         batch_sync(job, batch);
     if (transfer) {
         transfer->open--;
-        if (transfer->rest.nbytes && !transfer->is_queued)
-            enqueue(all, transfer);
         transfer_settle(all, transfer);
     }
-    feed(job);
+    feed_waiting(job);
 }
 
 void gasnetl_chunk_back(struct gasnetl_job *job, uint16_t to, uint16_t slot) {
@@ -234,10 +300,17 @@ void gasnetl_chunk_back(struct gasnetl_job *job, uint16_t to, uint16_t slot) {
         piece_complete(job, index);
 }
 
+/* Whether a transfer is one piece, which may go now. */
+static bool goes_at_once(struct gasnetl_job *job, const struct gasnetl_move *move) {
+    const struct gasnetl_lane *lane = &job->transfers.lanes[move->node];
+    return !lane->queue && move->nbytes <= piece_to(job, move->node) &&
+           gasnetl_recovery_may_send(job, move->node, GASNETL_BY_LIBRARY, lane->unsent) && has_room(job);
+}
+
 void gasnetl_transfer(struct gasnetl_job *job, struct gasnetl_op *op, const struct gasnetl_move *move, bool *begun) {
     struct gasnetl_transfers *all = &job->transfers;
     gasnetl_read_clock(job);
-    if (!all->queue && move->nbytes <= GASNETL_PIECE && has_room(job)) {
+    if (goes_at_once(job, move)) {
         struct gasnetl_move rest = *move;
         begin_piece(job, &rest, op, NULL);
         if (begun)
@@ -248,24 +321,20 @@ void gasnetl_transfer(struct gasnetl_job *job, struct gasnetl_op *op, const stru
     struct gasnetl_transfer *transfer = transfer_new(all);
     *transfer = (struct gasnetl_transfer){ .rest = *move, .op = op, .begun = begun, .block = transfer->block };
     op->open++;
-    enqueue(all, transfer);
-    feed(job);
+    enqueue(&all->lanes[move->node], transfer);
+    gasnetl_transfers_feed(job, move->node);
 }
 
-/* ---- The beginning and the end. */
+/* ---- The beginning. */
 
 void gasnetl_transfers_start(struct gasnetl_transfers *transfers) {
     memset(transfers, 0, sizeof *transfers);
     for (uint16_t i = 0; i < GASNETL_PIECES; i++)
         transfers->pieces[i].next = i + 1 < GASNETL_PIECES ? (uint16_t)(i + 1) : GASNETL_NONE;
-    memset(transfers->lanes, 0xff, sizeof transfers->lanes);
-}
-
-void gasnetl_transfers_end(struct gasnetl_transfers *transfers) {
-    while (transfers->blocks) {
-        struct gasnetl_transfer *block = transfers->blocks;
-        transfers->blocks = block[0].block;
-        free(block);
+    for (uint16_t node = 0; node < GASNET_MAXNODES; node++) {
+        struct gasnetl_lane *lane = &transfers->lanes[node];
+        lane->first = lane->last = GASNETL_NONE;
+        memset(lane->owner, 0xff, sizeof lane->owner);
     }
-    gasnetl_ops_end(&transfers->ops);
+    transfers->waiting = GASNETL_NONE;
 }

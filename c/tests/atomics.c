@@ -1,9 +1,23 @@
-/* Operations on words: the sum of what all nodes add, a lock, each operation, the local node, many at once, implicit ones
- * and access regions, while puts and messages of the same nodes are under way. */
+/* Operations on words: the sum of what all nodes add, a lock, each operation, the local node, many at once, implicit
+ * ones and access regions, while puts and messages of the same nodes are under way. */
 #define GASNET_SEQ 1
 #include "check.h"
 
-enum { SEGMENT = 1 << 20, MANY = 32, SUM = 0, LOCK = 8, COUNT_AT = 16, OWN = 64, WORDS = 256, SEEN = 4096, TIMES = 96, NOTE = 128, ADDITIONS = 10000, ALL = 40000, AT_ONCE = 64 };
+enum {
+    SEGMENT = 1 << 20,
+    MANY = 32,
+    SUM = 0,
+    LOCK = 8,
+    COUNT_AT = 16,
+    OWN = 64,
+    WORDS = 256,
+    SEEN = 4096,
+    TIMES = 96,
+    NOTE = 128,
+    ADDITIONS = 10000,
+    ALL = 40000,
+    AT_ONCE = 64
+};
 
 #define EACH_OP (((gex_OP_t)1 << 23) - 1)
 #define BY_SIZE (GEX_OP_MIN | GEX_OP_MAX | GEX_OP_FMIN | GEX_OP_FMAX)
@@ -25,8 +39,8 @@ static uint64_t ask(int node, size_t offset, gex_OP_t op, uint64_t a, uint64_t b
 
 static uint64_t get(int node, size_t offset) { return ask(node, offset, GEX_OP_GET, 0, 0); }
 
-/* Each node adds 1 to the word of node 0, up to 10,000 times and several at once, and marks each number that the word was.
- * No two of them were told the same. */
+/* Each node adds 1 to the word of node 0, up to 10,000 times and several at once, and marks each number that the word
+ * was. No two of them were told the same. */
 static void test_sum(void) {
     int additions = nodes > ALL / ADDITIONS ? ALL / nodes : ADDITIONS, window = nodes > 2 ? AT_ONCE / nodes : MANY;
     size_t all = (size_t)additions * (size_t)nodes;
@@ -111,7 +125,8 @@ static void test_each(int node) {
     ask(node, word, GEX_OP_SET, 5, 0);
     gex_Event_Wait(gex_AD_OpNB_I64(signed_words, &was, (gex_Rank_t)node, at(node, word), GEX_OP_FADD, -8, 0, 0));
     CHECK(was == 5);
-    gex_Event_Wait(gex_AD_OpNB_I64(signed_words, &was, (gex_Rank_t)node, at(node, word), GEX_OP_GET, 0, 0, GEX_FLAG_AD_ACQ));
+    gex_Event_Wait(
+        gex_AD_OpNB_I64(signed_words, &was, (gex_Rank_t)node, at(node, word), GEX_OP_GET, 0, 0, GEX_FLAG_AD_ACQ));
     CHECK(was == -3);
 }
 
@@ -144,7 +159,8 @@ static void test_implicit(int node) {
     uint64_t was[MANY], value = 1;
     ask(node, word, GEX_OP_SET, 0, 0);
     for (int i = 0; i < MANY; i++)
-        CHECK(gex_AD_OpNBI_U64(words, &was[i], (gex_Rank_t)node, at(node, word), GEX_OP_FOR, (uint64_t)1 << i, 0, 0) == 0);
+        CHECK(gex_AD_OpNBI_U64(words, &was[i], (gex_Rank_t)node, at(node, word), GEX_OP_FOR, (uint64_t)1 << i, 0, 0) ==
+              0);
     gasnet_put_nbi((gasnet_node_t)node, at(node, OWN + SEGMENT / 2 + 8 * (size_t)me), &value, 8);
     gasnet_wait_syncnbi_puts();
     for (int i = 0; i < MANY; i++)

@@ -8,12 +8,12 @@
 #include <stdlib.h>
 #include <string.h>
 
-#define CHECK(condition)                                                                                     \
-    do {                                                                                                     \
-        if (!(condition)) {                                                                                  \
-            fprintf(stderr, "%s:%d: node %d: %s\n", __FILE__, __LINE__, gasnet_mynode(), #condition);        \
-            gasnet_exit(1);                                                                                  \
-        }                                                                                                    \
+#define CHECK(condition)                                                                                               \
+    do {                                                                                                               \
+        if (!(condition)) {                                                                                            \
+            fprintf(stderr, "%s:%d: node %d: %s\n", __FILE__, __LINE__, gasnet_mynode(), #condition);                  \
+            gasnet_exit(1);                                                                                            \
+        }                                                                                                              \
     } while (0)
 
 #define COUNT(table) ((int)(sizeof(table) / sizeof *(table)))

@@ -1,6 +1,7 @@
-/* Collectives: each kind with each root and with lengths up to several pieces, in place, several under way at once while
- * puts and messages of the same nodes are, barriers; and then as many mixed ones as the argument says, by one sequence of
- * numbers that all nodes have. With an argument and more than eight nodes there are the mixed ones alone. */
+/* Collectives: each kind with each root and with lengths up to several pieces, in place, several under way at once
+ * while puts and messages of the same nodes are, barriers; and then as many mixed ones as the argument says, by one
+ * sequence of numbers that all nodes have. With an argument and more than eight nodes there are the mixed ones alone.
+ */
 #define GASNET_SEQ 1
 #include "check.h"
 
@@ -19,7 +20,8 @@ static void note(gasnet_token_t token, gasnet_handlerarg_t number) {
 
 /* The word of a node at a place: words of any size and sign. */
 static uint64_t word(int who, size_t place, int when) {
-    uint64_t x = ((uint64_t)who + 1) * 0x9e3779b97f4a7c15u + (uint64_t)place * 0xbf58476d1ce4e5b9u + (uint64_t)when * 0x94d049bb133111ebu;
+    uint64_t x = ((uint64_t)who + 1) * 0x9e3779b97f4a7c15u + (uint64_t)place * 0xbf58476d1ce4e5b9u +
+                 (uint64_t)when * 0x94d049bb133111ebu;
     x ^= x >> 31;
     return x * 0xd6e8feb86659fd93u;
 }
@@ -68,7 +70,9 @@ struct one {
     gex_Event_t event;
 };
 
-static bool has_result(const struct one *one) { return (one->kind != GATHER && one->kind != REDUCE) || one->root == me; }
+static bool has_result(const struct one *one) {
+    return (one->kind != GATHER && one->kind != REDUCE) || one->root == me;
+}
 
 static void begin(struct one *one) {
     gex_Rank_t root = (gex_Rank_t)one->root;
@@ -89,7 +93,8 @@ static void begin(struct one *one) {
         one->event = gasnet_coll_gather_all_nb(NULL, to, one->from, one->length, 0);
         break;
     case REDUCE:
-        one->event = gex_Coll_ReduceToOneNB(NULL, root, to, one->from, type, 8, one->length / 8, one->op, NULL, NULL, 0);
+        one->event =
+            gex_Coll_ReduceToOneNB(NULL, root, to, one->from, type, 8, one->length / 8, one->op, NULL, NULL, 0);
         break;
     case ALL_REDUCE:
         one->event = gex_Coll_ReduceToAllNB(NULL, to, one->from, type, 8, one->length / 8, one->op, NULL, NULL, 0);
@@ -133,16 +138,32 @@ static void test_each(int root) {
         for (int kind = 0; kind < KINDS; kind++) {
             bool is_reduction = kind == REDUCE || kind == ALL_REDUCE;
             for (int op = 0; op < (is_reduction ? 2 * COUNT(operations) : 1); op++)
-                run(&(struct one){ .kind = (enum kind)kind, .root = root, .when = when++, .length = lengths[i], .op = operations[op / 2],
-                                   .is_signed = op % 2, .from = given, .to = got });
+                run(&(struct one){ .kind = (enum kind)kind,
+                                   .root = root,
+                                   .when = when++,
+                                   .length = lengths[i],
+                                   .op = operations[op / 2],
+                                   .is_signed = op % 2,
+                                   .from = given,
+                                   .to = got });
         }
 }
 
 /* Odd lengths, and both sides in the local segment. */
 static void test_segment(void) {
     for (size_t length = 1; length < 20; length++) {
-        run(&(struct one){ .kind = GATHER, .root = nodes - 1, .when = 7, .length = length, .from = at(me, 0), .to = at(me, SEGMENT / 2) });
-        run(&(struct one){ .kind = BROADCAST, .root = nodes / 2, .when = 8, .length = length, .from = at(me, 1), .to = at(me, SEGMENT - length) });
+        run(&(struct one){ .kind = GATHER,
+                           .root = nodes - 1,
+                           .when = 7,
+                           .length = length,
+                           .from = at(me, 0),
+                           .to = at(me, SEGMENT / 2) });
+        run(&(struct one){ .kind = BROADCAST,
+                           .root = nodes / 2,
+                           .when = 8,
+                           .length = length,
+                           .from = at(me, 1),
+                           .to = at(me, SEGMENT - length) });
     }
 }
 
@@ -166,7 +187,8 @@ static void test_in_place(void) {
     CHECK(me || is_reduced(words, WORDS, GEX_OP_MIN, true, 7));
 }
 
-/* No node leaves a barrier before all have come to it: each puts how often it came, and finds no smaller number behind. */
+/* No node leaves a barrier before all have come to it: each puts how often it came, and finds no smaller number behind.
+ */
 static void test_barriers(void) {
     for (uint64_t times = 1; times <= 10; times++) {
         for (int node = 0; node < nodes; node++)
@@ -185,7 +207,9 @@ static uint64_t next_number(uint64_t *seed) {
 }
 
 static struct one choose(uint64_t *seed, int when) {
-    struct one one = { .kind = (enum kind)(next_number(seed) % KINDS), .root = (int)(next_number(seed) % (uint64_t)nodes), .when = when };
+    struct one one = { .kind = (enum kind)(next_number(seed) % KINDS),
+                       .root = (int)(next_number(seed) % (uint64_t)nodes),
+                       .when = when };
     size_t most = next_number(seed) % 8 ? 64 : 2000;
     one.length = next_number(seed) % most * 8;
     one.op = operations[next_number(seed) % COUNT(operations)];
@@ -229,7 +253,7 @@ int main(int argc, char **argv) {
     gasnet_handlerentry_t table[] = { { NOTE, note } };
     start(&argc, &argv, table, COUNT(table), SEGMENT);
     if (argc < 2)
-        for (int root = 0; root < nodes; root += nodes > 4 ? 3 : 1)
+        for (int root = 0; root<nodes; root += nodes> 4 ? 3 : 1)
             test_each(root);
     if (nodes <= 8) {
         test_segment();

@@ -8,7 +8,13 @@
 
 #include "check.h"
 
-enum { EXIT = 128, LOCK = 129, SOON = 100000, SETTLED = 100, LATER = 3500 }; /* one in microseconds, two in milliseconds */
+enum {
+    EXIT = 128,
+    LOCK = 129,
+    SOON = 100000,
+    SETTLED = 100,
+    LATER = 3500
+}; /* one in microseconds, two in milliseconds */
 
 static gasnet_hsl_t lock = GASNET_HSL_INITIALIZER;
 
@@ -67,6 +73,46 @@ static _Noreturn void poll_until_signal(int microseconds) {
         gasnet_AMPoll();
 }
 
+/* The signal comes while the thread has the heap's lock: what ends the process mustn't ask for it. Another thread
+ * makes the C library lock at all. */
+static void *idle(void *nothing) {
+    sigset_t all;
+    sigfillset(&all);
+    pthread_sigmask(SIG_BLOCK, &all, NULL);
+    for (;;)
+        pause();
+    return nothing;
+}
+
+static _Noreturn void allocate_until_signal(int microseconds) {
+    enum { BLOCKS = 64 };
+    const struct itimerval once = { .it_value.tv_usec = microseconds };
+    void *blocks[BLOCKS];
+    begin(idle, 0);
+    signal(SIGALRM, alarmed);
+    setitimer(ITIMER_REAL, &once, NULL);
+    for (;;) {
+        for (size_t i = 0; i < BLOCKS; i++)
+            blocks[i] = malloc(2000 + i * 37);
+        for (size_t i = 0; i < BLOCKS; i++)
+            free(blocks[i]);
+    }
+}
+
+static void *read_input(void *nothing) {
+    getchar();
+    return nothing;
+}
+
+/* Another thread holds a stream, as it waits for input that never comes. */
+static _Noreturn void exit_beside_reader(void) {
+    int ends[2];
+    CHECK(!pipe(ends) && dup2(ends[0], 0) == 0);
+    begin(read_input, 0);
+    gasnet_exit(0);
+    abort();
+}
+
 int main(int argc, char **argv) {
     gasnet_handlerentry_t table[] = { { EXIT, exit_handler }, { LOCK, lock_handler } };
     const char *way = argc > 1 ? argv[1] : "";
@@ -74,9 +120,13 @@ int main(int argc, char **argv) {
     start(&argc, &argv, table, 2, GASNET_PAGESIZE);
     if (!strcmp(way, "signal"))
         poll_until_signal(atoi(argv[2]));
+    if (!strcmp(way, "reader"))
+        exit_beside_reader();
+    if (!strcmp(way, "malloc"))
+        allocate_until_signal(atoi(argv[2]));
     barrier();
     serve(SETTLED); /* what the others lack of the barrier goes again */
-    if (me) { /* the others go on longer than it takes to find a peer gone, and then end too */
+    if (me) {       /* the others go on longer than it takes to find a peer gone, and then end too */
         serve(!strcmp(way, "two") ? LATER : 5 * SETTLED);
         gasnet_exit(0);
     }

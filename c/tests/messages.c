@@ -4,14 +4,24 @@
 #include "check.h"
 
 enum {
-    ANY = 0, TELL = 128, TELL_BUF = 129, SHORT_BACK = 130, MEDIUM_BACK = 131, LONG_BACK = 132, SHORT_FOR = 133,
-    MEDIUM_FOR = 134, LONG_FOR = 135, BOTH = 200, SEGMENT = 1 << 20, PLACE = 8192
+    ANY = 0,
+    TELL = 128,
+    TELL_BUF = 129,
+    SHORT_BACK = 130,
+    MEDIUM_BACK = 131,
+    LONG_BACK = 132,
+    SHORT_FOR = 133,
+    MEDIUM_FOR = 134,
+    LONG_FOR = 135,
+    BOTH = 200,
+    SEGMENT = 1 << 20,
+    PLACE = 8192
 };
 
-#define PARAMETERS                                                                                                   \
-    gasnet_handlerarg_t a0, gasnet_handlerarg_t a1, gasnet_handlerarg_t a2, gasnet_handlerarg_t a3,                  \
-        gasnet_handlerarg_t a4, gasnet_handlerarg_t a5, gasnet_handlerarg_t a6, gasnet_handlerarg_t a7,              \
-        gasnet_handlerarg_t a8, gasnet_handlerarg_t a9, gasnet_handlerarg_t a10, gasnet_handlerarg_t a11,            \
+#define PARAMETERS                                                                                                     \
+    gasnet_handlerarg_t a0, gasnet_handlerarg_t a1, gasnet_handlerarg_t a2, gasnet_handlerarg_t a3,                    \
+        gasnet_handlerarg_t a4, gasnet_handlerarg_t a5, gasnet_handlerarg_t a6, gasnet_handlerarg_t a7,                \
+        gasnet_handlerarg_t a8, gasnet_handlerarg_t a9, gasnet_handlerarg_t a10, gasnet_handlerarg_t a11,              \
         gasnet_handlerarg_t a12, gasnet_handlerarg_t a13, gasnet_handlerarg_t a14, gasnet_handlerarg_t a15
 #define NUMBERS 0, -1, 2, -3, 4, -5, 6, -7, 8, -9, INT32_MAX, INT32_MIN, 12, -13, 14, -15
 
@@ -70,7 +80,8 @@ static void long_for(gasnet_token_t token, void *buf, size_t nbytes, gasnet_hand
     CHECK((size_t)length == nbytes && is_filled(buf, nbytes, from, 4));
     CHECK(buf == at(me, (size_t)PLACE * (size_t)from));
     fill(buf, nbytes, me, 5); /* what it leaves stays there */
-    GASNET_SAFE(gasnet_AMReplyLong1(token, LONG_BACK, buf, nbytes, at(from, SEGMENT / 2 + (size_t)PLACE * (size_t)me), length));
+    GASNET_SAFE(
+        gasnet_AMReplyLong1(token, LONG_BACK, buf, nbytes, at(from, SEGMENT / 2 + (size_t)PLACE * (size_t)me), length));
 }
 
 static void long_back(gasnet_token_t token, void *buf, size_t nbytes, gasnet_handlerarg_t length) {
@@ -101,7 +112,10 @@ static void both(gasnet_token_t token, void *buf, size_t nbytes, PARAMETERS) {
 
 static int sums;
 
-static void one(gasnet_token_t token, gasnet_handlerarg_t a0) { (void)token; sums += a0; }
+static void one(gasnet_token_t token, gasnet_handlerarg_t a0) {
+    (void)token;
+    sums += a0;
+}
 static void three(gasnet_token_t token, gasnet_handlerarg_t a0, gasnet_handlerarg_t a1, gasnet_handlerarg_t a2) {
     (void)token;
     sums += a0 * 100 + a1 * 10 + a2;
@@ -134,10 +148,12 @@ static void test_sizes(int node, size_t nbytes) {
     fill(bytes, nbytes, me, 2);
     GASNET_SAFE(gasnet_AMRequestMedium1(node, MEDIUM_FOR, bytes, nbytes, (int)nbytes));
     fill(bytes, nbytes, me, 4);
-    GASNET_SAFE(gasnet_AMRequestLong1(node, LONG_FOR, bytes, nbytes, at(node, (size_t)PLACE * (size_t)me), (int)nbytes));
+    GASNET_SAFE(
+        gasnet_AMRequestLong1(node, LONG_FOR, bytes, nbytes, at(node, (size_t)PLACE * (size_t)me), (int)nbytes));
     GASNET_BLOCKUNTIL(backs == 3);
     CHECK(!nbytes || *at(me, SEGMENT / 2 + (size_t)PLACE * (size_t)node) == 77);
-    GASNET_SAFE(gasnet_AMRequestLongAsync1(node, LONG_FOR, bytes, nbytes, at(node, (size_t)PLACE * (size_t)me), (int)nbytes));
+    GASNET_SAFE(
+        gasnet_AMRequestLongAsync1(node, LONG_FOR, bytes, nbytes, at(node, (size_t)PLACE * (size_t)me), (int)nbytes));
     GASNET_BLOCKUNTIL(backs == 4);
     barrier();
     CHECK(is_filled(at(me, (size_t)PLACE * (size_t)before()), nbytes, me, 5));
@@ -162,7 +178,8 @@ static void test_sixteen(int node) {
     barrier();
     GASNET_SAFE(gasnet_AMRequestShort16(node, 210, NUMBERS));
     GASNET_SAFE(gasnet_AMRequestMedium16(node, BOTH, "sixteen", 8, NUMBERS));
-    GASNET_SAFE(gasnet_AMRequestLong16(node, BOTH, "sixteen", 8, at(node, SEGMENT - 2 * PLACE + 8 * (size_t)me), NUMBERS));
+    GASNET_SAFE(
+        gasnet_AMRequestLong16(node, BOTH, "sixteen", 8, at(node, SEGMENT - 2 * PLACE + 8 * (size_t)me), NUMBERS));
     GASNET_BLOCKUNTIL(boths == 3);
     barrier();
 }
@@ -191,9 +208,18 @@ static void test_many(void) {
 
 int main(int argc, char **argv) {
     gasnet_handlerentry_t table[] = {
-        { ANY, one }, { ANY, three }, { ANY, seven }, { TELL, tell }, { TELL_BUF, tell_buf }, { SHORT_BACK, short_back },
-        { MEDIUM_FOR, medium_for }, { MEDIUM_BACK, medium_back }, { LONG_FOR, long_for }, { LONG_BACK, long_back },
-        { 210, sixteen }, { BOTH, both },
+        { ANY, one },
+        { ANY, three },
+        { ANY, seven },
+        { TELL, tell },
+        { TELL_BUF, tell_buf },
+        { SHORT_BACK, short_back },
+        { MEDIUM_FOR, medium_for },
+        { MEDIUM_BACK, medium_back },
+        { LONG_FOR, long_for },
+        { LONG_BACK, long_back },
+        { 210, sixteen },
+        { BOTH, both },
     };
     start(&argc, &argv, table, COUNT(table), SEGMENT);
     CHECK(table[0].index >= 128 && table[1].index >= 128 && table[0].index != table[1].index);

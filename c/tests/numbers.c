@@ -1,5 +1,5 @@
-/* Atomic operations on numbers of 32 and 64 bits, signed and unsigned: what each finds and leaves, beside a number in the
- * other half of its word; and two sums in one word, to which all nodes add at once. */
+/* Atomic operations on numbers of 32 and 64 bits, signed and unsigned: what each finds and leaves, beside a number in
+ * the other half of its word; and two sums in one word, to which all nodes add at once. */
 #define GASNET_SEQ 1
 #include "check.h"
 
@@ -20,13 +20,13 @@ struct outcome {
 };
 
 #define OUTCOME(type, name, domain)                                                                                    \
-    static struct outcome do_##domain(int node, size_t place, gex_OP_t op, uint64_t old, uint64_t a, uint64_t b) {      \
+    static struct outcome do_##domain(int node, size_t place, gex_OP_t op, uint64_t old, uint64_t a, uint64_t b) {     \
         type told = 0x5555, was;                                                                                       \
         void *where = at(node, place);                                                                                 \
         gex_Rank_t rank = (gex_Rank_t)node;                                                                            \
-        gex_Event_Wait(gex_AD_OpNB_##name(domain, NULL, rank, where, GEX_OP_SET, (type)old, 0, 0));                     \
-        gex_Event_Wait(gex_AD_OpNB_##name(domain, &told, rank, where, op, (type)a, (type)b, 0));                        \
-        gex_Event_Wait(gex_AD_OpNB_##name(domain, &was, rank, where, GEX_OP_GET, 0, 0, 0));                             \
+        gex_Event_Wait(gex_AD_OpNB_##name(domain, NULL, rank, where, GEX_OP_SET, (type)old, 0, 0));                    \
+        gex_Event_Wait(gex_AD_OpNB_##name(domain, &told, rank, where, op, (type)a, (type)b, 0));                       \
+        gex_Event_Wait(gex_AD_OpNB_##name(domain, &was, rank, where, GEX_OP_GET, 0, 0, 0));                            \
         return (struct outcome){ (uint64_t)was, (uint64_t)told };                                                      \
     }
 OUTCOME(int32_t, I32, i32)
@@ -47,26 +47,39 @@ struct trial {
 
 /* Those whose outcome is the same for signed and for unsigned numbers. */
 static const struct trial common[] = {
-    { GEX_OP_SET, GEX_OP_SWAP, 1, 7, 0, 7 },          { GEX_OP_SET, GEX_OP_SWAP, 0, 0, 0, 0 },
-    { GEX_OP_SET, GEX_OP_SWAP, 5, -1, 0, -1 },        { GEX_OP_CAS, GEX_OP_FCAS, 7, 7, 9, 9 },
-    { GEX_OP_CAS, GEX_OP_FCAS, 7, 8, 9, 7 },          { GEX_OP_CAS, GEX_OP_FCAS, 0, 0, 9, 9 },
-    { GEX_OP_CAS, GEX_OP_FCAS, -1, -1, 0, 0 },        { GEX_OP_ADD, GEX_OP_FADD, -1, 3, 0, 2 },
-    { GEX_OP_ADD, GEX_OP_FADD, 2, -3, 0, -1 },        { GEX_OP_SUB, GEX_OP_FSUB, 2, 3, 0, -1 },
-    { GEX_OP_SUB, GEX_OP_FSUB, -1, -3, 0, 2 },        { GEX_OP_INC, GEX_OP_FINC, -1, 99, 0, 0 },
-    { GEX_OP_DEC, GEX_OP_FDEC, 0, 99, 0, -1 },        { GEX_OP_MULT, GEX_OP_FMULT, -7, 6, 0, -42 },
+    { GEX_OP_SET, GEX_OP_SWAP, 1, 7, 0, 7 },
+    { GEX_OP_SET, GEX_OP_SWAP, 0, 0, 0, 0 },
+    { GEX_OP_SET, GEX_OP_SWAP, 5, -1, 0, -1 },
+    { GEX_OP_CAS, GEX_OP_FCAS, 7, 7, 9, 9 },
+    { GEX_OP_CAS, GEX_OP_FCAS, 7, 8, 9, 7 },
+    { GEX_OP_CAS, GEX_OP_FCAS, 0, 0, 9, 9 },
+    { GEX_OP_CAS, GEX_OP_FCAS, -1, -1, 0, 0 },
+    { GEX_OP_ADD, GEX_OP_FADD, -1, 3, 0, 2 },
+    { GEX_OP_ADD, GEX_OP_FADD, 2, -3, 0, -1 },
+    { GEX_OP_SUB, GEX_OP_FSUB, 2, 3, 0, -1 },
+    { GEX_OP_SUB, GEX_OP_FSUB, -1, -3, 0, 2 },
+    { GEX_OP_INC, GEX_OP_FINC, -1, 99, 0, 0 },
+    { GEX_OP_DEC, GEX_OP_FDEC, 0, 99, 0, -1 },
+    { GEX_OP_MULT, GEX_OP_FMULT, -7, 6, 0, -42 },
     { GEX_OP_AND, GEX_OP_FAND, 0xff00ff, 0xf0f0f0, 0, 0xf000f0 },
     { GEX_OP_OR, GEX_OP_FOR, 0xff00ff, 0xf0f0f0, 0, 0xfff0ff },
     { GEX_OP_XOR, GEX_OP_FXOR, 0xff00ff, 0xf0f0f0, 0, 0x0ff00f },
-    { GEX_OP_MIN, GEX_OP_FMIN, 5, 4, 0, 4 },          { GEX_OP_MIN, GEX_OP_FMIN, 5, 6, 0, 5 },
-    { GEX_OP_MAX, GEX_OP_FMAX, 5, 4, 0, 5 },          { GEX_OP_MAX, GEX_OP_FMAX, 5, 6, 0, 6 },
+    { GEX_OP_MIN, GEX_OP_FMIN, 5, 4, 0, 4 },
+    { GEX_OP_MIN, GEX_OP_FMIN, 5, 6, 0, 5 },
+    { GEX_OP_MAX, GEX_OP_FMAX, 5, 4, 0, 5 },
+    { GEX_OP_MAX, GEX_OP_FMAX, 5, 6, 0, 6 },
 };
 static const struct trial of_signed[] = {
-    { GEX_OP_MIN, GEX_OP_FMIN, 5, -1, 0, -1 },        { GEX_OP_MIN, GEX_OP_FMIN, -5, 1, 0, -5 },
-    { GEX_OP_MAX, GEX_OP_FMAX, 5, -1, 0, 5 },         { GEX_OP_MAX, GEX_OP_FMAX, -5, -1, 0, -1 },
+    { GEX_OP_MIN, GEX_OP_FMIN, 5, -1, 0, -1 },
+    { GEX_OP_MIN, GEX_OP_FMIN, -5, 1, 0, -5 },
+    { GEX_OP_MAX, GEX_OP_FMAX, 5, -1, 0, 5 },
+    { GEX_OP_MAX, GEX_OP_FMAX, -5, -1, 0, -1 },
 };
 static const struct trial of_unsigned[] = {
-    { GEX_OP_MIN, GEX_OP_FMIN, 5, -1, 0, 5 },         { GEX_OP_MIN, GEX_OP_FMIN, -5, 1, 0, 1 },
-    { GEX_OP_MAX, GEX_OP_FMAX, 5, -1, 0, -1 },        { GEX_OP_MAX, GEX_OP_FMAX, -5, -1, 0, -1 },
+    { GEX_OP_MIN, GEX_OP_FMIN, 5, -1, 0, 5 },
+    { GEX_OP_MIN, GEX_OP_FMIN, -5, 1, 0, 1 },
+    { GEX_OP_MAX, GEX_OP_FMAX, 5, -1, 0, -1 },
+    { GEX_OP_MAX, GEX_OP_FMAX, -5, -1, 0, -1 },
 };
 static const struct trial of_32_bits[] = {
     { GEX_OP_INC, GEX_OP_FINC, MOST32, 0, 0, -(int64_t)MOST32 - 1 },
@@ -81,8 +94,10 @@ static const struct trial of_64_bits[] = {
 static void test_trials(doer *ask, int node, size_t place, const struct trial *trials, int count) {
     for (int i = 0; i < count; i++) {
         const struct trial *trial = &trials[i];
-        struct outcome plain = ask(node, place, trial->op, (uint64_t)trial->old, (uint64_t)trial->a, (uint64_t)trial->b);
-        struct outcome fetching = ask(node, place, trial->fetching, (uint64_t)trial->old, (uint64_t)trial->a, (uint64_t)trial->b);
+        struct outcome plain =
+            ask(node, place, trial->op, (uint64_t)trial->old, (uint64_t)trial->a, (uint64_t)trial->b);
+        struct outcome fetching =
+            ask(node, place, trial->fetching, (uint64_t)trial->old, (uint64_t)trial->a, (uint64_t)trial->b);
         const uint64_t all = ask == do_u32 ? UINT32_MAX : UINT64_MAX; /* signed ones come back with their sign */
         CHECK(plain.told == 0x5555 && plain.now == ((uint64_t)trial->made & all));
         CHECK(fetching.told == ((uint64_t)trial->old & all) && fetching.now == ((uint64_t)trial->made & all));
@@ -113,9 +128,9 @@ static void test_words(int node) {
     test_trials(do_u64, node, place, of_64_bits, COUNT(of_64_bits));
 }
 
-/* Each node adds 1 to one half of a word of node 0, and takes 1 from the other half, several at once: of four nodes each 10,000
- * times to the lower half, but for sanitizers. It marks each number that the first half was: no two additions were told the
- * same. */
+/* Each node adds 1 to one half of a word of node 0, and takes 1 from the other half, several at once: of four nodes
+ * each 10,000 times to the lower half, but for sanitizers. It marks each number that the first half was: no two
+ * additions were told the same. */
 static void test_sums(size_t half) {
     int additions = nodes == 4 && !half ? ADDITIONS : FEWER, window = nodes > 2 ? 2 * AT_ONCE / nodes : AT_ONCE;
     size_t all = (size_t)additions * (size_t)nodes;
@@ -165,7 +180,8 @@ static void test_extremes(int node) {
     barrier();
     for (int i = 0; i < TURNS; i++) {
         gex_AD_OpNBI_I32(i32, NULL, (gex_Rank_t)node, at(node, place), GEX_OP_MIN, -(i * nodes + me), 0, 0);
-        gex_AD_OpNBI_I64(i64, NULL, (gex_Rank_t)node, at(node, place + 8), GEX_OP_MAX, (int64_t)i * nodes + me - ((int64_t)1 << 40), 0, 0);
+        gex_AD_OpNBI_I64(i64, NULL, (gex_Rank_t)node, at(node, place + 8), GEX_OP_MAX,
+                         (int64_t)i * nodes + me - ((int64_t)1 << 40), 0, 0);
     }
     gasnet_wait_syncnbi_puts();
     barrier();

@@ -1,5 +1,5 @@
-/* Puts and gets of many pieces: vector, indexed and strided, in three ways, to the next node and to the local one. What came
- * is compared with the bytes that the definitions name, one by one. */
+/* Puts and gets of many pieces: vector, indexed and strided, in three ways, to the next node and to the local one. What
+ * came is compared with the bytes that the definitions name, one by one. */
 #define GASNET_SEQ 1
 #include "check.h"
 
@@ -37,7 +37,8 @@ static void compare(int node, bool is_put, int when) {
     static unsigned char want[ROOM], came[ROOM];
     fill(want, ROOM, me, is_put ? when + 1 : when);
     for (size_t i = 0; i < pairs; i++)
-        want[is_put ? far_bytes[i] : near_bytes[i]] = is_put ? mark(me, near_bytes[i], when) : mark(me, far_bytes[i], when + 1);
+        want[is_put ? far_bytes[i] : near_bytes[i]] =
+            is_put ? mark(me, near_bytes[i], when) : mark(me, far_bytes[i], when + 1);
     if (is_put)
         gasnet_get(came, node, far_room(node), ROOM);
     CHECK(!memcmp(want, is_put ? came : near_room, ROOM));
@@ -85,7 +86,8 @@ static void getv(enum way way, int node, size_t fars, gasnet_memvec_t *far, size
 static void test_vector(int node, enum way way, bool is_put, int when) {
     gasnet_memvec_t far[RANGES], near[RANGES];
     pairs = any(MOST);
-    size_t fars = make_list(far_room(node), far, pairs, far_bytes), nears = make_list(near_room, near, pairs, near_bytes);
+    size_t fars = make_list(far_room(node), far, pairs, far_bytes),
+           nears = make_list(near_room, near, pairs, near_bytes);
     prepare(node, when);
     (is_put ? putv : getv)(way, node, fars, far, nears, near);
     compare(node, is_put, when);
@@ -103,7 +105,8 @@ static void make_places(unsigned char *room, void **places, size_t count, size_t
     }
 }
 
-static void puti(enum way way, int node, size_t fars, void **far, size_t far_len, size_t nears, void **near, size_t near_len) {
+static void puti(enum way way, int node, size_t fars, void **far, size_t far_len, size_t nears, void **near,
+                 size_t near_len) {
     gasnet_handle_t handle = GASNET_INVALID_HANDLE;
     if (way == BLOCKING)
         gasnet_puti_bulk(node, fars, far, far_len, nears, near, near_len);
@@ -114,7 +117,8 @@ static void puti(enum way way, int node, size_t fars, void **far, size_t far_len
     sync(way, handle);
 }
 
-static void geti(enum way way, int node, size_t fars, void **far, size_t far_len, size_t nears, void **near, size_t near_len) {
+static void geti(enum way way, int node, size_t fars, void **far, size_t far_len, size_t nears, void **near,
+                 size_t near_len) {
     gasnet_handle_t handle = GASNET_INVALID_HANDLE;
     if (way == BLOCKING)
         gasnet_geti_bulk(nears, near, near_len, node, fars, far, far_len);
@@ -127,7 +131,8 @@ static void geti(enum way way, int node, size_t fars, void **far, size_t far_len
 
 static void test_indexed(int node, enum way way, bool is_put, int when) {
     void *far[64], *near[64];
-    size_t far_len = 1 + any(8), near_len = far_len * (1 + any(3)), nears = 1 + any(16), fars = nears * near_len / far_len;
+    size_t far_len = 1 + any(8), near_len = far_len * (1 + any(3)), nears = 1 + any(16),
+           fars = nears * near_len / far_len;
     pairs = nears * near_len;
     make_places(far_room(node), far, fars, far_len, far_bytes);
     make_places(near_room, near, nears, near_len, near_bytes);

@@ -24,7 +24,8 @@ static void test_before(void) {
 }
 
 static void test_tables(void) {
-    gasnet_handlerentry_t low[] = { { 127, handler } }, twice[] = { { 130, handler }, { 130, handler } }, none[] = { { 131, NULL } };
+    gasnet_handlerentry_t low[] = { { 127, handler } }, twice[] = { { 130, handler }, { 130, handler } },
+                          none[] = { { 131, NULL } };
     static gasnet_handlerentry_t many[129];
     for (int i = 0; i < 129; i++)
         many[i].fnptr = handler;

@@ -1,5 +1,7 @@
 /* Breaks the rule of the specification that its argument names. Each ends the job with status 70 and a line. */
 #define GASNET_SEQ 1
+#include <pthread.h>
+
 #include "check.h"
 
 enum { RUN = 128, RUN_REPLY = 129, NOBODY = 222 };
@@ -106,10 +108,15 @@ static void break_atomic(void) {
         gex_AD_Create(&domain, NULL, GEX_DT_U32, GEX_OP_INC, 0);
         gex_AD_OpNB_U32(domain, NULL, 0, at(0, 2), GEX_OP_INC, 0, 0, 0);
     }
-    gex_AD_Create(&domain, NULL, is("atomic-of-no-type") ? 3 : is("atomic-of-another-type") ? GEX_DT_I64 : GEX_DT_U64,
+    gex_AD_Create(&domain, NULL,
+                  is("atomic-of-no-type")        ? 3
+                  : is("atomic-of-another-type") ? GEX_DT_I64
+                                                 : GEX_DT_U64,
                   is("atomic-of-no-operation") ? (gex_OP_t)1 << 30 : GEX_OP_INC, 0);
     gex_AD_OpNB_U64(domain, NULL, is("atomic-to-nobody") ? (gex_Rank_t)nodes : 0,
-                    at(0, is("atomic-outside") ? GASNET_PAGESIZE : is("atomic-unaligned") ? 4 : 0),
+                    at(0, is("atomic-outside")     ? GASNET_PAGESIZE
+                          : is("atomic-unaligned") ? 4
+                                                   : 0),
                     is("atomic-not-in-domain") ? GEX_OP_DEC : GEX_OP_INC, 0, 0, 0);
 }
 
@@ -124,8 +131,10 @@ static void break_collective(void) {
         gex_Coll_ReduceToAllNB(NULL, words, &word, GEX_DT_U64, 8, 1, GEX_OP_XOR, NULL, NULL, 0);
     if (is("collective-other-kind"))
         gasnet_coll_reduce_all(NULL, words, &word, GEX_DT_U64, 1, other ? GEX_OP_MIN : GEX_OP_MAX, 0);
-    gasnet_coll_gather_all(NULL, is("collective-from-nowhere") ? NULL : words, &word, is("collective-other-length") && other ? 0 : 8, 0);
-    gasnet_coll_broadcast(NULL, is("collective-to-nobody") ? (gex_Rank_t)nodes : is("collective-other-root") && other, words, &word, 8, 0);
+    gasnet_coll_gather_all(NULL, is("collective-from-nowhere") ? NULL : words, &word,
+                           is("collective-other-length") && other ? 0 : 8, 0);
+    gasnet_coll_broadcast(NULL, is("collective-to-nobody") ? (gex_Rank_t)nodes : is("collective-other-root") && other,
+                          words, &word, 8, 0);
 }
 
 static void break_barrier(void) {
@@ -139,19 +148,42 @@ static void break_barrier(void) {
         gasnet_barrier_notify(1, 8);
 }
 
+static void *poll_here(void *nothing) {
+    gasnet_AMPoll();
+    return nothing;
+}
+
+static void break_threads(void) {
+    pthread_t other;
+    if (!is("another-thread"))
+        return;
+    CHECK(!pthread_create(&other, NULL, poll_here, NULL) && !pthread_join(other, NULL));
+    gasnet_exit(0);
+}
+
+/* How many entries the table has. Of those without an index, 126 with the two that have one, the last one gets 254. */
+static int entries(gasnet_handlerentry_t *table) {
+    for (int i = 2; i < 128 && is("collective-given-254"); i++)
+        table[i] = (gasnet_handlerentry_t){ 0, run_reply };
+    return is("collective-given-254") ? 126 : is("collective-own-254") ? 4 : is("atomic-own-252") ? 3 : 2;
+}
+
 int main(int argc, char **argv) {
-    gasnet_handlerentry_t table[] = { { RUN, run }, { RUN_REPLY, run_reply }, { 252, run_reply }, { 254, run_reply } };
+    gasnet_handlerentry_t table[128] = {
+        { RUN, run }, { RUN_REPLY, run_reply }, { 252, run_reply }, { 254, run_reply }
+    };
     if (argc != 2)
         return 2;
     rule = argv[1];
     if (is("put-before-attach"))
         gasnet_put_val(0, table, 1, 1);
-    start(&argc, &argv, table, is("collective-own-254") ? 4 : is("atomic-own-252") ? 3 : 2, GASNET_PAGESIZE);
+    start(&argc, &argv, table, entries(table), GASNET_PAGESIZE);
     break_lock();
     break_transfer();
     break_atomic();
     break_collective();
     break_barrier();
+    break_threads();
     gasnet_AMRequestShort0((gasnet_node_t)(nodes - 1), is("handler-of-nobody") ? NOBODY : RUN);
     for (;;)
         gasnet_AMPoll();

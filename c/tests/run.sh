@@ -83,16 +83,72 @@ for build in out out/sanitized; do
         GASNET_SWAP=20 GASNET_SEED=7 GASNET_RESEND=5 bin/gasnetrun -n 4 $build/tests/collectives 1000
 done
 
+check "threads leave nothing" 0 "" bin/gasnetrun -n 2 out/tests/leaks
+
+# The records of gasnet_c.h have the layouts of the proved library: with two fields exchanged the layer isn't compiled.
+changed_layout() {
+    mkdir -p out/changed
+    sed 's/uint16_t to, slot;/uint16_t slot, to;/' include/gasnet_c.h >out/changed/gasnet_c.h
+    ${CC:-gcc} -std=c11 -Iinclude -fsyntax-only src/layouts.c && ! ${CC:-gcc} -std=c11 -Iout/changed -fsyntax-only src/layouts.c
+}
+export -f changed_layout
+check "layouts" 0 "the place of to in gasnet_c_told" bash -c changed_layout
+
 check "large segments" 0 "" env GASNET_MAX_SEGSIZE=100G bin/gasnetrun -n 2 out/tests/large
 check "many nodes" 0 "" bin/gasnetrun -n 64 out/tests/queries
 check "many nodes, collectives" 0 "^6 collectives were right" bin/gasnetrun -n 64 out/tests/collectives 6
 check "strangers are counted" 0 "strays [1-9]" env GASNET_COUNTS=1 bin/gasnetrun -n 2 out/tests/strangers
 
+# Datagrams that nobody would send now, from the nodes' own addresses: altered ones of this run, and those of an earlier one with
+# the same addresses, number and key, whether it was ended by a status or not.
+(umask 077; printf '6b%.0s' {1..32} >out/key)
+for build in out out/sanitized; do
+    kind=${build#out}
+    kind=${kind:+ sanitized}
+    for seed in 1 2 3; do
+        check "fuzz $seed$kind" 0 "" bin/gasnetrun -n 3 $build/tests/fuzz mutate $seed
+    done
+    check "fuzz with a key$kind" 0 "" env GASNET_KEY_FILE=out/key bin/gasnetrun -n 3 $build/tests/fuzz mutate 4
+done
+alone() { # RANK COMMAND..: this process becomes a node that is started by hand
+    exec env GASNET_NODES=2 GASNET_RANK=$1 GASNET_JOB=7 GASNET_ADDRESSES=127.0.0.1:$port,127.0.0.1:$((port + 1)) "${@:2}"
+}
+former() { # CODE: node 1 of a run that ends with it is recorded, and what it sent comes again in the next run
+    local port=$((20000 + RANDOM % 10000)) record=out/former-$1.$$ first
+    (GASNET_EXIT_TIMEOUT=1 alone 0 out/tests/fuzz record "$record") &
+    first=$!
+    (GASNET_EXIT_TIMEOUT=1 alone 1 out/tests/fuzz record "$record" "$1")
+    [ $? = "$1" ] || return 3
+    wait $first
+    (alone 0 out/sanitized/tests/fuzz replay "$record") &
+    first=$!
+    sleep 0.3
+    (alone 1 out/sanitized/tests/fuzz replay "$record") && wait $first
+    set -- $?
+    rm -f "$record"
+    return "$1"
+}
+export -f alone former
+for code in 0 3; do
+    check "former run that ended with $code" 0 "" bash -c "former $code"
+    check "former run with a key that ended with $code" 0 "" env GASNET_KEY_FILE=out/key bash -c "former $code"
+done
+
+# On networks of namespaces, where they can be had: queues, packets of 1,500 bytes, loss, and nodes that compute.
+if why=$(tests/network can 2>&1); then
+    for test in incast loss phases stall icmp complete; do
+        check "network $test" 0 "" tests/network "$test"
+    done
+else
+    skip "network" "${why:-there is no python3}"
+fi
+
 # Sealed: with one key all goes as without, over a lossy network too; with two keys the nodes don't hear each other.
+check "round trips and windows" 0 "" out/sanitized/tests/windows
 check "codes of RFC 4231" 0 "" out/sanitized/tests/seals
 (umask 077; printf '6b%.0s' {1..32} >out/key; printf '7c%.0s' {1..32} >out/other-key; cp out/key out/open-key; chmod 640 out/open-key)
 for test in messages transfers barriers; do
-    check "sealed $test" 0 "" env GASNET_KEY_FILE=out/key GASNET_DROP=10 GASNET_TWICE=10 GASNET_SWAP=10 \
+    check "sealed $test" 0 "" env GASNET_KEY_FILE=out/key GASNET_DROP=10 GASNET_TWICE=10 GASNET_SWAP=10 GASNET_RESEND=20 \
         bin/gasnetrun -n 2 out/tests/$test
 done
 check "sealed strangers are counted" 0 "unsealed [0-9]" env GASNET_KEY_FILE=out/key GASNET_COUNTS=1 bin/gasnetrun -n 2 out/tests/strangers
@@ -112,6 +168,66 @@ for rule in request-in-handler put-in-handler get-in-handler poll-in-handler bar
     check "rule $rule" 70 "^gasnet: " bin/gasnetrun -n 2 out/sanitized/tests/rules "$rule"
 done
 
+# A thread of the layer serves the peers while the client computes; without it they wait, and all comes right too.
+for build in out out/sanitized; do
+    kind=${build#out}
+    kind=${kind:+ sanitized}
+    for way in serve keep fork; do
+        check "progress $way$kind" 0 "" env ASAN_OPTIONS=detect_leaks=$([ $way = fork ] && echo 0 || echo 1) bin/gasnetrun -n 4 $build/tests/progress $way
+    done
+    check "progress serve with loss$kind" 0 "" env GASNET_DROP=10 GASNET_TWICE=10 GASNET_SWAP=10 GASNET_RESEND=5 \
+        bin/gasnetrun -n 3 $build/tests/progress serve
+    check "progress phases$kind" 0 "" env GASNET_DROP=5 GASNET_RESEND=20 bin/gasnetrun -n 3 $build/tests/progress phases
+    for progress in thread poll; do
+        check "attach with loss, $progress$kind" 0 "" env GASNET_PROGRESS=$progress bash -c "for seed in {1..5}; do
+            GASNET_SEED=\$seed GASNET_DROP=20 GASNET_RESEND=5 timeout 20 bin/gasnetrun -n 4 $build/tests/progress attach || exit; done"
+    done
+    check "progress end$kind" 5 "" env GASNET_PROGRESS=thread GASNET_GRACE=100000 timeout 40 bin/gasnetrun -n 3 $build/tests/progress end
+    check "progress quit$kind" 0 "^quit" env GASNET_PROGRESS=thread GASNET_GRACE=100000 bash -c \
+        "timeout 40 bin/gasnetrun -n 3 $build/tests/progress quit; case \$? in 5 | 9) ;; *) false ;; esac"
+done
+check "progress by polls" 0 "" env GASNET_PROGRESS=poll bin/gasnetrun -n 4 out/tests/progress serve
+check "progress of silent peers" 0 "" env GASNET_PROGRESS=thread GASNET_PEER_TIMEOUT=1 bin/gasnetrun -n 2 out/tests/progress silent
+check "progress is counted" 0 "thread turns [1-9].* kept [1-9]" env GASNET_COUNTS=1 GASNET_PROGRESS=thread bin/gasnetrun -n 2 out/tests/progress keep
+check "polls wake no thread" 0 "thread turns [0-9]\{1,2\}, wakes [0-9]\{1,2\}, looks" env GASNET_COUNTS=1 GASNET_PROGRESS=thread bin/gasnetrun -n 2 out/tests/progress poll
+check "suspended" 0 "" env GASNET_PEER_TIMEOUT=2 bash -c \
+    'bin/gasnetrun -n 2 out/tests/progress silent & runner=$!; sleep 1
+     nodes=$(pgrep -P $runner); kill -STOP $nodes; sleep 4; kill -CONT $nodes; wait $runner'
+
+# Nodes with other settings are refused by name, by both.
+unequal() { # VARIABLE VALUE VALUE
+    local log
+    log=$(bin/gasnetrun -n 2 bash -c "[ \$GASNET_RANK = 0 ] && export $1=$2 || export $1=$3; exec out/tests/barriers" 2>&1)
+    [ $? = 70 ] && [[ $log == *"node 1 has $1=$3, this node $2: set the same on all nodes"* ]] &&
+        [[ $log == *"node 0 has $1=$2, this node $3: set the same on all nodes"* ]] && return
+    echo "$log"
+    return 1
+}
+export -f unequal
+check "unequal GASNET_CREDITS" 0 "" bash -c 'unequal GASNET_CREDITS 32 16'
+check "unequal GASNET_RESEND" 0 "" bash -c 'unequal GASNET_RESEND 20 50'
+check "unequal GASNET_MTU" 0 "" bin/gasnetrun -n 2 bash -c 'export GASNET_MTU=$((1000 + 500 * GASNET_RANK)); exec out/tests/transfers'
+more_nodes() { # node 1 counts a node more than node 0
+    local port=$((20000 + RANDOM % 10000)) log
+    local all=127.0.0.1:$port,127.0.0.1:$((port + 1))
+    log=$( (GASNET_RANK=0 GASNET_NODES=2 GASNET_ADDRESSES=$all out/tests/barriers &
+        GASNET_RANK=1 GASNET_NODES=3 GASNET_ADDRESSES=$all,127.0.0.1:$((port + 2)) out/tests/barriers; echo "status $?"; wait) 2>&1)
+    echo "$log"
+    [[ $log == *"status 70"* && $log == *"node 1 has GASNET_NODES=3, this node 2: set the same"* && $log == *"node 0 has GASNET_NODES=2, this node 3"* ]]
+}
+export -f more_nodes
+check "unequal GASNET_NODES" 0 "" bash -c more_nodes
+check "few credits" 0 "" env GASNET_CREDITS=1 bin/gasnetrun -n 2 out/tests/transfers
+
+check "rule collective-given-254" 70 "handler 254, which collectives need, is the client's: gasnet_attach gave it" \
+    bin/gasnetrun -n 2 out/sanitized/tests/rules collective-given-254
+for n in 2 125; do
+    check "indexes, $n of any" 0 "" bin/gasnetrun -n 2 out/sanitized/tests/indexes $n
+done
+
+check "rule another-thread" 70 "gasnet_AMPoll is called by another thread than the one .*: define GASNET_PAR" \
+    bin/gasnetrun -n 2 out/sanitized/tests/rules another-thread
+
 # How a job ends.
 for build in out out/sanitized; do
     kind=${build#out}
@@ -122,7 +238,11 @@ for build in out out/sanitized; do
     check "end return 4$kind" 4 "" bin/gasnetrun -n 3 $build/tests/ends return 4
     check "end one 5$kind" 5 "" bin/gasnetrun -n 3 $build/tests/ends one 5
     check "end one 0$kind" 0 "ends the others: node . hadn't called it after 1 s" env GASNET_EXIT_TIMEOUT=1 bin/gasnetrun -n 3 $build/tests/ends one 0
-    check "end fork$kind" 0 "" bin/gasnetrun -n 3 $build/tests/ends fork 0
+    for way in fork fork-exit fork-call; do # (LeakSanitizer stops in a child of a process with several threads)
+        check "end $way$kind" 0 "" env ASAN_OPTIONS=detect_leaks=0 bin/gasnetrun -n 3 $build/tests/ends $way 0
+    done
+    check "end leave$kind" 76 "node 2 returned, or called exit(0), and ends the others with status 76: node . hadn't" \
+        env GASNET_EXIT_TIMEOUT=1 bin/gasnetrun -n 3 $build/tests/ends leave
     check "end handler 6$kind" 6 "" bin/gasnetrun -n 3 $build/tests/ends handler 6
     check "end alarm 0$kind" 0 "" bin/gasnetrun -n 3 $build/tests/ends alarm 0
     check "end alarm 7$kind" 7 "" bin/gasnetrun -n 3 $build/tests/ends alarm 7
@@ -131,11 +251,23 @@ for build in out out/sanitized; do
     done
     check "end of threads, signals$kind" 0 "" bash -c \
         "for i in {1..30}; do timeout 20 $build/tests/exits signal \$((1000 + 7 * i)) || exit; done"
-    # The node that ends the job has 5, those that handle SIGQUIT have 9: the first of them to end decides.
-    check "end quit$kind" 0 "^quit" bash -c "bin/gasnetrun -n 3 $build/tests/ends quit 5; case \$? in 5 | 9) ;; *) false ;; esac"
+    check "end of threads, one reads$kind" 0 "" timeout 20 bin/gasnetrun -n 2 $build/tests/exits reader
+    check "end of threads, signals in malloc$kind" 0 "" bash -c \
+        "for i in {1..30}; do timeout 20 bin/gasnetrun -n 2 $build/tests/exits malloc \$((2000 + 137 * i)) || exit; done"
+    # The node that ends the job has 5, those that handle SIGQUIT have 9, and may end before it.
+    check "end quit$kind" 5 "^quit" bin/gasnetrun -n 3 $build/tests/ends quit 5
 done
-check "end one 5 with loss" 5 "" env GASNET_DROP=30 bin/gasnetrun -n 8 out/tests/ends one 5
-check "end all 0 with loss" 0 "" env GASNET_DROP=30 bin/gasnetrun -n 8 out/tests/ends all 0
+# The node that ended the job is named, though others may end before it.
+named() { # BUILD: the lines of twenty runs
+    for _ in {1..20}; do bin/gasnetrun -n 4 "$1/tests/ends" one 5 2>&1; done | sort | uniq -c
+}
+export -f named
+check "end one, named" 0 "^ *20 gasnetrun: node 3 ended with status 5; the others are ended$" bash -c "named out"
+check "end one, named behind a shell" 0 "node 2 ended with status 5; the others" bash -c 'bin/gasnetrun -n 3 sh -c "out/tests/ends one 5; exit" ; [ $? = 5 ]'
+# A node whose pipe to gasnetrun is closed, or is something else, ends as the others.
+check "end one, unnamed" 5 "ended with status 5; the others" bin/gasnetrun -n 3 bash -c 'eval "exec ${GASNET_RUNNER%:*}>/dev/null"; exec out/tests/ends one 5'
+check "end one 5 with loss" 5 "" env GASNET_DROP=30 GASNET_RESEND=20 bin/gasnetrun -n 8 out/tests/ends one 5
+check "end all 0 with loss" 0 "" env GASNET_DROP=30 GASNET_RESEND=20 bin/gasnetrun -n 8 out/tests/ends all 0
 check "end signal" 137 "node 2 was ended by signal 9" bin/gasnetrun -n 3 out/tests/ends signal 9
 
 # gasnetrun that is ended leaves no node behind, nor one that its nodes started.
@@ -165,9 +297,6 @@ check "orphans KILL without parents" 0 "" bash -c \
 check "orphans KILL behind a shell" 0 "" bash -c 'ended KILL 137 sh -c '\''"$0" "$@"; :'\'' out/tests/ends'
 
 # A peer that is gone is found by the others alone, where no gasnetrun looks.
-alone() { # RANK COMMAND..: this process becomes a node that is started by hand
-    exec env GASNET_NODES=2 GASNET_RANK=$1 GASNET_JOB=7 GASNET_ADDRESSES=127.0.0.1:$port,127.0.0.1:$((port + 1)) "${@:2}"
-}
 gone() { # SIGNAL WAY
     local port=$((20000 + RANDOM % 10000))
     (alone 1 out/tests/ends poll >"out/here-$port") &
@@ -179,7 +308,7 @@ gone() { # SIGNAL WAY
     rm -f "out/here-$port"
     return $got
 }
-export -f alone gone
+export -f gone
 check "peer killed" 69 "node 1 (127.0.0.1:[0-9]*) is gone" bash -c 'gone KILL'
 check "peer killed, SIGQUIT" 9 "^quit" bash -c 'gone KILL watch'
 check "peer stopped" 69 "node 1 (127.0.0.1:[0-9]*) didn't answer for [0-9.]* s" env GASNET_PEER_TIMEOUT=5 bash -c 'gone STOP'
@@ -189,6 +318,32 @@ absent() {
 }
 export -f absent
 check "peer absent" 70 "node 1 .* didn't come to gasnet_attach" bash -c 'absent; [ $? = 69 ] && exit 70'
+
+# Who is missing is told after five seconds and at the end, with what came from each: node 1 isn't started, the others are others'.
+missing() { # KEY_OF_2 KEY_OF_3: node 2 has another job, node 3 another key, or one where node 0 has none
+    local port=$((20000 + RANDOM % 10000))
+    node() { # RANK JOB KEY
+        [ -n "$3" ] && export GASNET_KEY_FILE=$3
+        GASNET_PEER_TIMEOUT=6 GASNET_NODES=4 GASNET_RANK=$1 GASNET_JOB=$2 exec env \
+            GASNET_ADDRESSES=127.0.0.1:$port,127.0.0.1:$((port + 1)),127.0.0.1:$((port + 2)),127.0.0.1:$((port + 3)) out/tests/barriers
+    }
+    (node 2 8 "$1" 2>/dev/null) &
+    (node 3 7 "$2" 2>/dev/null) &
+    (node 0 7 "$1") 2>&1
+    wait
+}
+told() { # REASON_OF_3 ARGUMENTS..
+    local log
+    log=$(missing "${@:2}")
+    echo "$log"
+    local others="node 1 ([0-9.:]*): its host says that nobody has the port (ICMP)" second="node 2 ([0-9.:]*): what came has another GASNET_JOB"
+    for part in "waits in gasnet_attach for 5" "didn't come to gasnet_attach for 6"; do
+        grep "$part" <<<"$log" | grep "$others" | grep "$second" | grep -q "node 3 ([0-9.:]*): $1" || return
+    done
+}
+export -f missing told
+check "peers missing" 0 "" bash -c 'told "what came is sealed, and this node has no key" "" out/key'
+check "peers missing, with a key" 0 "" bash -c 'told "what came has no right tag" out/key out/other-key'
 
 # Nodes that are started one by one, each by a list of the hosts.
 by_hosts() { # VARIABLE TEXT
@@ -207,22 +362,67 @@ check "hosts of a file" 0 "" bash -c 'by_hosts GASNET_HOSTS_FILE out/hosts'
 broken() { check "environment $1" "${status:-70}" "^gasnet: $2" env "$1" "${@:3}" out/tests/barriers; }
 broken GASNET_DROP=101 "GASNET_DROP is '101'"
 broken GASNET_RESEND=soon "GASNET_RESEND is 'soon'"
+broken GASNET_CREDITS=33 "GASNET_CREDITS is '33'"
+broken GASNET_MTU=100 "GASNET_MTU is '100'"
+broken GASNET_PROGRESS=never "GASNET_PROGRESS is 'never': set it to 'thread' or to 'poll'"
 broken GASNET_MAX_SEGSIZE=7Q "GASNET_MAX_SEGSIZE is '7Q'"
 broken GASNET_NODES=65 "GASNET_NODES is '65'" GASNET_RANK=0
 broken GASNET_RANK=2 "GASNET_RANK is '2'" GASNET_NODES=2
 broken GASNET_RANK=1 "neither GASNET_ADDRESSES nor GASNET_HOSTS is set" GASNET_NODES=2
 broken GASNET_HOSTS=" , " "GASNET_HOSTS is broken: it has no host" GASNET_RANK=0
 broken GASNET_HOSTS=127.0.0.1 "GASNET_HOSTS is broken: it has fewer" GASNET_RANK=0 GASNET_NODES=2
-broken GASNET_HOSTS="127.0.0.1 nowhere.invalid" "GASNET_HOSTS is broken: an address of it is none" GASNET_RANK=0
+broken GASNET_HOSTS="127.0.0.1 nowhere.invalid" "GASNET_HOSTS is broken: the host of 'nowhere.invalid:21001' in it isn't known" GASNET_RANK=0
+broken GASNET_HOSTS="127.0.0.1 ::1" "GASNET_HOSTS is broken: '\[::1\]:21001' in it is of IPv6, and the first address of IPv4" GASNET_RANK=0
+broken GASNET_HOSTS=127.0.0.1 "GASNET_RANK is '1', but by GASNET_HOSTS the ranks are 0 to 0" GASNET_RANK=1
+broken GASNET_RANK=0 "GASNET_RANK is set, but not how many nodes there are: set GASNET_HOSTS"
+for variable in GASNET_HOSTS=127.0.0.1,127.0.0.2 GASNET_HOSTS_FILE=out/hosts GASNET_ADDRESSES=127.0.0.1:5000,127.0.0.2:5000 GASNET_NODES=2; do
+    broken $variable "${variable%=*} is set, but not which node this is: set GASNET_RANK"
+done
 broken GASNET_HOSTS_FILE=/no/such/file "GASNET_HOSTS_FILE is broken: No such file" GASNET_RANK=0
 broken GASNET_PORT=80 "GASNET_PORT is '80'" GASNET_RANK=0 GASNET_HOSTS=127.0.0.1
 broken GASNET_ADDRESSES=127.0.0.1:5 "GASNET_ADDRESSES is broken: it has fewer" GASNET_NODES=2 GASNET_RANK=0
-broken GASNET_ADDRESSES=here "GASNET_ADDRESSES is broken: an address" GASNET_NODES=1 GASNET_RANK=0
+broken GASNET_ADDRESSES=here "GASNET_ADDRESSES is broken: 'here' in it isn't HOST:PORT" GASNET_NODES=1 GASNET_RANK=0
+broken GASNET_ADDRESSES=127.0.0.1:5000,127.0.0.1:70000 "GASNET_ADDRESSES is broken: the port of '127.0.0.1:70000' in it isn't" \
+    GASNET_NODES=2 GASNET_RANK=0
+broken GASNET_ADDRESSES=127.0.0.1:5000,[::1]:5001 "GASNET_ADDRESSES is broken: '\[::1\]:5001' in it is of IPv6, and the first" \
+    GASNET_NODES=2 GASNET_RANK=0
 broken GASNET_ADDRESSES=127.0.0.1:5,127.0.0.1:5 "GASNET_ADDRESSES is broken: two of" GASNET_NODES=2 GASNET_RANK=0
 # What the system refuses is 71.
-status=71 broken GASNET_ADDRESSES=192.0.2.1:5000,127.0.0.1:5 "node 0 can't have the address 192.0.2.1:5000" GASNET_NODES=2 GASNET_RANK=0
+status=71 broken GASNET_ADDRESSES=192.0.2.1:5000,127.0.0.1:5 "node 0 can't have the address 192.0.2.1:5000 .*this host has no such" GASNET_NODES=2 GASNET_RANK=0
 status=71 broken GASNET_SOCKET=77 "GASNET_SOCKET is 77, which is no socket" GASNET_ADDRESSES=127.0.0.1:5,127.0.0.1:6 \
     GASNET_NODES=2 GASNET_RANK=0
+taken_port() { # another node has the port
+    local port=$((20000 + RANDOM % 10000)) first second got
+    (alone 1 out/tests/ends poll) >>"out/here-$port" &
+    first=$!
+    (alone 0 out/tests/ends poll) >>"out/here-$port" &
+    second=$!
+    until_here 2 "out/here-$port"
+    (alone 0 out/tests/barriers)
+    got=$?
+    kill $first $second
+    rm -f "out/here-$port"
+    return $got
+}
+export -f taken_port
+check "environment, a port that is taken" 71 "another process has the port: set GASNET_PORT" bash -c taken_port
+
+# A name that is no variable's is warned of, by one node; and each name that is read is known.
+check "names, a mistyped one" 0 "^gasnet: no variable of this library has this name.*: GASNET_RESENT (GASNET_RESEND?)$" \
+    env GASNET_RESENT=5 bin/gasnetrun -n 2 out/tests/barriers
+unknown_names() {
+    local name
+    for name in $( (grep -rhoE '(getenv|config_number|is_set|read_[a-z]+)\("GASNET_[A-Z_]+"' src; grep -hoE '\$\{GASNET_[A-Z_]+' bin/*) |
+        grep -oE 'GASNET_[A-Z_]+' | sort -u); do
+        grep -q "\"$name\"" src/names.c || echo "$name isn't in src/names.c"
+    done
+}
+export -f unknown_names
+check "names are known" 0 "" bash -c '[ -z "$(unknown_names | tee /dev/stderr)" ]'
+known_names() { ! env GASNET_RESEND=5 GASNET_COUNTS=1 bin/gasnetrun -n 2 out/tests/barriers 2>&1 | grep "no variable"; }
+export -f known_names
+check "names, known ones alone" 0 "" bash -c known_names
+check "interfaces" 0 "" out/sanitized/tests/interfaces
 check "gasnetrun usage" 64 "usage" bin/gasnetrun -n 65 out/tests/barriers
 check "gasnetrun usage, a long number" 64 "usage" bin/gasnetrun -n 4294967297 out/tests/barriers
 check "gasnetrun of no program" 127 "can't be started" bin/gasnetrun -n 2 out/tests/no-such-program
@@ -233,6 +433,14 @@ check "hello" 0 "node 3 of 4: the squares' sum is 86" bin/gasnetrun -n 4 out/hel
 check "hello alone" 0 "node 0 of 1" out/hello
 check "gasnetcc ring" 0 "" bin/gasnetcc -Wall -Wextra -Werror examples/ring.c -o out/ring
 check "ring" 0 "node 3 has 2 from the node before it" bin/gasnetrun -n 4 out/ring
+# The commands work by a link from another folder, and where their path has a space.
+mkdir -p out/links "out/a space/out"
+for command in gasnetcc gasnetrun; do ln -sf "../../bin/$command" out/links/; done
+cp -r bin include "out/a space/" && cp out/gasnetrun out/gasnet.pc out/libgasnet.a "out/a space/out/"
+check "gasnetcc by a link" 0 "" out/links/gasnetcc examples/ring.c -o out/links/ring
+check "gasnetrun by a link" 0 "node 3 has 2 from the node before it" out/links/gasnetrun -n 4 out/links/ring
+check "gasnetcc in a path with a space" 0 "" "out/a space/bin/gasnetcc" examples/ring.c -o "out/a space/ring of nodes"
+check "gasnetrun in a path with a space" 0 "node 3 has 2" "out/a space/bin/gasnetrun" -n 4 "out/a space/ring of nodes"
 launcher="mpirun -n 4"
 if ! command -v mpirun >/dev/null; then
     skip "$launcher" "there is no mpirun (Debian: openmpi-bin)"
@@ -243,6 +451,9 @@ else
     check "$launcher hello" 0 "node 3 of 4" mpirun --oversubscribe -n 4 out/hello
     check "$launcher messages" 0 "" mpirun --oversubscribe -n 4 out/tests/messages
     check "$launcher transfers" 0 "" env ASAN_OPTIONS=detect_leaks=0 mpirun --oversubscribe -n 4 out/sanitized/tests/transfers
+    check "$launcher by an interface" 0 "node 3 of 4" env GASNET_INTERFACE=lo mpirun --oversubscribe -n 4 out/hello
+    check "$launcher by no interface" 0 "GASNET_INTERFACE is 'nowhere0': set it to an interface" \
+        bash -c '! GASNET_INTERFACE=nowhere0 mpirun --oversubscribe -n 2 out/hello'
     check "$launcher ends" 5 "" mpirun --oversubscribe -n 4 out/tests/ends one 5
 fi
 

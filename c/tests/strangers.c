@@ -1,5 +1,5 @@
-/* A stranger sends each node bytes of all kinds, forged messages of the job too, while the nodes go on. Nothing comes of
- * them: they have no peer's address. */
+/* A stranger sends each node bytes of all kinds, forged messages of the job too, while the nodes go on. Nothing comes
+ * of them: they have no peer's address. */
 #define GASNET_SEQ 1
 #include <arpa/inet.h>
 #include <unistd.h>
@@ -41,12 +41,12 @@ static size_t forge(unsigned char *bytes, int from, int to, uint64_t job) {
 
 /* That the job is at its end, as the layer says it. */
 static size_t forge_end(unsigned char *bytes, int from, uint64_t job) {
-    const uint16_t node = (uint16_t)from;
-    memset(bytes, 0, 32);
-    memcpy(bytes, "GNL1\2\1", 6);
-    memcpy(bytes + 6, &node, 2);
-    memcpy(bytes + 8, &job, 8);
-    return 32;
+    enum { LENGTH = 84 };
+    memset(bytes, 0, LENGTH);
+    memcpy(bytes, "GNL3\2\1", 6);
+    put_number(bytes + 6, 2, (uint64_t)from);
+    put_number(bytes + 8, 8, job);
+    return LENGTH;
 }
 
 static size_t junk(unsigned char *bytes, int round, int to, uint64_t job) {

@@ -6,11 +6,20 @@
 
 #include "check.h"
 
-enum { THREADS = 4, ADD = 128, ADDED = 129, WAKE = 130, TURNS = 100, PART = 20000, SEGMENT = 1 << 20, WORD = SEGMENT - 8 };
+enum {
+    THREADS = 4,
+    ADD = 128,
+    ADDED = 129,
+    WAKE = 130,
+    TURNS = 100,
+    PART = 20000,
+    SEGMENT = 1 << 20,
+    WORD = SEGMENT - 8
+};
 
 static gex_AD_t words;
 static gasnet_hsl_t lock = GASNET_HSL_INITIALIZER;
-static int sum, added[THREADS];        /* under the lock */
+static int sum, added[THREADS]; /* under the lock */
 static atomic_int woken[THREADS];
 
 static void add(gasnet_token_t token, gasnet_handlerarg_t thread, gasnet_handlerarg_t number) {
@@ -106,6 +115,8 @@ int main(int argc, char **argv) {
     uint64_t total = 0;
     gex_Event_Wait(gex_AD_OpNB_U64(words, &total, 0, at(0, WORD), GEX_OP_GET, 0, 0, 0));
     CHECK(total == 3u * TURNS * THREADS * (unsigned)nodes);
-    CHECK(sum == THREADS * TURNS * (TURNS - 1) / 2 || nodes > 1);
+    gasnet_hsl_lock(&lock);
+    CHECK(sum == THREADS * TURNS * (TURNS - 1) / 2); /* each number comes to each node once a thread */
+    gasnet_hsl_unlock(&lock);
     gasnet_exit(0);
 }

@@ -141,7 +141,8 @@ static void test_crowd(int when) {
     fill(at(me, NEAR), part, me, when + 1);
     for (int node = 0; node < nodes; node++) {
         handles[count++] = gasnet_put_nb_bulk(node, at(node, 3 * (1 << 20) + 2 * part * (size_t)me), outside, part);
-        handles[count++] = gasnet_put_nb_bulk(node, at(node, 3 * (1 << 20) + (2 * (size_t)me + 1) * part), at(me, NEAR), part);
+        handles[count++] =
+            gasnet_put_nb_bulk(node, at(node, 3 * (1 << 20) + (2 * (size_t)me + 1) * part), at(me, NEAR), part);
     }
     gasnet_wait_syncnb_all(handles, (size_t)count);
     barrier();

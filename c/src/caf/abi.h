@@ -1,6 +1,7 @@
 /* The types and calls of gfortran's coarray interface, as gfortran 12 emits them with -fcoarray=lib.
  *
- * An array is handed over by its descriptor. A coarray is named by a token, which this library makes at the registration. */
+ * An array is handed over by its descriptor. A coarray is named by a token, which this library makes at the
+ * registration. */
 #ifndef CAF_ABI_H
 #define CAF_ABI_H
 
@@ -11,7 +12,15 @@
 enum { CAF_RANKS = 15 };
 
 /* The types of elements, as a descriptor has them. */
-enum { CAF_INTEGER = 1, CAF_LOGICAL = 2, CAF_REAL = 3, CAF_COMPLEX = 4, CAF_DERIVED = 5, CAF_CHARACTER = 6, CAF_VOID = 10 };
+enum {
+    CAF_INTEGER = 1,
+    CAF_LOGICAL = 2,
+    CAF_REAL = 3,
+    CAF_COMPLEX = 4,
+    CAF_DERIVED = 5,
+    CAF_CHARACTER = 6,
+    CAF_VOID = 10
+};
 
 /* The bounds of a dimension. The stride counts in spans. */
 struct caf_bounds {
@@ -78,7 +87,8 @@ struct caf_reference {
     size_t item_size;
     union {
         struct {
-            ptrdiff_t offset, token_offset; /* token_offset is 0 where the component is neither allocatable nor a pointer */
+            ptrdiff_t offset,
+                token_offset; /* token_offset is 0 where the component is neither allocatable nor a pointer */
         } component;
         struct {
             unsigned char mode[CAF_RANKS];
@@ -118,8 +128,8 @@ enum { CAF_BY_REFERENCE = 1, CAF_HIDDEN_LENGTH = 2, CAF_ARGUMENT_VALUE = 4, CAF_
 struct caf_token;
 struct caf_team;
 
-/* Every call below that has stat and errmsg: where an error comes, stat is set and errmsg filled if stat isn't null; else
- * the error is told on standard error, and all images end. */
+/* Every call below that has stat and errmsg: where an error comes, stat is set and errmsg filled if stat isn't null;
+ * else the error is told on standard error, and all images end. */
 #define CAF_ERRORS int *stat, char *errmsg, size_t errmsg_len
 
 /* ---- Start and end. */
@@ -158,22 +168,26 @@ void _gfortran_caf_deregister(struct caf_token **token, int type, CAF_ERRORS);
 /* ---- Transfers. */
 
 void _gfortran_caf_get(struct caf_token *token, size_t offset, int image, struct caf_descriptor *source,
-                       struct caf_subscript *subscripts, struct caf_descriptor *target, int source_kind, int target_kind,
-                       bool may_overlap, int *stat);
+                       struct caf_subscript *subscripts, struct caf_descriptor *target, int source_kind,
+                       int target_kind, bool may_overlap, int *stat);
 void _gfortran_caf_send(struct caf_token *token, size_t offset, int image, struct caf_descriptor *target,
-                        struct caf_subscript *subscripts, struct caf_descriptor *source, int target_kind, int source_kind,
-                        bool may_overlap, int *stat, struct caf_team **team);
-void _gfortran_caf_sendget(struct caf_token *target_token, size_t target_offset, int target_image, struct caf_descriptor *target,
-                           struct caf_subscript *target_subscripts, struct caf_token *source_token, size_t source_offset,
-                           int source_image, struct caf_descriptor *source, struct caf_subscript *source_subscripts,
-                           int target_kind, int source_kind, bool may_overlap, int *stat);
-void _gfortran_caf_get_by_ref(struct caf_token *token, int image, struct caf_descriptor *target, struct caf_reference *references,
-                              int target_kind, int source_kind, bool may_overlap, bool may_allocate, int *stat, int source_type);
-void _gfortran_caf_send_by_ref(struct caf_token *token, int image, struct caf_descriptor *source, struct caf_reference *references,
-                               int target_kind, int source_kind, bool may_overlap, bool may_allocate, int *stat, int target_type);
-void _gfortran_caf_sendget_by_ref(struct caf_token *target_token, int target_image, struct caf_reference *target_references,
-                                  struct caf_token *source_token, int source_image, struct caf_reference *source_references,
-                                  int target_kind, int source_kind, bool may_overlap, int *target_stat, int *source_stat,
+                        struct caf_subscript *subscripts, struct caf_descriptor *source, int target_kind,
+                        int source_kind, bool may_overlap, int *stat, struct caf_team **team);
+void _gfortran_caf_sendget(struct caf_token *target_token, size_t target_offset, int target_image,
+                           struct caf_descriptor *target, struct caf_subscript *target_subscripts,
+                           struct caf_token *source_token, size_t source_offset, int source_image,
+                           struct caf_descriptor *source, struct caf_subscript *source_subscripts, int target_kind,
+                           int source_kind, bool may_overlap, int *stat);
+void _gfortran_caf_get_by_ref(struct caf_token *token, int image, struct caf_descriptor *target,
+                              struct caf_reference *references, int target_kind, int source_kind, bool may_overlap,
+                              bool may_allocate, int *stat, int source_type);
+void _gfortran_caf_send_by_ref(struct caf_token *token, int image, struct caf_descriptor *source,
+                               struct caf_reference *references, int target_kind, int source_kind, bool may_overlap,
+                               bool may_allocate, int *stat, int target_type);
+void _gfortran_caf_sendget_by_ref(struct caf_token *target_token, int target_image,
+                                  struct caf_reference *target_references, struct caf_token *source_token,
+                                  int source_image, struct caf_reference *source_references, int target_kind,
+                                  int source_kind, bool may_overlap, int *target_stat, int *source_stat,
                                   int target_type, int source_type);
 int _gfortran_caf_is_present(struct caf_token *token, int image, struct caf_reference *references);
 
@@ -190,20 +204,24 @@ void _gfortran_caf_unlock(struct caf_token *token, size_t index, int image, CAF_
 void _gfortran_caf_event_post(struct caf_token *token, size_t index, int image, CAF_ERRORS);
 void _gfortran_caf_event_wait(struct caf_token *token, size_t index, int until, CAF_ERRORS);
 void _gfortran_caf_event_query(struct caf_token *token, size_t index, int image, int *count, int *stat);
-void _gfortran_caf_atomic_define(struct caf_token *token, size_t offset, int image, void *value, int *stat, int type, int kind);
-void _gfortran_caf_atomic_ref(struct caf_token *token, size_t offset, int image, void *value, int *stat, int type, int kind);
-void _gfortran_caf_atomic_cas(struct caf_token *token, size_t offset, int image, void *old, void *compare, void *new_value,
-                              int *stat, int type, int kind);
-void _gfortran_caf_atomic_op(int operation, struct caf_token *token, size_t offset, int image, void *value, void *old, int *stat,
-                             int type, int kind);
+void _gfortran_caf_atomic_define(struct caf_token *token, size_t offset, int image, void *value, int *stat, int type,
+                                 int kind);
+void _gfortran_caf_atomic_ref(struct caf_token *token, size_t offset, int image, void *value, int *stat, int type,
+                              int kind);
+void _gfortran_caf_atomic_cas(struct caf_token *token, size_t offset, int image, void *old, void *compare,
+                              void *new_value, int *stat, int type, int kind);
+void _gfortran_caf_atomic_op(int operation, struct caf_token *token, size_t offset, int image, void *value, void *old,
+                             int *stat, int type, int kind);
 
 /* ---- Collectives. */
 
 void _gfortran_caf_co_broadcast(struct caf_descriptor *array, int source_image, CAF_ERRORS);
 void _gfortran_caf_co_sum(struct caf_descriptor *array, int result_image, CAF_ERRORS);
-void _gfortran_caf_co_min(struct caf_descriptor *array, int result_image, int *stat, char *errmsg, int length, size_t errmsg_len);
-void _gfortran_caf_co_max(struct caf_descriptor *array, int result_image, int *stat, char *errmsg, int length, size_t errmsg_len);
-void _gfortran_caf_co_reduce(struct caf_descriptor *array, void *(*operation)(void *, void *), int flags, int result_image,
-                             int *stat, char *errmsg, int length, size_t errmsg_len);
+void _gfortran_caf_co_min(struct caf_descriptor *array, int result_image, int *stat, char *errmsg, int length,
+                          size_t errmsg_len);
+void _gfortran_caf_co_max(struct caf_descriptor *array, int result_image, int *stat, char *errmsg, int length,
+                          size_t errmsg_len);
+void _gfortran_caf_co_reduce(struct caf_descriptor *array, void *(*operation)(void *, void *), int flags,
+                             int result_image, int *stat, char *errmsg, int length, size_t errmsg_len);
 
 #endif

@@ -27,10 +27,12 @@ static bool has_ended(gex_Event_t *event) {
     return *event == GEX_EVENT_INVALID;
 }
 
-/* Whether it ended. Where an image never begins it, it doesn't: what it was given isn't written then, and no later collective is
- * the endpoint's, as each finds that image absent. */
+/* Whether it ended. Where an image never begins it, it doesn't: what it was given isn't written then, and no later
+ * collective is the endpoint's, as each finds that image absent. */
 static bool ends(struct caf_operation *operation, gex_Event_t event) {
-    GASNET_BLOCKUNTIL(has_ended(&event) || caf_team_absence(operation->team, operation->sequence));
+    GASNET_BLOCKUNTIL(has_ended(&event) || caf_team_absence(operation->team, operation->sequence) ||
+                      caf_operation_is_odd(operation));
+    caf_operation_check(operation);
     operation->code = event == GEX_EVENT_INVALID ? 0 : caf_team_absence(operation->team, operation->sequence);
     return !operation->code;
 }
@@ -38,7 +40,8 @@ static bool ends(struct caf_operation *operation, gex_Event_t event) {
 /* ---- Integers of 64 bits are the endpoint's words: it combines them itself. */
 
 static bool has_words(const struct caf_combiner *combiner) {
-    return combiner->type.type == CAF_INTEGER && combiner->type.size == sizeof(int64_t) && combiner->reduction != CAF_REDUCE;
+    return combiner->type.type == CAF_INTEGER && combiner->type.size == sizeof(int64_t) &&
+           combiner->reduction != CAF_REDUCE;
 }
 
 static void reduce_words(struct caf_operation *operation, enum caf_reduction reduction, void *words, size_t count) {
@@ -55,7 +58,8 @@ static void combine_all(const struct caf_combiner *combiner, char *result, const
         caf_combine(combiner, result, result, parts + (size_t)image * length, count);
 }
 
-static void reduce_parts(struct caf_operation *operation, const struct caf_combiner *combiner, void *part, size_t count) {
+static void reduce_parts(struct caf_operation *operation, const struct caf_combiner *combiner, void *part,
+                         size_t count) {
     size_t length = count * combiner->type.size;
     char *parts = caf_memory((size_t)caf_state.images * length);
     if (ends(operation, gasnet_coll_gather_all_nb(NULL, parts, part, length, 0)))
@@ -63,7 +67,8 @@ static void reduce_parts(struct caf_operation *operation, const struct caf_combi
     free(parts);
 }
 
-void caf_all_images_reduce(struct caf_operation *operation, const struct caf_combiner *combiner, void *part, size_t count) {
+void caf_all_images_reduce(struct caf_operation *operation, const struct caf_combiner *combiner, void *part,
+                           size_t count) {
     if (has_words(combiner))
         reduce_words(operation, combiner->reduction, part, count);
     else

@@ -8,7 +8,8 @@
 #include "token.h"
 
 /* Where a call works; false where it ends here, and its stat is set. */
-static bool find(struct caf_step *step, int *node, struct caf_token *token, size_t offset, int image, int kind, int *stat) {
+static bool find(struct caf_step *step, int *node, struct caf_token *token, size_t offset, int image, int kind,
+                 int *stat) {
     const struct caf_report report = { stat, NULL, 0 };
     *node = image ? caf_node(image) : caf_state.me;
     uintptr_t at = caf_token_at(token, *node, offset, &report);
@@ -28,7 +29,8 @@ static uint64_t bits_of(const void *value, int kind) {
     return bits;
 }
 
-void _gfortran_caf_atomic_define(struct caf_token *token, size_t offset, int image, void *value, int *stat, int type, int kind) {
+void _gfortran_caf_atomic_define(struct caf_token *token, size_t offset, int image, void *value, int *stat, int type,
+                                 int kind) {
     struct caf_step step;
     int node;
     (void)type;
@@ -39,7 +41,8 @@ void _gfortran_caf_atomic_define(struct caf_token *token, size_t offset, int ima
     caf_step_do(node, &step);
 }
 
-void _gfortran_caf_atomic_ref(struct caf_token *token, size_t offset, int image, void *value, int *stat, int type, int kind) {
+void _gfortran_caf_atomic_ref(struct caf_token *token, size_t offset, int image, void *value, int *stat, int type,
+                              int kind) {
     struct caf_step step;
     int node;
     (void)type;
@@ -50,8 +53,8 @@ void _gfortran_caf_atomic_ref(struct caf_token *token, size_t offset, int image,
     memcpy(value, &old, (size_t)kind);
 }
 
-void _gfortran_caf_atomic_cas(struct caf_token *token, size_t offset, int image, void *old, void *compare, void *new_value,
-                              int *stat, int type, int kind) {
+void _gfortran_caf_atomic_cas(struct caf_token *token, size_t offset, int image, void *old, void *compare,
+                              void *new_value, int *stat, int type, int kind) {
     struct caf_step step;
     int node;
     (void)type;
@@ -79,8 +82,8 @@ static enum caf_operation operation_of(int operation) {
     }
 }
 
-void _gfortran_caf_atomic_op(int operation, struct caf_token *token, size_t offset, int image, void *value, void *old, int *stat,
-                             int type, int kind) {
+void _gfortran_caf_atomic_op(int operation, struct caf_token *token, size_t offset, int image, void *value, void *old,
+                             int *stat, int type, int kind) {
     struct caf_step step;
     int node;
     (void)type;

@@ -23,7 +23,9 @@ static void not_allocated(int *stat) {
 
 /* ---- The array here. */
 
-static size_t extent(const struct caf_bounds *bounds) { return bounds->upper < bounds->lower ? 0 : (size_t)(bounds->upper - bounds->lower + 1); }
+static size_t extent(const struct caf_bounds *bounds) {
+    return bounds->upper < bounds->lower ? 0 : (size_t)(bounds->upper - bounds->lower + 1);
+}
 
 static bool has_shape(const struct caf_descriptor *array, const struct caf_section *section) {
     for (int k = 0; k < array->dtype.rank && k < section->rank; k++)
@@ -54,8 +56,9 @@ static void allocate_here(struct caf_descriptor *array, const struct caf_section
     array->base = caf_memory_again(array->base, count * array->dtype.elem_len);
 }
 
-void _gfortran_caf_get_by_ref(struct caf_token *token, int image, struct caf_descriptor *target, struct caf_reference *references,
-                              int target_kind, int source_kind, bool may_overlap, bool may_allocate, int *stat, int source_type) {
+void _gfortran_caf_get_by_ref(struct caf_token *token, int image, struct caf_descriptor *target,
+                              struct caf_reference *references, int target_kind, int source_kind, bool may_overlap,
+                              bool may_allocate, int *stat, int source_type) {
     struct caf_far far;
     struct caf_missing missing;
     (void)may_overlap;
@@ -89,8 +92,9 @@ static bool find_target(struct caf_far *far, struct caf_token *token, const stru
     return caf_refer(far, token, references, &missing);
 }
 
-void _gfortran_caf_send_by_ref(struct caf_token *token, int image, struct caf_descriptor *source, struct caf_reference *references,
-                               int target_kind, int source_kind, bool may_overlap, bool may_allocate, int *stat, int target_type) {
+void _gfortran_caf_send_by_ref(struct caf_token *token, int image, struct caf_descriptor *source,
+                               struct caf_reference *references, int target_kind, int source_kind, bool may_overlap,
+                               bool may_allocate, int *stat, int target_type) {
     struct caf_far far;
     (void)may_overlap;
     if (!start(&far, token, image, target_type, target_kind, stat))
@@ -111,9 +115,10 @@ static struct caf_descriptor shape_of(const struct caf_far *far) {
     return shape;
 }
 
-void _gfortran_caf_sendget_by_ref(struct caf_token *target_token, int target_image, struct caf_reference *target_references,
-                                  struct caf_token *source_token, int source_image, struct caf_reference *source_references,
-                                  int target_kind, int source_kind, bool may_overlap, int *target_stat, int *source_stat,
+void _gfortran_caf_sendget_by_ref(struct caf_token *target_token, int target_image,
+                                  struct caf_reference *target_references, struct caf_token *source_token,
+                                  int source_image, struct caf_reference *source_references, int target_kind,
+                                  int source_kind, bool may_overlap, int *target_stat, int *source_stat,
                                   int target_type, int source_type) {
     struct caf_far to, from;
     struct caf_missing missing;

@@ -1,6 +1,6 @@
-/* Collectives of the current team. Some of all images are the endpoint's (all_images.h). Else what is combined goes by messages
- * between pairs, log2 of the members times. Each result is the same at all members, bit by bit: the lower member's part always
- * comes first. */
+/* Collectives of the current team. Some of all images are the endpoint's (all_images.h). Else what is combined goes by
+ * messages between pairs, log2 of the members times. Each result is the same at all members, bit by bit: the lower
+ * member's part always comes first. */
 #include <stdlib.h>
 #include <string.h>
 
@@ -28,9 +28,13 @@ static struct pairs pairs_of(int size) {
     return (struct pairs){ power, size - power };
 }
 
-static int member_of(const struct pairs *pairs, int place) { return place < pairs->rest ? 2 * place + 1 : place + pairs->rest; }
+static int member_of(const struct pairs *pairs, int place) {
+    return place < pairs->rest ? 2 * place + 1 : place + pairs->rest;
+}
 
-static int place_of(const struct pairs *pairs, int index) { return index < 2 * pairs->rest ? index / 2 : index - pairs->rest; }
+static int place_of(const struct pairs *pairs, int index) {
+    return index < 2 * pairs->rest ? index / 2 : index - pairs->rest;
+}
 
 /* Elements of a part. */
 struct range {
@@ -43,15 +47,17 @@ static struct range half_of(struct range range, bool is_upper) {
     return is_upper ? (struct range){ range.first + lower, range.count - lower } : (struct range){ range.first, lower };
 }
 
-/* The steps of a reduction, by number: a pair's first one, those of halves as they are combined and as they are handed back,
- * a pair's last one, and answers to the last two. Then those where each member hands something to each: by sender, what it
- * doesn't combine, what it combined, and answers to that. */
+/* The steps of a reduction, by number: a pair's first one, those of halves as they are combined and as they are handed
+ * back, a pair's last one, and answers to the last two. Then those where each member hands something to each: by
+ * sender, what it doesn't combine, what it combined, and answers to that; and one that nobody takes, which tells the
+ * length alone. */
 enum { JOIN = 0, COMBINE = 1, GIVE = COMBINE + CAF_ROUNDS, RESULT = GIVE + CAF_ROUNDS, ANSWER = CAF_ROUNDS + 1 };
 enum { SHARES = 32, SUMS = SHARES + GASNET_MAXNODES, ANSWERS = SUMS + GASNET_MAXNODES };
-_Static_assert(ANSWER + GIVE > RESULT && ANSWER + RESULT < SHARES && ANSWERS + GASNET_MAXNODES <= CAF_STEPS, "each step has a number");
+enum { LENGTH = (int)ANSWERS + GASNET_MAXNODES };
+_Static_assert(ANSWER + GIVE > RESULT && ANSWER + RESULT < SHARES && LENGTH + 1 <= CAF_STEPS, "each step has a number");
 
-/* From so many bytes on a part goes by halves; from so many on the members get them from one another's segments; and where each
- * member's share has so many, from all of them at once. */
+/* From so many bytes on a part goes by halves; from so many on the members get them from one another's segments; and
+ * where each member's share has so many, from all of them at once. */
 enum { LONG = 1 << 15, SHARED = 1 << 16, SHARE = 1 << 13 };
 
 /* A part of an array that the members combine. */
@@ -60,11 +66,11 @@ struct exchange {
     const struct caf_combiner *combiner;
     struct pairs pairs;
     size_t count;
-    char *mine;   /* this image's numbers */
-    char *part;   /* where they were, and where the result is to be */
-    char *shared; /* where what becomes of them is: apart, if they are long */
-    char *room;   /* as long, for what comes, if they are long; else null */
-    bool is_shown; /* both are in the local segment, so others get what they need from there */
+    char *mine;       /* this image's numbers */
+    char *part;       /* where they were, and where the result is to be */
+    char *shared;     /* where what becomes of them is: apart, if they are long */
+    char *room;       /* as long, for what comes, if they are long; else null */
+    bool is_shown;    /* both are in the local segment, so others get what they need from there */
     struct range due; /* what of the result isn't there yet */
     uint32_t answers; /* the steps whose answers are due, as bits */
 };
@@ -109,9 +115,11 @@ static void combine_with(struct exchange *exchange, uint32_t step, int member, s
     struct caf_mail *mail = caf_mail_take(exchange->operation, step);
     if (!mail)
         return;
-    const void *mine = exchange->mine + first, *other = caf_mail_bytes(exchange->operation, mail, member, exchange->room, length);
+    const void *mine = exchange->mine + first,
+               *other = caf_mail_bytes(exchange->operation, mail, member, exchange->room, length);
     bool is_first = member < exchange->operation->team->index;
-    caf_combine(exchange->combiner, exchange->shared + first, is_first ? other : mine, is_first ? mine : other, range.count);
+    caf_combine(exchange->combiner, exchange->shared + first, is_first ? other : mine, is_first ? mine : other,
+                range.count);
     caf_mail_free(mail);
 }
 
@@ -123,7 +131,8 @@ static void bring(struct exchange *exchange, struct range next) {
     exchange->due = next;
 }
 
-/* Takes elements of the result that a member hands over. While they are on the way, what came before is brought to its place. */
+/* Takes elements of the result that a member hands over. While they are on the way, what came before is brought to its
+ * place. */
 static void take_over(struct exchange *exchange, uint32_t step, int member, struct range range) {
     size_t size = exchange->combiner->type.size, length = range.count * size;
     char *to = exchange->shared + range.first * size;
@@ -136,7 +145,8 @@ static void take_over(struct exchange *exchange, uint32_t step, int member, stru
         gasnet_wait_syncnb(coming);
         caf_mail_send(exchange->operation, ANSWER + step, member, "", 1);
     } else {
-        memcpy(to, mail->bytes, length);
+        if (length)
+            memcpy(to, caf_mail_here(exchange->operation, mail, length), length);
         bring(exchange, range);
     }
     caf_mail_free(mail);
@@ -154,7 +164,8 @@ static void exchange_whole(struct exchange *exchange) {
     }
 }
 
-/* The partners of a step combine a half each, and its halves in the next one; then they hand one another what they combined. */
+/* The partners of a step combine a half each, and its halves in the next one; then they hand one another what they
+ * combined. */
 static void exchange_halves(struct exchange *exchange) {
     const struct pairs *pairs = &exchange->pairs;
     int place = place_of(pairs, exchange->operation->team->index);
@@ -189,7 +200,8 @@ struct arrival {
     const char *bytes;
 };
 
-/* Waits until each other member handed something over, and begins to get what isn't here. False where a member is absent. */
+/* Waits until each other member handed something over, and begins to get what isn't here. False where a member is
+ * absent. */
 static bool gather(struct exchange *exchange, uint32_t steps, struct arrival *arrivals, char *const *rooms) {
     struct caf_operation *operation = exchange->operation;
     int size = operation->team->size, index = operation->team->index;
@@ -197,13 +209,13 @@ static bool gather(struct exchange *exchange, uint32_t steps, struct arrival *ar
         int member = (index + size - k) % size;
         struct arrival *arrival = &arrivals[member];
         struct caf_mail *mail = caf_mail_take(operation, steps + (uint32_t)member);
-        const struct range range = share_of(exchange, steps == SHARES ? index : member);
+        size_t length = share_of(exchange, steps == SHARES ? index : member).count * exchange->combiner->type.size;
         if (!mail)
             return false;
         arrival->mail = mail;
-        arrival->bytes = mail->place ? rooms[member] : (const char *)mail->bytes;
+        arrival->bytes = mail->place ? rooms[member] : caf_mail_here(operation, mail, length);
         if (mail->place)
-            arrival->coming = caf_mail_begin(operation, mail, member, rooms[member], range.count * exchange->combiner->type.size);
+            arrival->coming = caf_mail_begin(operation, mail, member, rooms[member], length);
     }
     return true;
 }
@@ -227,7 +239,8 @@ static void combine_share(struct exchange *exchange, struct arrival *arrivals) {
         gasnet_wait_syncnb(arrivals[member].coming);
         arrivals[member].coming = GASNET_INVALID_HANDLE;
         if (member)
-            caf_combine(exchange->combiner, sum, member == 1 ? arrivals[0].bytes : sum, arrivals[member].bytes, share.count);
+            caf_combine(exchange->combiner, sum, member == 1 ? arrivals[0].bytes : sum, arrivals[member].bytes,
+                        share.count);
     }
 }
 
@@ -282,7 +295,8 @@ static void spread_shares(struct exchange *exchange) {
 static void wait_for_answers(struct exchange *exchange) {
     const struct caf_team *team = exchange->operation->team;
     for (int member = 0; exchange->is_shown && member < team->size; member++) {
-        struct caf_mail *answer = member == team->index ? NULL : caf_mail_take(exchange->operation, ANSWERS + (uint32_t)member);
+        struct caf_mail *answer =
+            member == team->index ? NULL : caf_mail_take(exchange->operation, ANSWERS + (uint32_t)member);
         if (answer)
             caf_mail_free(answer);
     }
@@ -295,8 +309,8 @@ static void exchange_shares(struct exchange *exchange) {
     wait_for_answers(exchange);
 }
 
-/* Brings the rest of the result to its place. Others may get what is shared until they answered; where one is absent the memory
- * is left to them: it is left once, as the next collective knows of that one. */
+/* Brings the rest of the result to its place. Others may get what is shared until they answered; where one is absent
+ * the memory is left to them: it is left once, as the next collective knows of that one. */
 static void end_exchange(struct exchange *exchange) {
     struct caf_operation *operation = exchange->operation;
     if (!exchange->room)
@@ -321,6 +335,13 @@ static bool goes_by_shares(const struct exchange *exchange) {
            exchange->count * exchange->combiner->type.size / members >= SHARE;
 }
 
+/* Where a member with fewer elements would go by a collective of the endpoint, and so send no mail, it hears of this
+ * one's length before that waits for it. */
+static void tell_length(const struct caf_operation *operation, int member) {
+    if (caf_all_images_reduces(operation->team, 1))
+        caf_mail_send(operation, LENGTH, member, "", 0);
+}
+
 /* Of more members than a power of two, those of a pair come first. */
 static void exchange_by_pairs(struct exchange *exchange) {
     const struct range all = { 0, exchange->count };
@@ -332,6 +353,7 @@ static void exchange_by_pairs(struct exchange *exchange) {
         return;
     }
     if (is_paired) {
+        tell_length(exchange->operation, index - 1);
         combine_with(exchange, JOIN, index - 1, all);
         exchange->mine = exchange->shared;
     }
@@ -340,9 +362,15 @@ static void exchange_by_pairs(struct exchange *exchange) {
         hand_back(exchange, RESULT, index - 1, all);
 }
 
-static void reduce_block(struct caf_operation *operation, const struct caf_combiner *combiner, void *part, size_t count) {
-    struct exchange exchange = { .operation = operation, .combiner = combiner, .pairs = pairs_of(operation->team->size), .count = count,
-                                 .mine = part, .part = part, .shared = part };
+static void reduce_block(struct caf_operation *operation, const struct caf_combiner *combiner, void *part,
+                         size_t count) {
+    struct exchange exchange = { .operation = operation,
+                                 .combiner = combiner,
+                                 .pairs = pairs_of(operation->team->size),
+                                 .count = count,
+                                 .mine = part,
+                                 .part = part,
+                                 .shared = part };
     share(&exchange);
     (goes_by_shares(&exchange) ? exchange_shares : exchange_by_pairs)(&exchange);
     end_exchange(&exchange);
@@ -355,7 +383,8 @@ static void receive(struct caf_operation *operation, void *bytes, size_t length)
     struct caf_mail *mail = caf_mail_take(operation, 0);
     if (!mail)
         return;
-    memcpy(bytes, mail->bytes, length);
+    if (length)
+        memcpy(bytes, caf_mail_here(operation, mail, length), length);
     caf_mail_free(mail);
 }
 
@@ -403,11 +432,12 @@ static void part_end(struct part *part, bool is_result) {
     free(part->bytes);
 }
 
-static struct caf_operation begin(void) {
+static struct caf_operation begin(const char *call, const struct caf_descriptor *array) {
+    const struct caf_section section = caf_section_of(array, 0);
     caf_start();
     caf_settle_all();
     gasnet_AMPoll();
-    return caf_operation_begin(caf_state.team);
+    return caf_operation_begin(call, caf_section_length(&section));
 }
 
 static size_t block_of(size_t size) { return size >= BLOCK || !size ? 1 : BLOCK / size; }
@@ -437,20 +467,21 @@ static bool has_two_kinds(const struct caf_type *type) {
 }
 
 static void reduce_part(struct caf_operation *operation, const struct caf_combiner *combiner, const struct part *part) {
-    size_t size = combiner->type.size, most = block_of(size);
-    if (operation->code || !part->length)
-        return;
+    size_t size = combiner->type.size, most = block_of(size), all = part->length ? part->count : 0;
     bool is_of_all = caf_all_images_reduces(operation->team, part->length);
-    for (size_t done = 0; done < part->count && !operation->code; done += most, operation->block++) {
-        size_t count = part->count - done < most ? part->count - done : most;
+    if (!all && !operation->code) /* others see that it has no bytes */
+        reduce_block(operation, combiner, part->bytes, 0);
+    for (size_t done = 0; done < all && !operation->code; done += most, operation->block++) {
+        size_t count = all - done < most ? all - done : most;
         (is_of_all ? caf_all_images_reduce : reduce_block)(operation, combiner, part->bytes + done * size, count);
     }
 }
 
-static void reduce(struct caf_combiner *combiner, struct caf_descriptor *array, int result_image, const struct caf_report *report, const char *call) {
+static void reduce(struct caf_combiner *combiner, struct caf_descriptor *array, int result_image,
+                   const struct caf_report *report, const char *call) {
     if (!is_image(report, call, result_image, 0))
         return;
-    struct caf_operation operation = begin();
+    struct caf_operation operation = begin(call, array);
     bool has_result = !result_image || result_image == operation.team->index + 1;
     struct part part = part_of(array, has_result, call);
     combiner->type = (struct caf_type){ array->dtype.type, 0, array->dtype.elem_len };
@@ -465,8 +496,8 @@ static void reduce(struct caf_combiner *combiner, struct caf_descriptor *array, 
 
 /* ---- The calls.
  *
- * gfortran 12 hands on a copy of errmsg= itself in place of its address, so the arguments behind it move up by one place; then
- * the text can't be set, and in place of its address stands the argument that follows it. */
+ * gfortran 12 hands on a copy of errmsg= itself in place of its address, so the arguments behind it move up by one
+ * place; then the text can't be set, and in place of its address stands the argument that follows it. */
 
 enum { LEAST_ADDRESS = 65536 };
 
@@ -486,29 +517,33 @@ void _gfortran_caf_co_sum(struct caf_descriptor *array, int result_image, CAF_ER
     reduce(&combiner, array, result_image, &report, "co_sum");
 }
 
-void _gfortran_caf_co_min(struct caf_descriptor *array, int result_image, int *stat, char *errmsg, int length, size_t errmsg_len) {
+void _gfortran_caf_co_min(struct caf_descriptor *array, int result_image, int *stat, char *errmsg, int length,
+                          size_t errmsg_len) {
     const struct caf_report report = report_of(stat, errmsg, errmsg_len);
     struct caf_combiner combiner = { .reduction = CAF_MINIMUM, .length = letters_of(errmsg, length) };
     reduce(&combiner, array, result_image, &report, "co_min");
 }
 
-void _gfortran_caf_co_max(struct caf_descriptor *array, int result_image, int *stat, char *errmsg, int length, size_t errmsg_len) {
+void _gfortran_caf_co_max(struct caf_descriptor *array, int result_image, int *stat, char *errmsg, int length,
+                          size_t errmsg_len) {
     const struct caf_report report = report_of(stat, errmsg, errmsg_len);
     struct caf_combiner combiner = { .reduction = CAF_MAXIMUM, .length = letters_of(errmsg, length) };
     reduce(&combiner, array, result_image, &report, "co_max");
 }
 
-void _gfortran_caf_co_reduce(struct caf_descriptor *array, void *(*operation)(void *, void *), int flags, int result_image,
-                             int *stat, char *errmsg, int length, size_t errmsg_len) {
+void _gfortran_caf_co_reduce(struct caf_descriptor *array, void *(*operation)(void *, void *), int flags,
+                             int result_image, int *stat, char *errmsg, int length, size_t errmsg_len) {
     const struct caf_report report = report_of(stat, errmsg, errmsg_len);
-    struct caf_combiner combiner = { .reduction = CAF_REDUCE, .operation = operation, .flags = flags, .length = letters_of(errmsg, length) };
+    struct caf_combiner combiner = {
+        .reduction = CAF_REDUCE, .operation = operation, .flags = flags, .length = letters_of(errmsg, length)
+    };
     reduce(&combiner, array, result_image, &report, "co_reduce");
 }
 
 /* gfortran 12 sets neither the offset nor the span of the array that it makes for an object's component. */
 static void mend_span(struct caf_descriptor *array) {
     const struct caf_bounds *dim = array->dim;
-    if (array->dtype.rank == 1 && array->offset != (size_t)-(dim->lower * dim->stride))
+    if (array->dtype.rank == 1 && array->offset != (size_t) - (dim->lower * dim->stride))
         array->span = (ptrdiff_t)array->dtype.elem_len;
 }
 
@@ -521,8 +556,11 @@ static void meet(struct caf_operation *operation) {
 
 /* All images make the same barriers, also those that know already that one is absent. */
 static void broadcast_by_tree(struct caf_operation *operation, int source, const struct part *part) {
+    if (!part->length) /* others see that it has no bytes */
+        broadcast_block(operation, source, part->bytes, 0);
     for (size_t done = 0; done < part->length; done += BLOCK) {
-        broadcast_block(operation, source, part->bytes + done, part->length - done < BLOCK ? part->length - done : BLOCK);
+        broadcast_block(operation, source, part->bytes + done,
+                        part->length - done < BLOCK ? part->length - done : BLOCK);
         if (++operation->block % AHEAD == 0) /* the source doesn't run ahead of the others for long */
             meet(operation);
     }
@@ -540,9 +578,10 @@ static void broadcast_to_all(struct caf_operation *operation, int source, const 
 
 void _gfortran_caf_co_broadcast(struct caf_descriptor *array, int source_image, CAF_ERRORS) {
     const struct caf_report report = report_of(stat, errmsg, errmsg_len);
-    if (array->dtype.type == CAF_VOID || !is_image(&report, "co_broadcast", source_image, 1)) /* not the tokens of an object */
+    if (array->dtype.type == CAF_VOID ||
+        !is_image(&report, "co_broadcast", source_image, 1)) /* not the tokens of an object */
         return;
-    struct caf_operation operation = begin();
+    struct caf_operation operation = begin("co_broadcast", array);
     mend_span(array);
     struct part part = part_of(array, true, "co_broadcast");
     bool is_of_all = caf_all_images_broadcasts(operation.team, part.length);

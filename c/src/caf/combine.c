@@ -11,32 +11,33 @@ typedef _Complex float __attribute__((mode(TC))) complex_quad;
 
 /* ---- Sums, minima and maxima. */
 
-typedef void applier(const struct caf_combiner *combiner, char *result, const char *first, const char *second, size_t count);
+typedef void applier(const struct caf_combiner *combiner, char *result, const char *first, const char *second,
+                     size_t count);
 
 /* The result may be one of the arguments, element by element; so elements don't depend on one another. */
 #pragma GCC push_options
 #pragma GCC optimize("O3")
-#define APPLY(name, type, expression)                                                                                      \
-    static void name(const struct caf_combiner *combiner, char *result, const char *first, const char *second, size_t count) { \
-        (void)combiner;                                                                                                    \
-        _Pragma("GCC ivdep")                                                                                               \
-        for (size_t at = 0; at < count * sizeof(type); at += sizeof(type)) {                                               \
-            type a, b;                                                                                                     \
-            memcpy(&a, first + at, sizeof a);                                                                              \
-            memcpy(&b, second + at, sizeof b);                                                                             \
-            a = (type)(expression);                                                                                        \
-            memcpy(result + at, &a, sizeof a);                                                                             \
-        }                                                                                                                  \
+#define APPLY(name, type, expression)                                                                                  \
+    static void name(const struct caf_combiner *combiner, char *result, const char *first, const char *second,         \
+                     size_t count) {                                                                                   \
+        (void)combiner;                                                                                                \
+        _Pragma("GCC ivdep") for (size_t at = 0; at < count * sizeof(type); at += sizeof(type)) {                      \
+            type a, b;                                                                                                 \
+            memcpy(&a, first + at, sizeof a);                                                                          \
+            memcpy(&b, second + at, sizeof b);                                                                         \
+            a = (type)(expression);                                                                                    \
+            memcpy(result + at, &a, sizeof a);                                                                         \
+        }                                                                                                              \
     }
 
-#define INTEGER(bits, type, unsigned_type)                                      \
-    APPLY(sum_i##bits, type, (unsigned_type)a + (unsigned_type)b)               \
-    APPLY(min_i##bits, type, b < a ? b : a)                                     \
+#define INTEGER(bits, type, unsigned_type)                                                                             \
+    APPLY(sum_i##bits, type, (unsigned_type)a + (unsigned_type)b)                                                      \
+    APPLY(min_i##bits, type, b < a ? b : a)                                                                            \
     APPLY(max_i##bits, type, b > a ? b : a)
 
-#define REAL(kind, type)                                                        \
-    APPLY(sum_r##kind, type, a + b)                                             \
-    APPLY(min_r##kind, type, b < a || a != a ? b : a)                           \
+#define REAL(kind, type)                                                                                               \
+    APPLY(sum_r##kind, type, a + b)                                                                                    \
+    APPLY(min_r##kind, type, b < a || a != a ? b : a)                                                                  \
     APPLY(max_r##kind, type, b > a || a != a ? b : a)
 
 INTEGER(8, int8_t, unsigned)
@@ -68,7 +69,8 @@ static int compare_texts(const struct caf_combiner *combiner, const void *first,
     return 0;
 }
 
-static void choose_text(const struct caf_combiner *combiner, char *result, const char *first, const char *second, size_t count) {
+static void choose_text(const struct caf_combiner *combiner, char *result, const char *first, const char *second,
+                        size_t count) {
     size_t size = combiner->type.size;
     for (size_t at = 0; at < count * size; at += size) {
         int order = compare_texts(combiner, first + at, second + at);
@@ -79,19 +81,19 @@ static void choose_text(const struct caf_combiner *combiner, char *result, const
 
 /* ---- The operation of co_reduce: results and arguments of each type, by reference or by value. */
 
-#define OPERATION(name, type)                                                                                              \
-    static void reduce_##name(const struct caf_combiner *combiner, char *result, const char *first, const char *second,    \
-                              size_t count) {                                                                              \
-        for (size_t at = 0; at < count * sizeof(type); at += sizeof(type)) {                                               \
-            type a, b;                                                                                                     \
-            memcpy(&a, first + at, sizeof a);                                                                              \
-            memcpy(&b, second + at, sizeof b);                                                                             \
-            if (combiner->flags & CAF_ARGUMENT_VALUE)                                                                      \
-                a = ((type(*)(type, type))combiner->operation)(a, b);                                                      \
-            else                                                                                                           \
-                a = ((type(*)(type *, type *))combiner->operation)(&a, &b);                                                \
-            memcpy(result + at, &a, sizeof a);                                                                             \
-        }                                                                                                                  \
+#define OPERATION(name, type)                                                                                          \
+    static void reduce_##name(const struct caf_combiner *combiner, char *result, const char *first,                    \
+                              const char *second, size_t count) {                                                      \
+        for (size_t at = 0; at < count * sizeof(type); at += sizeof(type)) {                                           \
+            type a, b;                                                                                                 \
+            memcpy(&a, first + at, sizeof a);                                                                          \
+            memcpy(&b, second + at, sizeof b);                                                                         \
+            if (combiner->flags & CAF_ARGUMENT_VALUE)                                                                  \
+                a = ((type(*)(type, type))combiner->operation)(a, b);                                                  \
+            else                                                                                                       \
+                a = ((type(*)(type *, type *))combiner->operation)(&a, &b);                                            \
+            memcpy(result + at, &a, sizeof a);                                                                         \
+        }                                                                                                              \
     }
 
 #pragma GCC diagnostic ignored "-Wcast-function-type" /* gfortran hands all of them on as one type */
@@ -120,7 +122,8 @@ static struct three three_of(size_t size) {
 }
 
 /* A function of characters: the result's place and length come first, the arguments' lengths last. */
-static void reduce_text(const struct caf_combiner *combiner, char *result, const char *first, const char *second, size_t count) {
+static void reduce_text(const struct caf_combiner *combiner, char *result, const char *first, const char *second,
+                        size_t count) {
     typedef void operation(char *, size_t, char *, char *, size_t, size_t);
     size_t size = combiner->type.size, length = combiner->length;
     const struct three three = three_of(size);
@@ -133,9 +136,10 @@ static void reduce_text(const struct caf_combiner *combiner, char *result, const
     free(three.made);
 }
 
-/* A function whose result goes by its place: so do structures of more than 16 bytes, and with caf all of them. Such a function
- * answers that place; where it doesn't, its result is in registers that its type alone can tell. */
-static void reduce_structure(const struct caf_combiner *combiner, char *result, const char *first, const char *second, size_t count) {
+/* A function whose result goes by its place: so do structures of more than 16 bytes, and with caf all of them. Such a
+ * function answers that place; where it doesn't, its result is in registers that its type alone can tell. */
+static void reduce_structure(const struct caf_combiner *combiner, char *result, const char *first, const char *second,
+                             size_t count) {
     typedef char *operation(char *, char *, char *);
     size_t size = combiner->type.size;
     const struct three three = three_of(size);
@@ -144,7 +148,9 @@ static void reduce_structure(const struct caf_combiner *combiner, char *result, 
         memcpy(three.a, first + at, size);
         memcpy(three.b, second + at, size);
         if (((operation *)combiner->operation)(three.made, three.a, three.b) != three.made)
-            caf_die("co_reduce: the operation's result is a derived type of %zu bytes that comes in registers; compile the operation by caf, or with -fpcc-struct-return", size);
+            caf_die("co_reduce: the operation's result is a derived type of %zu bytes that comes in registers; compile "
+                    "the operation by caf, or with -fpcc-struct-return",
+                    size);
         memcpy(result + at, three.made, size);
     }
     free(three.made);
@@ -200,10 +206,13 @@ static applier *find(const struct caf_combiner *combiner) {
 void caf_combiner_start(struct caf_combiner *combiner) {
     combiner->apply = combiner->flags & CAF_ARGUMENT_DESCRIPTOR ? NULL : find(combiner);
     if (!combiner->apply)
-        caf_die("a collective of elements of type %d and %zu bytes, with its operation called in the way %d, isn't there", combiner->type.type, combiner->type.size, combiner->flags);
+        caf_die(
+            "a collective of elements of type %d and %zu bytes, with its operation called in the way %d, isn't there",
+            combiner->type.type, combiner->type.size, combiner->flags);
 }
 
-void caf_combine(const struct caf_combiner *combiner, void *result, const void *first, const void *second, size_t count) {
+void caf_combine(const struct caf_combiner *combiner, void *result, const void *first, const void *second,
+                 size_t count) {
     combiner->apply(combiner, result, first, second, count);
 }
 

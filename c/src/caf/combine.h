@@ -17,17 +17,19 @@ struct caf_combiner {
     size_t length;                      /* of characters: the letters of an element */
     void *(*operation)(void *, void *); /* of CAF_REDUCE */
     int flags;
-    void (*apply)(const struct caf_combiner *combiner, char *result, const char *first, const char *second, size_t count);
+    void (*apply)(const struct caf_combiner *combiner, char *result, const char *first, const char *second,
+                  size_t count);
 };
 
 /* Chooses how elements are combined; where their type has no such way, all images end. */
 void caf_combiner_start(struct caf_combiner *combiner);
 
 /* result[i] becomes what first[i] and second[i] give; the result may be one of them. */
-void caf_combine(const struct caf_combiner *combiner, void *result, const void *first, const void *second, size_t count);
+void caf_combine(const struct caf_combiner *combiner, void *result, const void *first, const void *second,
+                 size_t count);
 
-/* How many of the reals look like kind 10, and how many like kind 16. gfortran hands on that they have 16 bytes, not which
- * kind they have, and what stands beside the ten bytes of kind 10 may be anything. */
+/* How many of the reals look like kind 10, and how many like kind 16. gfortran hands on that they have 16 bytes, not
+ * which kind they have, and what stands beside the ten bytes of kind 10 may be anything. */
 struct caf_votes {
     uint32_t extended, quad;
 };

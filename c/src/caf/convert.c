@@ -28,11 +28,11 @@ bool caf_is_same_type(const struct caf_type *a, const struct caf_type *b) {
 
 /* ---- Numbers. The bytes may lie anywhere. */
 
-#define READ(type, field)                       \
-    do {                                        \
-        type value_;                            \
-        memcpy(&value_, at, sizeof value_);     \
-        number->field = value_;                 \
+#define READ(type, field)                                                                                              \
+    do {                                                                                                               \
+        type value_;                                                                                                   \
+        memcpy(&value_, at, sizeof value_);                                                                            \
+        number->field = value_;                                                                                        \
     } while (0)
 
 static _Noreturn void unknown(const struct caf_type *type) {
@@ -63,7 +63,9 @@ static void read_integer(struct number *number, const struct caf_type *type, con
 }
 
 static void read_real(__float128 *real, int kind, const void *at, const struct caf_type *type) {
-    struct { __float128 real; } copy, *number = &copy;
+    struct {
+        __float128 real;
+    } copy, *number = &copy;
     switch (kind) {
     case 4:
         READ(float, real);
@@ -94,10 +96,10 @@ static struct number read_number(const struct caf_type *type, const void *at) {
     return number;
 }
 
-#define WRITE(type, value)                      \
-    do {                                        \
-        type value_ = (type)(value);            \
-        memcpy(at, &value_, sizeof value_);     \
+#define WRITE(type, value)                                                                                             \
+    do {                                                                                                               \
+        type value_ = (type)(value);                                                                                   \
+        memcpy(at, &value_, sizeof value_);                                                                            \
     } while (0)
 
 static void write_integer(const struct caf_type *type, void *at, __int128 whole) {
@@ -218,10 +220,12 @@ static void assign(const struct caf_type *to, void *target, const struct caf_typ
         const struct number number = read_number(from, source);
         write_number(to, target, &number);
     } else
-        caf_die("elements of type %d, of %zu bytes, can't become those of type %d, of %zu bytes", from->type, from->size, to->type, to->size);
+        caf_die("elements of type %d, of %zu bytes, can't become those of type %d, of %zu bytes", from->type,
+                from->size, to->type, to->size);
 }
 
-void caf_convert(const struct caf_type *to, void *target, const struct caf_type *from, const void *source, size_t step, size_t count) {
+void caf_convert(const struct caf_type *to, void *target, const struct caf_type *from, const void *source, size_t step,
+                 size_t count) {
     for (size_t i = 0; i < count; i++)
         assign(to, (char *)target + i * to->size, from, (const char *)source + i * step);
 }

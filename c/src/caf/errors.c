@@ -43,7 +43,8 @@ void caf_report_code(const struct caf_report *report, int code, const char *call
     if (!code)
         caf_report_success(report);
     else
-        caf_report_error(report, code, "%s: an image has %s", call, code == CAF_STAT_STOPPED_IMAGE ? "stopped" : "failed");
+        caf_report_error(report, code, "%s: an image has %s", call,
+                         code == CAF_STAT_STOPPED_IMAGE ? "stopped" : "failed");
 }
 
 void caf_die(const char *format, ...) {

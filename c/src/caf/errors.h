@@ -15,7 +15,8 @@ struct caf_report {
 void caf_report_success(const struct caf_report *report);
 
 /* Sets stat= to the code, and errmsg= to the text, cut or padded by blanks. Where there is no stat=, all images end. */
-void caf_report_error(const struct caf_report *report, int code, const char *format, ...) __attribute__((format(printf, 3, 4)));
+void caf_report_error(const struct caf_report *report, int code, const char *format, ...)
+    __attribute__((format(printf, 3, 4)));
 
 /* Reports what a synchronisation was answered: 0, CAF_STAT_STOPPED_IMAGE or CAF_STAT_FAILED_IMAGE. */
 void caf_report_code(const struct caf_report *report, int code, const char *call);

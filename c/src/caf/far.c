@@ -98,7 +98,8 @@ static void write_listed(struct letter *letter, struct caf_walk *walk, size_t ru
 }
 
 /* The section that a message tells; its list, where it has one, is written as a table of places. */
-static struct caf_section read_letter(const unsigned char *bytes, struct head *head, size_t *length, ptrdiff_t *places) {
+static struct caf_section read_letter(const unsigned char *bytes, struct head *head, size_t *length,
+                                      ptrdiff_t *places) {
     memcpy(head, bytes, sizeof *head);
     struct caf_section section = caf_section_bytes((uintptr_t)head->base, (size_t)head->run);
     const struct stretch *stretches = (const struct stretch *)(bytes + sizeof *head);
@@ -195,7 +196,8 @@ struct getting {
     size_t left;
 };
 
-void caf_get_handler(gasnet_token_t from, void *bytes, size_t length, int32_t low, int32_t high, int32_t place_low, int32_t place_high) {
+void caf_get_handler(gasnet_token_t from, void *bytes, size_t length, int32_t low, int32_t high, int32_t place_low,
+                     int32_t place_high) {
     _Alignas(16) unsigned char packed[ROOM];
     struct head head;
     ptrdiff_t places[LISTED];
@@ -206,7 +208,8 @@ void caf_get_handler(gasnet_token_t from, void *bytes, size_t length, int32_t lo
     gasnet_AMReplyMedium4(from, CAF_GET_DONE, packed, head.length, low, high, place_low, place_high);
 }
 
-void caf_get_done_handler(gasnet_token_t from, void *bytes, size_t length, int32_t low, int32_t high, int32_t place_low, int32_t place_high) {
+void caf_get_done_handler(gasnet_token_t from, void *bytes, size_t length, int32_t low, int32_t high, int32_t place_low,
+                          int32_t place_high) {
     struct getting *getting = (struct getting *)(uintptr_t)caf_join(low, high);
     (void)from;
     memcpy(getting->bytes + caf_join(place_low, place_high), bytes, length);
@@ -215,7 +218,8 @@ void caf_get_done_handler(gasnet_token_t from, void *bytes, size_t length, int32
 
 static void send_get(int node, const struct letter *letter, const struct getting *getting, size_t place) {
     uint64_t at = caf_address(getting);
-    gasnet_AMRequestMedium4((gasnet_node_t)node, CAF_GET, letter->bytes, letter->length, caf_low(at), caf_high(at), caf_low(place), caf_high(place));
+    gasnet_AMRequestMedium4((gasnet_node_t)node, CAF_GET, letter->bytes, letter->length, caf_low(at), caf_high(at),
+                            caf_low(place), caf_high(place));
 }
 
 static void get_strided(int node, const struct caf_section *from, struct getting *getting, size_t place) {

@@ -7,8 +7,8 @@
 
 #include "section.h"
 
-/* Puts bytes into a section of a node. The bytes may be used again at the return; the section has them at the latest when
- * a settling returns. Puts and gets of one image that share bytes keep their order. */
+/* Puts bytes into a section of a node. The bytes may be used again at the return; the section has them at the latest
+ * when a settling returns. Puts and gets of one image that share bytes keep their order. */
 void caf_store(int node, const struct caf_section *to, const void *bytes);
 
 /* Gets a section of a node. */

@@ -5,8 +5,10 @@
 #include <string.h>
 #include <sys/random.h>
 
+#include "collectives.h"
 #include "errors.h"
 #include "far.h"
+#include "runner.h"
 #include "state.h"
 #include "step.h"
 
@@ -97,7 +99,8 @@ static void tell_teams(void) {
 static void tell_condition(enum caf_condition condition) {
     for (int node = 0; node < caf_state.images; node++)
         if (node != caf_state.me)
-            gasnet_AMRequestShort2((gasnet_node_t)node, CAF_CONDITION, (int32_t)condition, (int32_t)caf_state.peers[node].sent);
+            gasnet_AMRequestShort2((gasnet_node_t)node, CAF_CONDITION, (int32_t)condition,
+                                   (int32_t)caf_state.peers[node].sent);
 }
 
 void caf_leave(enum caf_condition condition) {
@@ -120,11 +123,21 @@ static void at_exit(int status, void *nothing) {
 }
 
 static gasnet_handlerentry_t handlers[] = {
-    { CAF_PUT, caf_put_handler }, { CAF_PUT_DONE, caf_put_done_handler }, { CAF_GET, caf_get_handler },
-    { CAF_GET_DONE, caf_get_done_handler }, { CAF_STEP, caf_step_handler }, { CAF_STEP_DONE, caf_step_done_handler },
-    { CAF_MAKE, caf_make_handler }, { CAF_MAKE_DONE, caf_make_done_handler }, { CAF_TICK, caf_tick_handler },
-    { CAF_ROUND, caf_round_handler }, { CAF_MEET, caf_meet_handler }, { CAF_MAIL, caf_mail_handler },
-    { CAF_PLACE, caf_place_handler }, { CAF_BEGAN, caf_began_handler }, { CAF_CONDITION, caf_condition_handler },
+    { CAF_PUT, caf_put_handler },
+    { CAF_PUT_DONE, caf_put_done_handler },
+    { CAF_GET, caf_get_handler },
+    { CAF_GET_DONE, caf_get_done_handler },
+    { CAF_STEP, caf_step_handler },
+    { CAF_STEP_DONE, caf_step_done_handler },
+    { CAF_MAKE, caf_make_handler },
+    { CAF_MAKE_DONE, caf_make_done_handler },
+    { CAF_TICK, caf_tick_handler },
+    { CAF_ROUND, caf_round_handler },
+    { CAF_MEET, caf_meet_handler },
+    { CAF_MAIL, caf_mail_handler },
+    { CAF_PLACE, caf_place_handler },
+    { CAF_BEGAN, caf_began_handler },
+    { CAF_CONDITION, caf_condition_handler },
     { CAF_ERROR, caf_error_handler },
 };
 
@@ -137,7 +150,8 @@ static void start_seed(void) {
     caf_state.seed = seeds[0];
 }
 
-/* GASNet raises SIGQUIT where another node ends the job. libgfortran would write a backtrace then, and end with the signal. */
+/* GASNet raises SIGQUIT where another node ends the job. libgfortran would write a backtrace then, and end with the
+ * signal. */
 static void block_quit(void) {
     sigset_t quit;
     sigemptyset(&quit);
@@ -151,6 +165,11 @@ static bool is_set(const char *name) {
     if (text && strcmp(text, "0") && strcmp(text, "1"))
         caf_die("%s is '%s': it may be 0 or 1", name, text);
     return text && *text == '1';
+}
+
+/* Images called a collective of the endpoint with other lengths. */
+static void end_by_mismatch(int node) {
+    caf_die("%s: image %d brings another length, or calls another collective", caf_state.call, node + 1);
 }
 
 void caf_start(void) {
@@ -170,6 +189,7 @@ void caf_start(void) {
     caf_heap_start(&caf_state.heap, caf_state.segments[caf_state.me].addr, caf_state.segments[caf_state.me].size);
     caf_team_start();
     caf_steps_start();
+    gasnetl_collectives_on_mismatch(end_by_mismatch);
     on_exit(at_exit, NULL);
     start_seed();
 }
@@ -209,12 +229,10 @@ void caf_error_handler(gasnet_token_t from) {
 }
 
 static void end_others(void) {
-    const char *runner = gasnet_getenv("GASNET_RUNNER");
     for (int node = 0; node < caf_state.images; node++)
         if (node != caf_state.me)
             gasnet_AMRequestShort0((gasnet_node_t)node, CAF_ERROR);
-    if (runner && atoi(runner) > 1)
-        kill(atoi(runner), SIGUSR1);
+    gasnetl_runner_tell(GASNETL_ENDED_WELL, (unsigned)caf_state.me);
 }
 
 enum { STATUS = 0xff }; /* what a process's status keeps of a code */
@@ -227,7 +245,9 @@ void _gfortran_caf_error_stop(int code, bool quiet) {
     _gfortran_error_stop_numeric(code, quiet);
 }
 
-void _gfortran_caf_error_stop_str(const char *text, size_t length, bool quiet) { _gfortran_error_stop_string(text, length, quiet); }
+void _gfortran_caf_error_stop_str(const char *text, size_t length, bool quiet) {
+    _gfortran_error_stop_string(text, length, quiet);
+}
 
 void _gfortran_caf_fail_image(void) {
     caf_start();
@@ -280,8 +300,8 @@ int _gfortran_caf_image_status(int image, int team) {
     }
 }
 
-/* Makes the array of the images of this condition: integers of the kind, from index 0, in memory of malloc. Where there is
- * none the array has no memory, as of libgfortran's own library. */
+/* Makes the array of the images of this condition: integers of the kind, from index 0, in memory of malloc. Where there
+ * is none the array has no memory, as of libgfortran's own library. */
 static void list_images(struct caf_descriptor *array, enum caf_condition condition, const int *kind) {
     const struct caf_team *team = caf_state.team;
     size_t bytes = kind ? (size_t)*kind : sizeof(int);

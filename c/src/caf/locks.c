@@ -1,5 +1,5 @@
-/* Locks, critical sections and events. Each is a cell of 8 bytes of its coarray. A lock's cell holds the image that has it,
- * from 1, or 0. An event's cell counts the posts that weren't waited for. */
+/* Locks, critical sections and events. Each is a cell of 8 bytes of its coarray. A lock's cell holds the image that has
+ * it, from 1, or 0. An event's cell counts the posts that weren't waited for. */
 #include <time.h>
 
 #include "errors.h"

@@ -17,28 +17,33 @@ static int rank_of(const struct caf_reference *array) {
 }
 
 /* Adds the places from one index to another one. The bounds of the dimension and the bytes of an index are known. */
-static void add_range(struct caf_section *section, ptrdiff_t first, ptrdiff_t last, ptrdiff_t by, ptrdiff_t lower, ptrdiff_t step) {
+static void add_range(struct caf_section *section, ptrdiff_t first, ptrdiff_t last, ptrdiff_t by, ptrdiff_t lower,
+                      ptrdiff_t step) {
     bool is_empty = !by || (by > 0 ? last < first : last > first);
     section->base += (uintptr_t)((first - lower) * step);
     caf_section_add(section, is_empty ? 0 : (size_t)((last - first) / by + 1), by * step, NULL);
 }
 
-static void add_vector(struct caf_section *section, const void *vector, size_t count, int kind, ptrdiff_t lower, ptrdiff_t step) {
+static void add_vector(struct caf_section *section, const void *vector, size_t count, int kind, ptrdiff_t lower,
+                       ptrdiff_t step) {
     ptrdiff_t *places = caf_memory(count * sizeof *places);
     for (size_t i = 0; i < count; i++)
         places[i] = (caf_index(vector, kind, i) - lower) * step;
     caf_section_add(section, count, 0, places);
 }
 
-/* Applies the subscripts of an array that has a descriptor. What a triplet leaves out is the lower bound, and the upper one, whatever
- * its stride is. */
-static void subscript(struct caf_section *section, const struct caf_reference *array, const struct caf_bounds *dim, ptrdiff_t span) {
+/* Applies the subscripts of an array that has a descriptor. What a triplet leaves out is the lower bound, and the upper
+ * one, whatever its stride is. */
+static void subscript(struct caf_section *section, const struct caf_reference *array, const struct caf_bounds *dim,
+                      ptrdiff_t span) {
     for (int k = 0; k < rank_of(array); k++) {
         ptrdiff_t lower = dim[k].lower, upper = dim[k].upper, step = dim[k].stride * span;
-        ptrdiff_t start = array->u.array.dim[k].s.start, end = array->u.array.dim[k].s.end, by = array->u.array.dim[k].s.stride;
+        ptrdiff_t start = array->u.array.dim[k].s.start, end = array->u.array.dim[k].s.end,
+                  by = array->u.array.dim[k].s.stride;
         switch (array->u.array.mode[k]) {
         case CAF_MODE_VECTOR:
-            add_vector(section, array->u.array.dim[k].v.vector, array->u.array.dim[k].v.nvec, array->u.array.dim[k].v.kind, lower, step);
+            add_vector(section, array->u.array.dim[k].v.vector, array->u.array.dim[k].v.nvec,
+                       array->u.array.dim[k].v.kind, lower, step);
             break;
         case CAF_MODE_FULL:
             add_range(section, lower, upper, by, lower, step);
@@ -65,10 +70,12 @@ static void subscript(struct caf_section *section, const struct caf_reference *a
 static void subscript_static(struct caf_section *section, const struct caf_reference *array) {
     ptrdiff_t item = (ptrdiff_t)array->item_size;
     for (int k = 0; k < rank_of(array); k++) {
-        ptrdiff_t start = array->u.array.dim[k].s.start, end = array->u.array.dim[k].s.end, by = array->u.array.dim[k].s.stride;
+        ptrdiff_t start = array->u.array.dim[k].s.start, end = array->u.array.dim[k].s.end,
+                  by = array->u.array.dim[k].s.stride;
         switch (array->u.array.mode[k]) {
         case CAF_MODE_VECTOR:
-            add_vector(section, array->u.array.dim[k].v.vector, array->u.array.dim[k].v.nvec, array->u.array.dim[k].v.kind, 0, item);
+            add_vector(section, array->u.array.dim[k].v.vector, array->u.array.dim[k].v.nvec,
+                       array->u.array.dim[k].v.kind, 0, item);
             break;
         case CAF_MODE_FULL:
         case CAF_MODE_RANGE:
@@ -95,7 +102,8 @@ static struct region region_of(const struct caf_descriptor *array, int rank, ptr
     struct region region;
     for (int k = 0; k < rank; k++) {
         const struct caf_bounds *dim = &array->dim[k];
-        caf_section_add(&all, dim->upper < dim->lower ? 0 : (size_t)(dim->upper - dim->lower + 1), dim->stride * span, NULL);
+        caf_section_add(&all, dim->upper < dim->lower ? 0 : (size_t)(dim->upper - dim->lower + 1), dim->stride * span,
+                        NULL);
     }
     caf_section_hull(&all, &region.low, &region.high);
     return region;
@@ -122,11 +130,14 @@ static void read_far(int node, uintptr_t at, void *bytes, size_t length) {
     caf_fetch(node, &section, bytes);
 }
 
-static size_t descriptor_size(int rank) { return offsetof(struct caf_descriptor, dim) + (size_t)rank * sizeof(struct caf_bounds); }
+static size_t descriptor_size(int rank) {
+    return offsetof(struct caf_descriptor, dim) + (size_t)rank * sizeof(struct caf_bounds);
+}
 
-/* Goes to what a component's descriptor or pointer leads to. Answers the last reference that was used, or null where nothing
- * is allocated. */
-static const struct caf_reference *follow(struct caf_far *far, const struct caf_reference *component, struct region *region) {
+/* Goes to what a component's descriptor or pointer leads to. Answers the last reference that was used, or null where
+ * nothing is allocated. */
+static const struct caf_reference *follow(struct caf_far *far, const struct caf_reference *component,
+                                          struct region *region) {
     const struct caf_reference *next = component->next;
     struct caf_descriptor array = { .base = NULL };
     bool is_array = next && next->type == CAF_REFERS_ARRAY;
@@ -145,16 +156,17 @@ static const struct caf_reference *follow(struct caf_far *far, const struct caf_
     return next;
 }
 
-/* gfortran 12 leaves out the token of a scalar pointer to the type that it is a component of. What it leads to is longer than
- * what the object has behind the pointer's place. */
+/* gfortran 12 leaves out the token of a scalar pointer to the type that it is a component of. What it leads to is
+ * longer than what the object has behind the pointer's place. */
 static bool leads_away(const struct caf_far *far, const struct caf_reference *component) {
     const struct caf_reference *next = component->next;
     size_t offset = (size_t)component->u.component.offset;
     return next && next->type == CAF_REFERS_COMPONENT && offset + component->item_size > far->section.run;
 }
 
-static const struct caf_reference *go_to_component(struct caf_far *far, const struct caf_token *token, const struct caf_reference *component,
-                                                   struct caf_missing *missing, struct region *region) {
+static const struct caf_reference *go_to_component(struct caf_far *far, const struct caf_token *token,
+                                                   const struct caf_reference *component, struct caf_missing *missing,
+                                                   struct region *region) {
     const uintptr_t object = far->section.base;
     const ptrdiff_t token_offset = component->u.component.token_offset;
     const bool is_recursive = !token_offset && leads_away(far, component);
@@ -170,7 +182,8 @@ static const struct caf_reference *go_to_component(struct caf_far *far, const st
     return last;
 }
 
-bool caf_refer(struct caf_far *far, struct caf_token *token, const struct caf_reference *reference, struct caf_missing *missing) {
+bool caf_refer(struct caf_far *far, struct caf_token *token, const struct caf_reference *reference,
+               struct caf_missing *missing) {
     struct region region = { far->section.base, far->section.base + token->bytes };
     ptrdiff_t span;
     missing->component = NULL;
@@ -194,7 +207,8 @@ bool caf_refer(struct caf_far *far, struct caf_token *token, const struct caf_re
     }
     far->type.size = far->section.run;
     if (!far->type.size && far->type.type == CAF_CHARACTER && missing->component)
-        caf_die("a component is referred to that is a text of deferred length: gfortran 12 doesn't hand on how long it is");
+        caf_die(
+            "a component is referred to that is a text of deferred length: gfortran 12 doesn't hand on how long it is");
     check_within(far, &region);
     return true;
 }
@@ -275,8 +289,12 @@ void caf_make_done_handler(gasnet_token_t from, int32_t low, int32_t high, int32
 void caf_make(int node, const struct caf_missing *missing, const struct caf_descriptor *shape, size_t item) {
     const struct caf_reference *array = missing->component->next;
     struct made made = { false };
-    struct making making = { .slot = missing->slot, .token_slot = missing->token_slot, .answer = caf_address(&made), .item = item,
-                             .type = (uint32_t)shape->dtype.type, .is_array = array != NULL };
+    struct making making = { .slot = missing->slot,
+                             .token_slot = missing->token_slot,
+                             .answer = caf_address(&made),
+                             .item = item,
+                             .type = (uint32_t)shape->dtype.type,
+                             .is_array = array != NULL };
     if (array && rank_of(array) != shape->dtype.rank)
         caf_die("a component that isn't allocated is assigned an array of another rank");
     making.rank = array ? (uint32_t)shape->dtype.rank : 0;

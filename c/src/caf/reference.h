@@ -1,5 +1,5 @@
-/* References that go through components which are allocated apart: the descriptors and pointers on the way are read from the
- * image that has them. */
+/* References that go through components which are allocated apart: the descriptors and pointers on the way are read
+ * from the image that has them. */
 #ifndef CAF_REFERENCE_H
 #define CAF_REFERENCE_H
 
@@ -19,7 +19,8 @@ struct caf_missing {
 
 /* Finds the section that a reference names at a node, and its elements' size. False where a component on the way isn't
  * allocated; then `missing` says which. */
-bool caf_refer(struct caf_far *far, struct caf_token *token, const struct caf_reference *reference, struct caf_missing *missing);
+bool caf_refer(struct caf_far *far, struct caf_token *token, const struct caf_reference *reference,
+               struct caf_missing *missing);
 
 /* Allocates the component that is missing at its node, in the shape of the array; or allocates it anew. */
 void caf_make(int node, const struct caf_missing *missing, const struct caf_descriptor *shape, size_t item);

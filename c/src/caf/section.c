@@ -5,7 +5,9 @@
 
 #include "errors.h"
 
-struct caf_section caf_section_bytes(uintptr_t base, size_t length) { return (struct caf_section){ .base = base, .run = length }; }
+struct caf_section caf_section_bytes(uintptr_t base, size_t length) {
+    return (struct caf_section){ .base = base, .run = length };
+}
 
 void caf_section_add(struct caf_section *section, size_t count, ptrdiff_t stride, ptrdiff_t *places) {
     if (section->rank == CAF_RANKS)
@@ -28,7 +30,8 @@ static size_t extent(ptrdiff_t first, ptrdiff_t last, ptrdiff_t stride) {
 struct caf_section caf_section_of(const struct caf_descriptor *array, uintptr_t base) {
     struct caf_section section = caf_section_bytes(base, array->dtype.elem_len);
     for (int k = 0; k < array->dtype.rank; k++)
-        caf_section_add(&section, extent(array->dim[k].lower, array->dim[k].upper, 1), array->dim[k].stride * span_of(array), NULL);
+        caf_section_add(&section, extent(array->dim[k].lower, array->dim[k].upper, 1),
+                        array->dim[k].stride * span_of(array), NULL);
     return section;
 }
 
@@ -56,7 +59,8 @@ static ptrdiff_t *places_of(const struct caf_subscript *subscript, ptrdiff_t low
     return places;
 }
 
-struct caf_section caf_section_chosen(const struct caf_descriptor *array, uintptr_t base, const struct caf_subscript *subscripts, bool by_extents) {
+struct caf_section caf_section_chosen(const struct caf_descriptor *array, uintptr_t base,
+                                      const struct caf_subscript *subscripts, bool by_extents) {
     struct caf_section section = caf_section_bytes(base, array->dtype.elem_len);
     for (int k = 0; k < array->dtype.rank; k++) {
         const struct caf_subscript *subscript = &subscripts[k];
@@ -66,7 +70,8 @@ struct caf_section caf_section_chosen(const struct caf_descriptor *array, uintpt
             continue;
         }
         ptrdiff_t first = subscript->u.triplet.lower, stride = subscript->u.triplet.stride;
-        size_t count = by_extents ? extent(lower, array->dim[k].upper, 1) : extent(first, subscript->u.triplet.upper, stride);
+        size_t count =
+            by_extents ? extent(lower, array->dim[k].upper, 1) : extent(first, subscript->u.triplet.upper, stride);
         section.base += (uintptr_t)((first - lower) * step);
         caf_section_add(&section, count, stride * step, NULL);
     }

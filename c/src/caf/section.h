@@ -8,7 +8,8 @@
 
 #include "abi.h"
 
-/* The places of one dimension, in bytes from the first: the i-th is i * stride, or places[i] where there is such a table. */
+/* The places of one dimension, in bytes from the first: the i-th is i * stride, or places[i] where there is such a
+ * table. */
 struct caf_dimension {
     size_t count;
     ptrdiff_t stride;
@@ -29,9 +30,10 @@ struct caf_section caf_section_bytes(uintptr_t base, size_t length);
 /* The elements of an array whose first one lies at base. */
 struct caf_section caf_section_of(const struct caf_descriptor *array, uintptr_t base);
 
-/* The elements that subscripts choose of the array whose first element, by its lower bounds, lies at base. A triplet has as many
- * as its bounds say, or, by extents, as many as the array has in its dimension. */
-struct caf_section caf_section_chosen(const struct caf_descriptor *array, uintptr_t base, const struct caf_subscript *subscripts, bool by_extents);
+/* The elements that subscripts choose of the array whose first element, by its lower bounds, lies at base. A triplet
+ * has as many as its bounds say, or, by extents, as many as the array has in its dimension. */
+struct caf_section caf_section_chosen(const struct caf_descriptor *array, uintptr_t base,
+                                      const struct caf_subscript *subscripts, bool by_extents);
 
 /* Adds a dimension behind the others; the table of places, where there is one, is the section's from then on. */
 void caf_section_add(struct caf_section *section, size_t count, ptrdiff_t stride, ptrdiff_t *places);
@@ -46,8 +48,8 @@ void caf_section_free(struct caf_section *section);
 size_t caf_section_count(const struct caf_section *section);
 size_t caf_section_length(const struct caf_section *section);
 
-/* The same bytes in the same order, by as few and as long runs as there can be. Call it when the count of elements is no
- * longer asked for. */
+/* The same bytes in the same order, by as few and as long runs as there can be. Call it when the count of elements is
+ * no longer asked for. */
 void caf_section_join(struct caf_section *section);
 
 /* The least address, and the one behind the greatest. */
@@ -67,7 +69,8 @@ struct caf_walk caf_walk_from(const struct caf_section *section, size_t first);
 /* The next piece: its address, and its length, at most `most`. The walk goes behind it. */
 uintptr_t caf_walk_next(struct caf_walk *walk, size_t most, size_t *length);
 
-/* Copies bytes of a section of this image's own memory, from byte `first` of it on, to or from bytes that lie together. */
+/* Copies bytes of a section of this image's own memory, from byte `first` of it on, to or from bytes that lie together.
+ */
 void caf_pack(const struct caf_section *from, size_t first, void *bytes, size_t length);
 void caf_unpack(const struct caf_section *to, size_t first, const void *bytes, size_t length);
 

@@ -11,7 +11,7 @@ static gex_AD_t words;
 enum { WORD = 8 };
 
 static const gex_OP_t operations[] = {
-    [CAF_SET] = GEX_OP_SWAP, [CAF_ADD] = GEX_OP_FADD,  [CAF_AND] = GEX_OP_FAND,  [CAF_OR] = GEX_OP_FOR,
+    [CAF_SET] = GEX_OP_SWAP, [CAF_ADD] = GEX_OP_FADD, [CAF_AND] = GEX_OP_FAND,  [CAF_OR] = GEX_OP_FOR,
     [CAF_XOR] = GEX_OP_FXOR, [CAF_READ] = GEX_OP_GET, [CAF_SWAP] = GEX_OP_FCAS,
 };
 
@@ -25,8 +25,8 @@ void caf_steps_start(void) {
 static uint64_t do_word(int node, const struct caf_step *step) {
     const bool is_swap = step->operation == CAF_SWAP;
     uint64_t old;
-    gex_Event_Wait(gex_AD_OpNB_U64(words, &old, (gex_Rank_t)node, (void *)(uintptr_t)step->at, operations[step->operation],
-                                   is_swap ? step->compare : step->value, step->value, 0));
+    gex_Event_Wait(gex_AD_OpNB_U64(words, &old, (gex_Rank_t)node, (void *)(uintptr_t)step->at,
+                                   operations[step->operation], is_swap ? step->compare : step->value, step->value, 0));
     return old;
 }
 
@@ -70,7 +70,8 @@ void caf_step_handler(gasnet_token_t from, void *bytes, size_t length) {
     memcpy(&old, at, step->size);
     const uint64_t now = result_of(step, old);
     memcpy(at, &now, step->size);
-    gasnet_AMReplyShort4(from, CAF_STEP_DONE, caf_low(request->answer), caf_high(request->answer), caf_low(old), caf_high(old));
+    gasnet_AMReplyShort4(from, CAF_STEP_DONE, caf_low(request->answer), caf_high(request->answer), caf_low(old),
+                         caf_high(old));
 }
 
 void caf_step_done_handler(gasnet_token_t from, int32_t low, int32_t high, int32_t old_low, int32_t old_high) {

@@ -7,14 +7,13 @@
 #include "state.h"
 #include "token.h"
 
-/* gfortran 12 hands on the address of the address of errmsg= of the synchronisations. Others hand on its own address, and
- * no text begins with an address. */
+/* gfortran 12 hands on the address of the address of errmsg= of the synchronisations; bin/caf refuses other
+ * versions. */
 static struct caf_report report_of(int *stat, char *errmsg, size_t length) {
-    uintptr_t inner = 0;
-    if (errmsg && length)
-        memcpy(&inner, errmsg, sizeof inner);
-    bool is_address = inner > 4096 && !(inner >> 47);
-    return (struct caf_report){ stat, is_address ? (char *)inner : errmsg, length };
+    char *text = NULL;
+    if (errmsg)
+        memcpy(&text, errmsg, sizeof text);
+    return (struct caf_report){ stat, text, length };
 }
 
 int caf_sync_team(struct caf_team *team) {
@@ -30,7 +29,8 @@ void _gfortran_caf_sync_all(CAF_ERRORS) {
     int code = caf_sync_team(caf_state.team);
     bool is_last_part = caf_state.is_allocating && !stat;
     caf_state.is_allocating = false;
-    caf_report_code(&report, is_last_part ? 0 : code, "sync all"); /* gfortran 12 leaves out the stat= of the allocate */
+    caf_report_code(&report, is_last_part ? 0 : code,
+                    "sync all"); /* gfortran 12 leaves out the stat= of the allocate */
 }
 
 void _gfortran_caf_sync_memory(CAF_ERRORS) {

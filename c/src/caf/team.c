@@ -59,22 +59,27 @@ uint32_t caf_team_begin(struct caf_team *team) { return ++team->sequence; }
 
 /* ---- Meetings: each member sends to each other one. */
 
-void caf_meet_handler(gasnet_token_t from, int32_t low, int32_t high, int32_t meeting, int32_t value_low, int32_t value_high) {
+void caf_meet_handler(gasnet_token_t from, int32_t low, int32_t high, int32_t meeting, int32_t first_low,
+                      int32_t first_high, int32_t second_low, int32_t second_high) {
     int node = caf_sender_counted(from);
     struct caf_team *team = caf_team_find(caf_join(low, high));
     team->met[meeting & 1][node] = (uint32_t)meeting;
-    team->values[meeting & 1][node] = caf_join(value_low, value_high);
+    team->values[meeting & 1][node].first = caf_join(first_low, first_high);
+    team->values[meeting & 1][node].second = caf_join(second_low, second_high);
 }
 
-static void tell_members(const struct caf_team *team, uint32_t meeting, uint64_t mine) {
+static void tell_members(const struct caf_team *team, uint32_t meeting, struct caf_pair mine) {
     for (int step = 1; step < team->size; step++) {
         int node = team->members[(team->index + step) % team->size];
         if (caf_state.peers[node].condition == CAF_RUNNING)
-            gasnet_AMRequestShort5(caf_counted(node), CAF_MEET, caf_low(team->id), caf_high(team->id), (int32_t)meeting, caf_low(mine), caf_high(mine));
+            gasnet_AMRequestShort7(caf_counted(node), CAF_MEET, caf_low(team->id), caf_high(team->id), (int32_t)meeting,
+                                   caf_low(mine.first), caf_high(mine.first), caf_low(mine.second),
+                                   caf_high(mine.second));
     }
 }
 
-static int meet(struct caf_team *team, uint32_t sequence, uint64_t mine, uint64_t *values) {
+static int meet(struct caf_team *team, uint32_t sequence, struct caf_pair mine, struct caf_pair *values) {
+    const struct caf_pair none = { 0, 0 };
     uint32_t meeting = ++team->meetings;
     const uint32_t *met = team->met[meeting & 1];
     tell_members(team, meeting, mine);
@@ -84,15 +89,25 @@ static int meet(struct caf_team *team, uint32_t sequence, uint64_t mine, uint64_
             GASNET_BLOCKUNTIL(met[node] == meeting || is_absent(team, node, sequence) ||
                               caf_team_absence(team, sequence) == CAF_STAT_STOPPED_IMAGE);
         if (values)
-            values[i] = node == caf_state.me ? mine : met[node] == meeting ? team->values[meeting & 1][node] : 0;
+            values[i] = node == caf_state.me ? mine : met[node] == meeting ? team->values[meeting & 1][node] : none;
     }
     return caf_team_absence(team, sequence);
 }
 
-int caf_meet(struct caf_team *team, uint64_t mine, uint64_t *values) { return meet(team, caf_team_begin(team), mine, values); }
+int caf_meet_by_pairs(struct caf_team *team, struct caf_pair mine, struct caf_pair *values) {
+    return meet(team, caf_team_begin(team), mine, values);
+}
 
-/* ---- The barrier: in round r each member sends to the one that is 2^r behind it. Where one is absent nobody gets through
- * all rounds, so all the others come to a meeting. */
+int caf_meet(struct caf_team *team, uint64_t mine, uint64_t *values) {
+    struct caf_pair pairs[GASNET_MAXNODES];
+    int code = caf_meet_by_pairs(team, (struct caf_pair){ mine, 0 }, pairs);
+    for (int i = 0; i < team->size; i++)
+        values[i] = pairs[i].first;
+    return code;
+}
+
+/* ---- The barrier: in round r each member sends to the one that is 2^r behind it. Where one is absent nobody gets
+ * through all rounds, so all the others come to a meeting. */
 
 void caf_round_handler(gasnet_token_t from, int32_t low, int32_t high, int32_t round, int32_t sequence) {
     struct caf_team *team = caf_team_find(caf_join(low, high));
@@ -102,17 +117,20 @@ void caf_round_handler(gasnet_token_t from, int32_t low, int32_t high, int32_t r
         *latest = (uint32_t)sequence;
 }
 
-static bool has_come(const struct caf_team *team, int round, uint32_t sequence) { return (int32_t)(team->rounds[round] - sequence) >= 0; }
+static bool has_come(const struct caf_team *team, int round, uint32_t sequence) {
+    return (int32_t)(team->rounds[round] - sequence) >= 0;
+}
 
 int caf_barrier(struct caf_team *team) {
     uint32_t sequence = caf_team_begin(team);
     for (int round = 0; 1 << round < team->size; round++) {
         int node = team->members[(team->index + (1 << round)) % team->size];
         if (!caf_team_absence(team, sequence))
-            gasnet_AMRequestShort4(caf_counted(node), CAF_ROUND, caf_low(team->id), caf_high(team->id), round, (int32_t)sequence);
+            gasnet_AMRequestShort4(caf_counted(node), CAF_ROUND, caf_low(team->id), caf_high(team->id), round,
+                                   (int32_t)sequence);
         GASNET_BLOCKUNTIL(has_come(team, round, sequence) || caf_team_absence(team, sequence));
         if (!has_come(team, round, sequence))
-            return meet(team, sequence, 0, NULL);
+            return meet(team, sequence, (struct caf_pair){ 0, 0 }, NULL);
     }
     return 0;
 }
@@ -178,7 +196,9 @@ void _gfortran_caf_sync_team(struct caf_team **team, int index) {
     must(caf_sync_team(known(*team, "sync team")), "sync team");
 }
 
-int _gfortran_caf_team_number(struct caf_team *team) { return team ? known(team, "team_number")->number : caf_state.team->number; }
+int _gfortran_caf_team_number(struct caf_team *team) {
+    return team ? known(team, "team_number")->number : caf_state.team->number;
+}
 
 struct caf_team *_gfortran_caf_get_team(const int *level) {
     (void)level;

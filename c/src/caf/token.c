@@ -1,5 +1,5 @@
-/* Registration: coarrays lie in the segment, at addresses that all images of the team tell one another. Components are memory
- * of malloc, since gfortran frees some of them by free. */
+/* Registration: coarrays lie in the segment, at addresses that all images of the team tell one another. Components are
+ * memory of malloc, since gfortran frees some of them by free. */
 #include "token.h"
 
 #include <stdlib.h>
@@ -98,7 +98,8 @@ void caf_token_forget(struct caf_token *token, const void *memory) {
         release(token);
 }
 
-static void allocate_component(size_t size, struct caf_token **token, struct caf_descriptor *array, const struct caf_report *report) {
+static void allocate_component(size_t size, struct caf_token **token, struct caf_descriptor *array,
+                               const struct caf_report *report) {
     void *memory = malloc(size ? size : 1);
     if (!memory) {
         caf_report_error(report, CAF_STAT_ALLOCATION, "allocate: there is no memory of %zu bytes", size);
@@ -115,13 +116,14 @@ static bool has_slot(const struct caf_descriptor *array, struct caf_token *const
     return at >= begin && at - begin < sizeof *array + sizeof(struct caf_bounds);
 }
 
-/* gfortran 12 registers a polymorphic component as if it were a coarray, under the token of the coarray that it belongs to,
- * and frees it by free. The array that it hands over isn't the one that the token is part of. */
+/* gfortran 12 registers a polymorphic component as if it were a coarray, under the token of the coarray that it belongs
+ * to, and frees it by free. The array that it hands over isn't the one that the token is part of. */
 static bool is_part(struct caf_token *const *slot, const struct caf_descriptor *array) {
     return *slot && lives(*slot) && !(*slot)->is_component && !has_slot(array, slot);
 }
 
-static void allocate_part(size_t size, struct caf_token *token, struct caf_descriptor *array, const struct caf_report *report) {
+static void allocate_part(size_t size, struct caf_token *token, struct caf_descriptor *array,
+                          const struct caf_report *report) {
     void *memory = malloc(size ? size : 1);
     if (!memory) {
         caf_report_error(report, CAF_STAT_ALLOCATION, "allocate: there is no memory of %zu bytes", size);
@@ -148,8 +150,8 @@ static bool holds(const void *memory, size_t bytes, const void *at) {
     return (uintptr_t)at >= (uintptr_t)memory && (uintptr_t)at - (uintptr_t)memory < bytes;
 }
 
-/* Whether something lies in a coarray, or in a component of one. gfortran registers a component that it copies as if it were
- * a coarray; its token lies in the object that it belongs to. */
+/* Whether something lies in a coarray, or in a component of one. gfortran registers a component that it copies as if it
+ * were a coarray; its token lies in the object that it belongs to. */
 static bool is_in_object(const void *at) {
     const gasnet_seginfo_t *segment = &caf_state.segments[caf_state.me];
     if (holds(segment->addr, segment->size, at))
@@ -164,17 +166,32 @@ static bool is_in_object(const void *at) {
 
 static bool is_cells(int type) { return type >= CAF_LOCK_STATIC && type <= CAF_EVENT_ALLOCATABLE; }
 
-/* Tells the team where this image's memory is; whether all members have some. */
-static bool tell_base(struct caf_token *token, void *memory, int *code) {
+/* What the members of a team tell one another of a coarray. */
+struct shares {
+    struct caf_pair of[GASNET_MAXNODES]; /* where each one's memory is, and how many bytes it asked for; 0: it failed */
+    bool has_all;                        /* each has memory */
+    int code;                            /* as caf_meet answers */
+};
+
+/* Tells the team where this image's memory is, and how long. */
+static void exchange_shares(struct caf_token *token, void *memory, size_t bytes, struct shares *shares) {
     const struct caf_team *team = caf_state.team;
-    uint64_t bases[GASNET_MAXNODES];
-    bool has_all = true;
-    *code = caf_meet(caf_state.team, memory ? caf_address(memory) : NOWHERE, bases);
+    const struct caf_pair mine = { memory ? caf_address(memory) : NOWHERE, bytes };
+    shares->code = caf_meet_by_pairs(caf_state.team, mine, shares->of);
+    shares->has_all = true;
     for (int i = 0; i < team->size; i++) {
-        token->bases[team->members[i]] = bases[i] == NOWHERE ? 0 : (uintptr_t)bases[i];
-        has_all = has_all && bases[i] != NOWHERE;
+        bool has_memory = shares->of[i].first != NOWHERE;
+        token->bases[team->members[i]] = has_memory ? (uintptr_t)shares->of[i].first : 0;
+        shares->has_all = shares->has_all && has_memory;
     }
-    return has_all;
+}
+
+/* A member that asked for another length than this one did; -1 where there is none. */
+static int find_other_length(const struct shares *shares, size_t bytes) {
+    for (int i = 0; i < caf_state.team->size; i++)
+        if (shares->of[i].first && shares->of[i].second != bytes)
+            return i;
+    return -1;
 }
 
 static void give_up(struct caf_token *token, void *memory) {
@@ -189,20 +206,35 @@ static void note_unsettled(struct caf_token *token) {
     caf_state.unsettled = token;
 }
 
-static void allocate_coarray(size_t bytes, int type, struct caf_token **slot, struct caf_descriptor *array, const struct caf_report *report) {
+/* Whether all members have this coarray, of one length; otherwise the error is reported. */
+static bool is_shared(const struct shares *shares, size_t bytes, const struct caf_report *report) {
+    int other = find_other_length(shares, bytes);
+    if (other >= 0)
+        caf_report_error(report, 1,
+                         "allocate: image %d asks for %zu bytes, and image %d for %zu: a coarray has the "
+                         "same bounds on all images",
+                         caf_state.team->index + 1, bytes, other + 1, (size_t)shares->of[other].second);
+    else if (!shares->has_all)
+        caf_report_error(report, CAF_STAT_ALLOCATION,
+                         "allocate: an image has no memory of %zu bytes; "
+                         "GASNET_MAX_SEGSIZE sets how much it has",
+                         bytes);
+    else if (shares->code == CAF_STAT_STOPPED_IMAGE)
+        caf_report_code(report, shares->code, "allocate");
+    return other < 0 && shares->has_all && shares->code != CAF_STAT_STOPPED_IMAGE;
+}
+
+static void allocate_coarray(size_t bytes, int type, struct caf_token **slot, struct caf_descriptor *array,
+                             const struct caf_report *report) {
     struct caf_token *token = enter(caf_zeros(sizeof *token));
     void *memory = caf_heap_take(&caf_state.heap, bytes);
-    int code;
+    struct shares shares;
     caf_state.is_allocating = report->stat != NULL;
     if (memory && is_cells(type)) /* static coarrays come first, and a segment begins as zeros */
         memset(memory, 0, bytes);
-    bool has_all = tell_base(token, memory, &code);
-    if (!has_all || code == CAF_STAT_STOPPED_IMAGE) {
+    exchange_shares(token, memory, bytes, &shares);
+    if (!is_shared(&shares, bytes, report)) {
         give_up(token, memory);
-        if (has_all)
-            caf_report_code(report, code, "allocate");
-        else
-            caf_report_error(report, CAF_STAT_ALLOCATION, "allocate: an image has no memory of %zu bytes; GASNET_MAX_SEGSIZE sets how much it has", bytes);
         return;
     }
     token->memory = memory;
@@ -214,11 +246,12 @@ static void allocate_coarray(size_t bytes, int type, struct caf_token **slot, st
         note_unsettled(token);
     *slot = token;
     array->base = memory;
-    caf_report_code(report, report->stat ? 0 : code, "allocate"); /* gfortran 12 sets no bounds where stat= isn't 0 */
+    /* gfortran 12 sets no bounds where stat= isn't 0 */
+    caf_report_code(report, report->stat ? 0 : shares.code, "allocate");
 }
 
-/* Where an array of objects is allocated that have pointers, gfortran 12 takes its descriptor for the first object: then the
- * token's place lies in no object, and is left alone. */
+/* Where an array of objects is allocated that have pointers, gfortran 12 takes its descriptor for the first object:
+ * then the token's place lies in no object, and is left alone. */
 void _gfortran_caf_register(size_t size, int type, struct caf_token **token, struct caf_descriptor *array, CAF_ERRORS) {
     const struct caf_report report = { stat, errmsg, errmsg_len };
     caf_start();
@@ -236,8 +269,8 @@ void _gfortran_caf_register(size_t size, int type, struct caf_token **token, str
 
 /* ---- Deregistration. */
 
-/* Waits for the others, and frees a coarray. Where stat= isn't 0 behind that, gfortran 12 takes the array for one that is
- * allocated still. */
+/* Waits for the others, and frees a coarray. Where stat= isn't 0 behind that, gfortran 12 takes the array for one that
+ * is allocated still. */
 static int deallocate_coarray(struct caf_token **slot) {
     struct caf_token *token = *slot;
     int code = caf_sync_team(caf_state.team);

@@ -92,7 +92,8 @@ static bool lies_within(const struct caf_far *far, const struct caf_token *token
     if (!caf_section_count(&far->section))
         return true;
     caf_section_hull(&far->section, &low, &high);
-    return low >= base && low - base <= token->bytes && (far->type.type == CAF_CHARACTER || high - base <= token->bytes);
+    return low >= base && low - base <= token->bytes &&
+           (far->type.type == CAF_CHARACTER || high - base <= token->bytes);
 }
 
 /* So of a substring of a coarray that is one text, what lies behind the coarray is left alone. */
@@ -102,8 +103,9 @@ static void cut_text(struct caf_far *far, const struct caf_token *token) {
         far->section.run = far->type.size = end - at;
 }
 
-/* gfortran 12 hands on the place of a copy here where a coarray is a complex scalar: then the coarray is meant. It does so for a
- * vector subscript within an expression too, and that vector is lost; of this image itself the copy is what is wanted. */
+/* gfortran 12 hands on the place of a copy here where a coarray is a complex scalar: then the coarray is meant. It does
+ * so for a vector subscript within an expression too, and that vector is lost; of this image itself the copy is what is
+ * wanted. */
 static void mend_place(struct caf_far *far, const struct caf_token *token) {
     cut_text(far, token);
     if (lies_within(far, token))
@@ -111,12 +113,15 @@ static void mend_place(struct caf_far *far, const struct caf_token *token) {
     if (!far->section.rank && far->type.size == token->bytes)
         far->section.base = token->bases[far->node];
     else if (far->node != caf_state.me)
-        caf_die("elements outside of a coarray are referred to: a subscript is wrong, or is a vector within an expression");
+        caf_die(
+            "elements outside of a coarray are referred to: a subscript is wrong, or is a vector within an expression");
 }
 
-/* Beside a vector the bounds of an array that has no descriptor of its own are those of the section, from the array's lower
- * bounds on. So there a triplet that goes to the array's end has a wrong end, but as many elements as its dimension. */
-static struct caf_section chosen(const struct caf_descriptor *array, uintptr_t base, const struct caf_subscript *subscripts, size_t wanted) {
+/* Beside a vector the bounds of an array that has no descriptor of its own are those of the section, from the array's
+ * lower bounds on. So there a triplet that goes to the array's end has a wrong end, but as many elements as its
+ * dimension. */
+static struct caf_section chosen(const struct caf_descriptor *array, uintptr_t base,
+                                 const struct caf_subscript *subscripts, size_t wanted) {
     struct caf_section section = caf_section_chosen(array, base, subscripts, false);
     if (!wanted || caf_section_count(&section) == wanted)
         return section;
@@ -150,7 +155,8 @@ static bool find(struct caf_far *far, const struct named *named, size_t wanted, 
     uintptr_t base = caf_token_at(named->token, far->node, named->offset, &report);
     if (!base)
         return false;
-    far->section = named->subscripts ? chosen(named->array, base, named->subscripts, wanted) : caf_section_of(named->array, base);
+    far->section =
+        named->subscripts ? chosen(named->array, base, named->subscripts, wanted) : caf_section_of(named->array, base);
     mend_place(far, named->token);
     caf_report_success(&report);
     return true;
@@ -163,8 +169,8 @@ static bool is_empty(const struct caf_descriptor *array) {
 }
 
 void _gfortran_caf_get(struct caf_token *token, size_t offset, int image, struct caf_descriptor *source,
-                       struct caf_subscript *subscripts, struct caf_descriptor *target, int source_kind, int target_kind,
-                       bool may_overlap, int *stat) {
+                       struct caf_subscript *subscripts, struct caf_descriptor *target, int source_kind,
+                       int target_kind, bool may_overlap, int *stat) {
     struct caf_far far;
     (void)may_overlap;
     const struct named named = { token, offset, image, source, is_empty(target) ? NULL : subscripts, source_kind };
@@ -177,8 +183,8 @@ void _gfortran_caf_get(struct caf_token *token, size_t offset, int image, struct
 }
 
 void _gfortran_caf_send(struct caf_token *token, size_t offset, int image, struct caf_descriptor *target,
-                        struct caf_subscript *subscripts, struct caf_descriptor *source, int target_kind, int source_kind,
-                        bool may_overlap, int *stat, struct caf_team **team) {
+                        struct caf_subscript *subscripts, struct caf_descriptor *source, int target_kind,
+                        int source_kind, bool may_overlap, int *stat, struct caf_team **team) {
     struct caf_far far;
     (void)may_overlap;
     (void)team;
@@ -191,10 +197,11 @@ void _gfortran_caf_send(struct caf_token *token, size_t offset, int image, struc
         caf_assign_there(&far, source, source_kind);
 }
 
-void _gfortran_caf_sendget(struct caf_token *target_token, size_t target_offset, int target_image, struct caf_descriptor *target,
-                           struct caf_subscript *target_subscripts, struct caf_token *source_token, size_t source_offset,
-                           int source_image, struct caf_descriptor *source, struct caf_subscript *source_subscripts,
-                           int target_kind, int source_kind, bool may_overlap, int *stat) {
+void _gfortran_caf_sendget(struct caf_token *target_token, size_t target_offset, int target_image,
+                           struct caf_descriptor *target, struct caf_subscript *target_subscripts,
+                           struct caf_token *source_token, size_t source_offset, int source_image,
+                           struct caf_descriptor *source, struct caf_subscript *source_subscripts, int target_kind,
+                           int source_kind, bool may_overlap, int *stat) {
     struct caf_far to, from;
     (void)may_overlap;
     const struct named there = { source_token, source_offset, source_image, source, source_subscripts, source_kind };

@@ -15,7 +15,8 @@ struct caf_far {
 /* Assigns a far section to an array here, of as many elements. The section's tables are freed. */
 void caf_assign_here(struct caf_far *source, const struct caf_descriptor *target, int target_kind);
 
-/* Assigns an array here to a far section: of as many elements, or one that goes to all. The section's tables are freed. */
+/* Assigns an array here to a far section: of as many elements, or one that goes to all. The section's tables are freed.
+ */
 void caf_assign_there(struct caf_far *target, const struct caf_descriptor *source, int source_kind);
 
 /* Assigns a far section to another one, of as many elements. Both sections' tables are freed. */

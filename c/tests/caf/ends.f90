@@ -35,6 +35,7 @@ program ends
     case ('outside'); value = sum(values([3, 1])[num_images()])
     case ('deferred'); call deferred()
     case ('outside component', 'outside objects'); call outside(how)
+    case ('other bounds'); call other_bounds()
     case ('late'); call sleep(1); stop 3
     case ('abort'); call abort()
     case ('end')
@@ -53,6 +54,20 @@ program ends
     sync all    ! an image that stopped doesn't come
   end if
 contains
+  ! The images ask for different lengths. A put by the bounds of one would reach beyond the other's array.
+  subroutine other_bounds()
+    integer, allocatable :: x(:)[:], behind(:)[:]
+    integer :: status
+    allocate (x(merge(10, 1000, this_image() == 1))[*], stat=status)
+    if (status /= 1) stop 7
+    allocate (behind(100)[*])
+    behind = 1
+    sync all
+    allocate (x(merge(10, 1000, this_image() == 1))[*])
+    if (this_image() == 2) x(11:900)[1] = -5
+    sync all
+    if (any(behind /= 1)) stop 8
+  end subroutine
   subroutine lock_twice()
     use iso_fortran_env, only: lock_type
     type(lock_type), save :: guard[*]

@@ -85,6 +85,22 @@ for build in out out/sanitized; do
     done
 done
 
+# Collectives whose lengths differ are refused in one way, whoever has more, and whichever way the numbers go.
+for n in 2 3 4 5; do
+    for which in sum words "to one" broadcast; do
+        check "lengths n=$n $which, equal ones" 0 "lengths: done" bin/cafrun -n $n out/sanitized/tests/caf/lengths "$which" 0 0
+        for pair in "10 20" "10 300" "10 0" "0 10" "131072 262144"; do
+            check "lengths n=$n $which $pair" 1 "Fortran runtime error on image .: co_[a-z]*: image . brings" \
+                bin/cafrun -n $n out/sanitized/tests/caf/lengths "$which" $pair
+        done
+    done
+done
+
+for n in 2 4; do
+    check "lengths n=$n, elements of two types" 1 "co_sum: an image brings elements of another type than this image" \
+        bin/cafrun -n $n out/sanitized/tests/caf/lengths types
+done
+
 # Images that wait in a short collective see that one stops, or fails.
 for which in sum words broadcast; do
     for how in stops fails; do
@@ -167,6 +183,17 @@ ends "error stop" 1 "^ERROR STOP" 5000 "error stop"
 ends "error stop of one" 9 "^ERROR STOP 9$" 5000 "error stop 9" 2
 ends "error stop 0 of one" 0 "^ERROR STOP 0$" 5000 "error stop 0" 2
 ends "error stop 0 of one, the others compute" 0 "^ERROR STOP 0$" 5000 "error stop 0 of one" 2
+no_runner() { # error stop 0 signals no process that GASNET_RUNNER names
+    sleep 60 &
+    local other=$! got=1
+    GASNET_RUNNER=$other out/tests/caf/ends "error stop 0"
+    sleep 0.2
+    kill -KILL $other && wait $other
+    [ $? = 137 ] && got=0
+    return $got
+}
+export -f no_runner
+check "end error stop 0 without gasnetrun" 0 "^ERROR STOP 0$" bash -c no_runner
 ends "error stop of one, the others compute" 1 "^ERROR STOP an error$" 5000 "error stop text" 2
 ends "error stop quiet" 9 "" 5000 "error stop quiet" 3
 ends "exit" 5 "" 5000 "exit 5" 1
@@ -176,6 +203,7 @@ ends "outside of a coarray" 1 "Fortran runtime error on image 1: elements outsid
 ends "outside of a component" 1 "Fortran runtime error on image 1: elements outside" 5000 "outside component" 1
 ends "outside of an array of objects" 1 "Fortran runtime error on image 1: elements outside" 5000 "outside objects" 1
 ends "a text of deferred length" 1 "Fortran runtime error on image 1: a component is referred to that is a text" 5000 deferred 1
+ends "other bounds" 1 "Fortran runtime error on image [1-3]: allocate: image . asks for [0-9]* bytes, and image . for [0-9]*: a coarray has" 5000 "other bounds"
 ends "lock twice" 1 "Fortran runtime error on image 1: lock" 5000 "lock twice" 1
 ends "abort" 134 "was ended by signal" 8000 abort 2
 
@@ -183,7 +211,25 @@ ends "abort" 134 "was ended by signal" 8000 abort 2
 check "cafrun usage" 64 "usage" bin/cafrun
 check "caf --show" 0 "gfortran -fcoarray=lib" bin/caf --show x.f90 -o x
 check "ring" 0 "image 4 was told 3" bash -c 'bin/caf ../examples/coarrays/ring.f90 -o out/ring_f && bin/cafrun -n 4 out/ring_f'
+# Where a process has few addresses its segment is smaller, and a line says so.
+for n in 1 4; do
+    check "few addresses n=$n" 0 "heat of $n images" bash -c "ulimit -v 4000000; bin/cafrun -n $n out/tests/caf/heat"
+done
+check "few addresses, told" 0 "node 0 of 2: the segment has [0-9]* MiB, not [0-9]*: .* set GASNET_MAX_SEGSIZE" \
+    bash -c 'ulimit -v 500000; bin/cafrun -n 2 out/tests/caf/heat'
+check "threads, none" 0 "parallel: done" bin/cafrun -n 2 out/tests/caf/parallel
+check "threads of OpenMP" 70 "is called by another thread .*in Fortran let one thread refer to coarrays" \
+    bash -c 'bin/caf -fopenmp tests/caf/parallel.f90 -J out -o out/parallel && bin/cafrun -n 2 out/parallel'
 check "caf -c" 0 "" bash -c 'bin/caf -c ../examples/coarrays/heat.f90 -o out/heat.o && bin/caf out/heat.o -o out/heat && bin/cafrun -n 2 out/heat'
+mkdir -p out/links "out/a space/out"
+for command in caf cafrun; do ln -sf "../../bin/$command" out/links/; done
+cp -r bin "out/a space/" && cp out/gasnetrun out/gasnet.pc out/libgasnet.a out/libcaf.a "out/a space/out/"
+check "caf by a link" 0 "" out/links/caf ../examples/coarrays/ring.f90 -o out/links/ring_f
+check "cafrun by a link" 0 "image 4 was told 3" out/links/cafrun -n 4 out/links/ring_f
+check "caf in a path with a space" 0 "" "out/a space/bin/caf" ../examples/coarrays/ring.f90 -o "out/a space/ring f"
+check "cafrun in a path with a space" 0 "image 4 was told 3" "out/a space/bin/cafrun" -n 4 "out/a space/ring f"
+printf '#!/bin/sh\necho 13.2.0\n' >out/links/gfortran-13 && chmod +x out/links/gfortran-13
+check "caf of another gfortran" 1 "gfortran-13 is version 13.2.0, and libcaf is for gfortran 12: set CAF_FC" env CAF_FC=out/links/gfortran-13 bin/caf --show x.f90
 check "alone" 0 "heat of 1 images" out/tests/caf/heat
 if ! command -v mpirun >/dev/null; then
     skipped=$((skipped + 1))

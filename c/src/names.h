@@ -1,0 +1,9 @@
+/* The names of the variables that begin with GASNET_. */
+#ifndef GASNETL_NAMES_H
+#define GASNETL_NAMES_H
+
+/* Warns by one line of the variables of the environment that begin with GASNET_ and aren't this project's: a name
+ * that is mistyped has no effect. */
+void gasnetl_warn_of_names(void);
+
+#endif
