@@ -35,5 +35,6 @@ text: that it is behind its first line what was read, and that it is the front o
 """
 from .judging import Judged, judged
 from .reading import names
+from .running import free_port
 
-__all__ = ["Judged", "judged", "names"]
+__all__ = ["Judged", "free_port", "judged", "names"]

@@ -1,5 +1,6 @@
 """Running the program on a case: with an input that fails, an output that is full, children and a peer of ours."""
 import os
+import random
 import re
 import socket
 import subprocess
@@ -23,6 +24,19 @@ LIMITED = (
 )
 CHILD = Path(__file__).resolve().parent / "child"
 TURN = re.compile(rb"^(turn [0-9]+) [0-9]+ ", re.M)
+
+
+def free_port(nodes):
+    """A port of this host that is free, with those behind it, one for each of so many nodes."""
+    for first in random.sample(range(22000, 32000, nodes), 2000):
+        try:
+            for port in range(first, first + nodes):
+                with socket.socket(socket.AF_INET, socket.SOCK_DGRAM) as tried:
+                    tried.bind((HOST, port))
+        except OSError:
+            continue
+        return first
+    raise OSError(f"no {nodes} ports in a row are free")
 
 
 @dataclass

@@ -1,63 +1,110 @@
-"""A datagram's way from a call to its reply: the functions that it passes, crate by crate."""
+"""Ways through the code, from function to function, in two columns."""
 import re
+from dataclasses import dataclass, field
 from pathlib import Path
 
-from .shapes import LINE, PAD, Shapes
+from .shapes import LETTER, LINE, PAD, Shapes
 
 TOP = Path(__file__).resolve().parent.parent.parent
-LEFT, RIGHT, WIDTH, HEAD, STEP = 12, 600, 400, 34, 68
-NETWORK = ["the network may lose,", "repeat and reorder"]
-WAY = [  # the node, the crate, the function, and what it does
-    (0, "node_endpoint", "step", "a thread's call comes in"),
-    (0, "part_handlers", "allowed", "the rule table judges it"),
-    (0, "part_window", "claim", "a credit: the lowest free slot, the pair's next number"),
-    (0, "wire_message", "spell", "the message is written into the buffer of the slot"),
-    (0, "proc_linux", "send", "the socket: the system's, and trusted"),
-    (1, "proc_linux", "receive", "the socket: the system's, and trusted"),
-    (1, "proc_runner", "turn", "one turn under the lock; its line is written before it sends"),
-    (1, "wire_message", "view", "the bytes are read as a message, or refused"),
-    (1, "part_window", "judge", "a new request, a duplicate, or one that is stale"),
-    (1, "part_handlers", "run", "a new one runs its handler, which may reply"),
-    (1, "part_window", "seal", "the reply, or an Ack, is kept in the slot, and sent"),
-    (0, "wire_message", "view", "the reply's bytes are read"),
-    (0, "part_window", "take_back", "the slot and its credit are free"),
-    (0, "part_handlers", "run", "the reply's handler runs"),
-]
-LOST = [
-    "what isn't back is due again (part_window: due),",
-    "and a tick sends the same bytes once more;",
-    "a request that ran is answered from its slot",
-]
+LEFT, RIGHT, WIDTH, HEAD, HIGH, GAP, EDGE = 12, 672, 488, 34, 30, 12, 12  # the columns, a box, between boxes, in a frame
+BETWEEN = LEFT + WIDTH + 30
 
 
-def faults():
-    """The functions of the way that aren't in their crates."""
-    missing = []
-    for _, crate, name, _ in [*WAY, (0, "part_window", "due", "")]:
-        sources = (TOP / "crates" / crate / "src").glob("**/*.rt")
-        if not any(re.search(rf"\bfn {name}\b", path.read_text()) for path in sources):
-            missing.append(f"the datagram's way: {crate} has no function {name}")
-    return missing
+@dataclass
+class Step:
+    """A function that is passed: its column; its home, its name and what it does; and what is passed inside of it."""
+
+    column: int
+    outer: tuple
+    inner: list = field(default_factory=list)
 
 
-def picture():
-    out = Shapes()
-    for node, x, words in ((0, LEFT, "node 0, the requester"), (1, RIGHT, "node 1, the responder")):
+@dataclass
+class Note:
+    """Lines of text in a free place: in which column, and beside which step."""
+
+    where: str  # left, between or right
+    beside: int
+    lines: list
+
+
+@dataclass
+class Way:
+    title: str
+    columns: tuple
+    steps: list
+    notes: list = field(default_factory=list)
+    named: list = field(default_factory=list)  # functions that notes name
+
+
+# ---- what is there
+
+
+def is_there(home, name):
+    """Whether a crate has this function, or a file of C."""
+    if home.endswith(".c"):
+        return re.search(rf"\b{name}\(", (TOP / "c/src" / home).read_text()) is not None
+    sources = (TOP / "crates" / home / "src").glob("**/*.rt")
+    return any(re.search(rf"\bfn {name}\b", path.read_text()) for path in sources)
+
+
+def faults(way):
+    """The functions of a way that aren't in their homes."""
+    steps = [inner[:2] for step in way.steps for inner in (step.outer, *step.inner)]
+    return [f"{way.title}: {home} has no function {name}" for home, name in [*steps, *way.named] if not is_there(home, name)]
+
+
+# ---- the picture
+
+
+def box(out, x, y, width, words):
+    """A box of one line: where a function stands, its name, and what it does. What is C's, and tested, is white."""
+    home, name, told = words
+    out.rect(x, y, width, HIGH, "fill-paper" if home.endswith(".c") else "fill-band")
+    out.rect(x, y, width, HIGH, "rail")
+    head = f"{home}: {name}"
+    out.text(x + PAD, y + 19, head, "key fill-ink")
+    out.text(x + PAD + LETTER * len(head) + 12, y + 19, told, "key fill-dim")
+
+
+def frame(out, x, y, step):
+    """A step with those inside of it; answers its height."""
+    box(out, x, y, WIDTH, step.outer)
+    if not step.inner:
+        return HIGH
+    low = y + HIGH + GAP / 2
+    for place, words in enumerate(step.inner):
+        box(out, x + EDGE, low, WIDTH - 2 * EDGE, words)
+        if place:
+            out.arrow(x + WIDTH / 2, low - GAP, x + WIDTH / 2, low + 4, "ink")
+        low += HIGH + GAP
+    out.rect(x, y, WIDTH, low - y, "ink")
+    return low - y
+
+
+def cross(out, start, end, column):
+    """An arrow into this column, from the other one."""
+    ends = (LEFT + WIDTH, RIGHT) if column else (RIGHT, LEFT + WIDTH)
+    out.arrow(ends[0], start, ends[1], end, "request" if column else "reply")
+
+
+def picture(way):
+    out, y, before, edge, tops = Shapes(), HEAD, None, 0, []
+    for x, words in zip((LEFT, RIGHT), way.columns):
         out.text(x + PAD, 22, words, "key fill-ink")
-    crossings, before = [], None
-    for place, (node, crate, name, words) in enumerate(WAY):
-        x, y = (LEFT, RIGHT)[node], HEAD + STEP * place
-        out.box(x, y, WIDTH, [f"{crate}: {name}", words])
-        if before == node:
-            out.arrow(x + WIDTH / 2, y - STEP + 2 * PAD + 2 * LINE, x + WIDTH / 2, y + 4, "ink")
+    for step in way.steps:
+        x, top = (LEFT, RIGHT)[step.column], y
+        y += frame(out, x, y, step)
+        if before == step.column:
+            out.arrow(x + WIDTH / 2, edge, x + WIDTH / 2, top + 4, "ink")
         elif before is not None:
-            crossings.append((y, node))
-        before = node
-    for y, node in crossings:
-        start, end = (LEFT + WIDTH, RIGHT) if node else (RIGHT, LEFT + WIDTH)
-        out.arrow(start, y - STEP + 26, end, y + 26, "request" if node else "reply")
-    out.label(LEFT + WIDTH + 30, HEAD + STEP * 7, NETWORK)
-    out.label(RIGHT + PAD, HEAD + STEP * 12, LOST)
-    width, height = RIGHT + WIDTH + 12, HEAD + STEP * len(WAY) + 8
-    out.parts.insert(0, f'<rect x="0" y="0" width="{width}" height="{height}" class="fill-paper"/>')
-    return out.svg(width, height, "A datagram's way: a request and its reply")
+            cross(out, edge - HIGH / 2, top + HIGH / 2, step.column)
+        before, edge = step.column, y
+        tops.append(top)
+        y += 2 * GAP
+    for note in way.notes:
+        x = {"left": LEFT + PAD, "between": BETWEEN, "right": RIGHT + PAD}[note.where]
+        out.label(x, (tops[note.beside] if note.beside < len(tops) else y) + LINE, note.lines)
+    width = RIGHT + WIDTH + 12
+    out.parts.insert(0, f'<rect x="0" y="0" width="{width}" height="{y:g}" class="fill-paper"/>')
+    return out.svg(width, y, way.title)
