@@ -7,6 +7,7 @@ use Rattle.std.proofs.lemmas.Option.{same_Some, slice_get_read, slice_get_past}
 use Rattle.std.proofs.lemmas.List.FromFn.{length-map-range_with_len, get_or-map-range_with_len}
 use Rattle.std.proofs.lemmas.List.Sums.{count_by-le-length, sum_by-cons}
 use Rattle.base_lists.proofs.Indexes.{same_by_gets, get-set_same, get-set_other, replicate-is}
+use Rattle.base_lists.proofs.Places.{slice_get-replicate}
 use Rattle.slab.specs.Slab.{Slab, get, slab_len, Updates}
 use Rattle.part_transfers.specs.declared.table.OperationRecord.{OperationRecord}
 use Rattle.part_transfers.specs.declared.queue.Queued.{Queued}
@@ -14,7 +15,7 @@ use Rattle.part_transfers.specs.Queue.{IsQueuedAs, Changes, Queues}
 use Rattle.part_transfers.specs.Table.{flat, taken, waits_by, waits_at}
 use Rattle.part_transfers.specs.Places.{record_places, IsExtent}
 use Rattle.part_transfers.proofs.Began.{taken_all}
-use Rattle.part_transfers.proofs.Extents.{extent_set}
+use Rattle.part_transfers.proofs.Extents.{extent_set, blank_beyond}
 use Rattle.part_transfers.proofs.Queueing.{queued_as, queues_changed}
 use Rattle.part_transfers.proofs.Waiting.{waiting_there, waits_written, waits_elsewhere}
 
@@ -135,6 +136,25 @@ pub extent_updated : (slab new : Slab OperationRecord) (extent later place : ℕ
 extent_updated slab new extent later place there updates room less E rest within above =
     subst (IsExtent later) (sym (places_set slab new place there updates room less))
     (extent_set extent later (record_places slab) place there E rest within above)
+
+-- where no place is taken, an empty slab with as much room has the same places
+pub places_cleared : (slab new : Slab OperationRecord) → IsExtent 0 (record_places slab) → new.slots ≡ []
+    → new.capacity ≡ slab.capacity → record_places new ≡ record_places slab
+places_cleared slab new E empty room = same_by_gets (record_places new) (record_places slab) each
+  where
+    blank : record_places new ≡ replicate slab.capacity None
+    blank = places_blank new slab.capacity empty room
+
+    each : (index : ℕ) → slice_get (record_places new) index ≡ slice_get (record_places slab) index
+    each index = elim (cases_lt index slab.capacity) [
+      | inl less ↦ (let here = place_at slab index less in
+          ap (λ places. slice_get places index) blank ∙ (slice_get-replicate slab.capacity index None less
+          ∙ (ap Some (sym (blank_beyond 0 (record_places slab) index (get slab index) E (omega arith) here))
+          ∙ sym here)))
+      | inr past ↦ (let many = places_length slab in let now = places_length new in
+          slice_get_past (record_places new) index (omega (arith, past, room, now))
+          ∙ sym (slice_get_past (record_places slab) index (omega (arith, past, many))))
+    ]
 
 -- no blank place waits
 pub queues_blank : (many : ℕ) → Queues (waits_at (replicate many None)) []

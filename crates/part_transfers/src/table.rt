@@ -366,11 +366,15 @@ impl Table {
         0
     }
 
-    /// The extent ends behind the greatest place that is taken.
+    /// The extent ends behind the greatest place that is taken. Where none is, the slab begins anew: the next operation
+    /// takes the first place.
     fn lower_end(&mut self)
         ensures { self.new ≡ self.old }
     {
         self.extent = self.taken_end();
+        if self.extent == 0 {
+            self.records.clear();
+        }
     }
 
     /// The records that are marked go, the last place first, so that the next operation takes the first of their places.
