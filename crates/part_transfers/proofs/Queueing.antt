@@ -72,7 +72,8 @@ queue_inserted queue index number place Q F absent inside = record {
       | inl b ↦ Q.order one later first second less a.1 b.1
       | inr more ↦ elim more [
         | inl b ↦ (
-          subst (λ (y : Queued). first.number ≤ y.number) b.1 (F.before one first a.0 a.1),
+          (let less = F.before one first a.0 a.1 in
+              subst (λ (y : Queued). first.number ≤ y.number) b.1 (omega (arith, less))),
           subst (λ (y : Queued). first.place ≢ y.place) b.1 (absent one first a.1),
         )
         | inr b ↦ Q.order one b.0 first second (omega (arith, a.0, b.2)) a.1 b.3
@@ -173,8 +174,7 @@ queued_as waits queue place None Q none =
     never : (number : ℕ) → ◌≡◌ {A = Option ℕ} None (Some number) → ⊥
     never number is = cc
 queued_as waits queue place (Some number) Q some =
-    let at = Q.all place number some in
-    (at.0, record { entry = record { number = number; place = place }; here = at.1; same = refl })
+    Q.all place number some
 
 queues_same : (waits later : ℕ → Option ℕ) (queue : List Queued) → ((place : ℕ) → later place ≡ waits place)
     → Queues waits queue → Queues later queue

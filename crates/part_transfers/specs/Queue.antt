@@ -22,12 +22,13 @@ IsNowhere queue place = (index : ℕ) (entry : Queued) → slice_get queue index
 -- the place waits exactly where there is a number by which it does
 abbrev pub IsQueuedAs : List Queued → (place : ℕ) → Option ℕ → Type 0
 IsQueuedAs queue place None = IsNowhere queue place
-IsQueuedAs queue place (Some number) = (index : ℕ) × WaitsAt queue index place
+IsQueuedAs queue place (Some number) =
+    (index : ℕ) × (slice_get queue index ≡ Some (record { number = number; place = place }))
 
--- an entry of that number goes there
+-- an entry of that number goes there: before the entries of that number, if there are any
 pub record IsIndexFor (queue : List Queued) (number index : ℕ) : Type 0 where
   pub within : index ≤ length queue
-  pub before : (at : ℕ) (entry : Queued) → at < index → slice_get queue at ≡ Some entry → entry.number ≤ number
+  pub before : (at : ℕ) (entry : Queued) → at < index → slice_get queue at ≡ Some entry → entry.number < number
   pub behind : (at : ℕ) (entry : Queued) → index ≤ at → slice_get queue at ≡ Some entry → number ≤ entry.number
 
 -- the queue without the place, if it waited

@@ -1,6 +1,7 @@
 //! The places that wait: those whose record has an unissued chunk, in the order in which their operations began.
 
-ghost use Rattle.std.specs.Prelude.{◌≡◌, ◌<◌, ◌==◌, ℕ, [], Option, length, slice_get, IfOk, IfSome, IfNone};
+ghost use Rattle.std.specs.Prelude.{◌≡◌, ◌<◌, ◌≤◌, ◌==◌, ℕ, [], Option, Some, true, length, slice_get, remove};
+ghost use Rattle.std.specs.Prelude.{IfOk, IfSome, IfNone};
 ghost use Rattle.part_transfers.specs.declared.queue.Queued.{Queued};
 ghost use Rattle.part_transfers.specs.Queue.{IsQueue, WaitsAt, IsNowhere, IsIndexFor, IsQueuedAs, Leaves, Enters, Changes};
 
@@ -67,6 +68,59 @@ impl Queue {
         self.entries[index]
     }
 
+    /// Where an entry of that number may stand: as far from the first one as the number is, or last. There it stands
+    /// where no number between the first one and it is missing, and the last entry is found there too.
+    fn guess(&self, number: u64) -> usize
+        ensures { result ≤ length self.now }
+    {
+        if self.len() == 0 {
+            return 0;
+        }
+        let far = number.saturating_sub(self.at(0).number);
+        (far as usize).min(self.len() - 1)
+    }
+
+    /// Whether the entries before the index have smaller numbers, and those from it on don't.
+    fn is_index_for(&self, index: usize, number: u64) -> bool
+        requires { index ≤ length self.now }
+        ensures { result ≡ true → IsIndexFor self.now number index }
+    {
+        (index == 0 || self.at(index - 1).number < number)
+            && (index == self.len() || number <= self.at(index).number)
+    }
+
+    /// The index of the first entry whose number isn't smaller than that, by bisection.
+    fn bisect(&self, number: u64) -> usize
+        ensures { IsIndexFor self.now number result }
+    {
+        let mut from = 0;
+        let mut end = self.len();
+        while from < end {
+            let middle = from + (end - from) / 2;
+            if self.at(middle).number < number {
+                from = middle + 1;
+            } else {
+                end = middle;
+            }
+        }
+        from
+    }
+
+    /// The index of the first entry whose number isn't smaller than that: where an operation of that number goes, and
+    /// where it stands. That of the first entry, of the last one, and the one behind it are found at once.
+    pub fn index_for(&self, number: u64) -> usize
+        ensures { IsIndexFor self.now number result }
+    {
+        let guess = self.guess(number);
+        if self.is_index_for(guess, number) {
+            return guess;
+        }
+        if guess < self.len() && self.is_index_for(guess + 1, number) {
+            return guess + 1;
+        }
+        self.bisect(number)
+    }
+
     /// The place that waits by that number.
     pub fn place_of(&self, number: u64) -> Option<usize>
         ensures found { IfSome result (λ place. (index : ℕ)
@@ -74,7 +128,8 @@ impl Queue {
         ensures none { IfNone result ((index : ℕ) (entry : Queued)
             → slice_get self.now index ≡ Some entry → entry.number ≡ number → ⊥) }
     {
-        for index in 0..self.len() {
+        let index = self.index_for(number);
+        if index < self.len() {
             let entry = self.at(index);
             if entry.number == number {
                 return Some(entry.place);
@@ -83,29 +138,26 @@ impl Queue {
         None
     }
 
-    /// The index of a place.
-    fn index_of(&self, place: usize) -> Option<usize>
-        ensures found { IfSome result (λ index. WaitsAt self.now index place) }
-        ensures none { IfNone result (IsNowhere self.now place) }
+    /// The index of a place that waits by that number.
+    fn index_of(&self, place: usize, number: u64) -> usize
+        requires { IsQueuedAs self.now place (Some number) }
+        ensures found { WaitsAt self.now result place }
+        ensures queue { IsQueue self.now }
     {
-        for index in 0..self.len() {
+        for index in self.index_for(number)..self.len() {
             if self.at(index).place == place {
-                return Some(index);
+                return index;
             }
         }
-        None
+        unreachable!();
     }
 
-    /// The index at which an operation of that number goes: behind those that began before it.
-    fn index_for(&self, number: u64) -> usize
-        ensures { IsIndexFor self.now number result }
+    /// The entry at an index goes.
+    pub fn remove(&mut self, index: usize)
+        requires { index < length self.old }
+        ensures { self.new ≡ remove self.old index }
     {
-        for index in (0..self.len()).rev() {
-            if self.at(index).number <= number {
-                return index + 1;
-            }
-        }
-        0
+        self.entries.remove(index);
     }
 
     /// A place goes, if there is a number by which it waited.
@@ -113,13 +165,11 @@ impl Queue {
         requires { IsQueuedAs self.old place was }
         ensures { Leaves place was self.old self.new }
     {
-        if was.is_none() {
+        let Some(number) = was else {
             return;
-        }
-        let Some(index) = self.index_of(place) else {
-            unreachable!();
         };
-        self.entries.remove(index);
+        let index = self.index_of(place, number);
+        self.remove(index);
     }
 
     /// A place comes, if there is a number by which it waits now.

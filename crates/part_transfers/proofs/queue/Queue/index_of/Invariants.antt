@@ -5,4 +5,5 @@ use Rattle.part_transfers.proofs.queue.Queue.index_of.Given as goal
 
 abbrev pub invariant-loop-index : goal.invariant-loop-index
 invariant-loop-index l =
-    (at : ℕ) (entry : Queued) → at < l.index → slice_get l.self at ≡ Some entry → entry.place ≡ l.place → ⊥
+    (at : ℕ) (entry : Queued) → at < l.index → slice_get l.self at ≡ Some entry → entry.number ≡ l.number
+    → entry.place ≡ l.place → ⊥
