@@ -4,7 +4,6 @@ pub mod Outs
 pub mod Said
 pub mod Tests
 pub mod Places
-pub mod Extents
 pub mod Issued
 pub mod Counts
 pub mod Queueing
@@ -16,6 +15,8 @@ pub mod Marks
 pub mod Exhausted
 pub mod Lists
 pub mod Waiting
+pub mod Standing
+pub mod Dropping
 pub mod Oldest
 pub mod Gone
 pub mod Whole

@@ -7,7 +7,7 @@ use Rattle.part_transfers.specs.declared.table.OperationRecord.{OperationRecord}
 use Rattle.part_transfers.specs.declared.table.Check.{Check}
 use Rattle.part_transfers.specs.Table.{flat}
 use Rattle.part_transfers.specs.Syncs.{flag_at}
-use Rattle.part_transfers.specs.Table.{on_place, picks, passes, also, AreMarks, unless_marked, dropped}
+use Rattle.part_transfers.specs.Table.{on_place, picks, passes, also, AreMarks}
 
 pub mark_is : (test : OperationRecord → Bool) (places : List (Option OperationRecord)) (marks : List Bool) (place : ℕ)
     (there : Option OperationRecord)
@@ -27,18 +27,6 @@ pub picks_is : (test : OperationRecord → Bool) (check : Check) (places : List 
     → picks (flag_at marks place) check there ≡ on_place (λ r. test r && passes check r) there
 picks_is test check places marks place there M less at =
     ap (λ mark. picks mark check there) (mark_is test places marks place there M less at) ∙ picks_test test check there
-
-dropped_test : (test : OperationRecord → Bool) (there : Option OperationRecord)
-    → unless_marked (on_place test there) there ≡ dropped test there
-dropped_test test None = refl
-dropped_test test (Some there) = refl
-
-pub dropped_is : (test : OperationRecord → Bool) (places : List (Option OperationRecord)) (marks : List Bool) (place : ℕ)
-    (there : Option OperationRecord)
-    → AreMarks test places marks → place < 256 → slice_get places place ≡ Some there
-    → unless_marked (flag_at marks place) there ≡ dropped test there
-dropped_is test places marks place there M less at =
-    ap (λ mark. unless_marked mark there) (mark_is test places marks place there M less at) ∙ dropped_test test there
 
 pub also_is : (test other : OperationRecord → Bool) (there : Option OperationRecord)
     → (on_place test there || on_place other there) ≡ on_place (also test other) there

@@ -7,6 +7,7 @@ use Rattle.std.proofs.lemmas.Bool.{cases_Bool, cases_lt, and_parts, and_from, no
 use Rattle.std.proofs.lemmas.Option.{same_Some}
 use Rattle.part_transfers.specs.declared.table.OperationRecord.{OperationRecord}
 use Rattle.part_transfers.specs.declared.table.Pick.TheVariants as pick
+use Rattle.part_transfers.specs.declared.table.Check.{Check}
 use Rattle.part_transfers.specs.declared.table.Check.TheVariants.{Any, Others, Unissued, UnissuedTo, Unfinished}
 use Rattle.part_transfers.specs.declared.operation.ImplicitKinds.{ImplicitKinds}
 use Rattle.part_transfers.specs.Operation.{Operation, Sent, returned_of, has_next, is_complete, target}
@@ -116,7 +117,7 @@ and_true : (test : Bool) → (test && true) ≡ test
 and_true true = refl
 and_true false = refl
 
-any_plain : (test : OperationRecord → Bool) (places : List (Option OperationRecord))
+pub any_plain : (test : OperationRecord → Bool) (places : List (Option OperationRecord))
     → list_any (on_place (λ there. test there && true)) places ≡ list_any (on_place test) places
 any_plain test [] = refl
 any_plain test (None ∷ places) = any_plain test places
@@ -142,6 +143,22 @@ members_agree places operations handle K = elim (cases_Bool (is_empty (chosen (i
     open_only = λ number operation goes. (region_agrees handle).open_only number operation (rw some at goes);
   }
 ]
+
+-- a test in the place of an equal one
+pub agrees_by : (choice : Choice) (test other : OperationRecord → Bool)
+    → ((there : OperationRecord) → other there ≡ test there) → Agrees choice test → Agrees choice other
+agrees_by choice test other same A = record {
+  chosen = λ number operation stands. A.chosen number operation stands ∙ sym (same (kept number operation));
+  open_only = A.open_only;
+}
+
+pub passing_by : (test other : OperationRecord → Bool) (check : Check) (places : List (Option OperationRecord))
+    → ((there : OperationRecord) → test there ≡ other there)
+    → has_passing test check places ≡ has_passing other check places
+passing_by test other check [] same = refl
+passing_by test other check (None ∷ places) same = passing_by test other check places same
+passing_by test other check (Some there ∷ places) same =
+    ap₂ (λ holds later. (holds && passes check there) || later) (same there) (passing_by test other check places same)
 
 pub implicit_agree : (thread : ℕ) (which : ImplicitKinds)
     → Agrees (implicit_of thread which) (picked (pick.Implicit thread which))

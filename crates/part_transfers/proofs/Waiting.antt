@@ -38,14 +38,20 @@ pub waits_there : (places : List (Option OperationRecord)) (place : ℕ) (there 
 waits_there places place there at unissued = ap (λ found. waits_by (flat found)) at ∙ rw unissued refl
 
 -- after a write
-pub waits_written : (places : List (Option OperationRecord)) (place : ℕ) (there : Option OperationRecord) → place < length places
-    → waits_at (set places place there) place ≡ waits_by there
-waits_written places place there less = ap (λ found. waits_by (flat found)) (get-set_same places place there less)
+-- the number by which a place is in a list
+abbrev pub by_at : (Option OperationRecord → Option ℕ) → List (Option OperationRecord) → (place : ℕ) → Option ℕ
+by_at by places place = by (flat (slice_get places place))
 
-pub waits_elsewhere : (places : List (Option OperationRecord)) (place : ℕ) (there : Option OperationRecord) (other : ℕ)
-    → (other ≡ place → ⊥) → waits_at (set places place there) other ≡ waits_at places other
-waits_elsewhere places place there other apart =
-    ap (λ found. waits_by (flat found)) (get-set_other places place there other apart)
+pub by_written : (by : Option OperationRecord → Option ℕ) (places : List (Option OperationRecord)) (place : ℕ)
+    (there : Option OperationRecord)
+    → place < length places → by_at by (set places place there) place ≡ by there
+by_written by places place there less = ap (λ found. by (flat found)) (get-set_same places place there less)
+
+pub by_elsewhere : (by : Option OperationRecord → Option ℕ) (places : List (Option OperationRecord)) (place : ℕ)
+    (there : Option OperationRecord) (other : ℕ)
+    → (other ≡ place → ⊥) → by_at by (set places place there) other ≡ by_at by places other
+by_elsewhere by places place there other apart =
+    ap (λ found. by (flat found)) (get-set_other places place there other apart)
 
 -- ---- the queue of the places
 

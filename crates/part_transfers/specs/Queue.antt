@@ -1,4 +1,4 @@
--- The places that wait, in the order in which their operations began.
+-- Places in the order in which their operations began: those that wait, or all that are taken.
 use Rattle.std.specs.Prelude.{ℕ, ◌≡◌, ◌≢◌, ◌⊎◌, ◌<◌, ◌≤◌, List, Option, None, Some, length, insert, remove}
 use Rattle.std.specs.Prelude.{slice_get}
 use Rattle.part_transfers.specs.declared.queue.Queued.{Queued}

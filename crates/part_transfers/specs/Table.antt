@@ -1,6 +1,6 @@
 -- The records of a node's operations in 256 places, and what is asked of them.
 use Rattle.std.specs.Prelude.{ℕ, ◌≡◌, ◌<◌, ◌≤◌, suc, Bool, true, false, not, ◌&&◌, ◌||◌, if◌then◌else◌, nat_lt, ◌==◌}
-use Rattle.std.specs.Prelude.{List, [], ◌∷◌, Option, None, Some, length, slice_get}
+use Rattle.std.specs.Prelude.{List, [], ◌∷◌, Option, None, Some, is_some, length, slice_get}
 use Rattle.std.specs.List.{list_any}
 use Rattle.part_transfers.specs.declared.table.OperationRecord.{OperationRecord}
 use Rattle.part_transfers.specs.declared.table.Pick.{Pick}
@@ -46,6 +46,19 @@ waits_by (Some there) = if is_unissued there then Some there.number else None
 abbrev pub waits_at : List (Option OperationRecord) → (place : ℕ) → Option ℕ
 waits_at places place = waits_by (flat (slice_get places place))
 
+-- the number by which a place stands in the list of all: its operation's, if a record stands there
+abbrev pub stands_by : Option OperationRecord → Option ℕ
+stands_by None = None
+stands_by (Some there) = Some there.number
+
+abbrev pub stands_at : List (Option OperationRecord) → (place : ℕ) → Option ℕ
+stands_at places place = stands_by (flat (slice_get places place))
+
+-- 1 if a record stands in the place that is in a region, or else 0
+abbrev pub regions_of : Option OperationRecord → ℕ
+regions_of None = 0
+regions_of (Some there) = if is_some there.region then 1 else 0
+
 abbrev pub passes : Check → OperationRecord → Bool
 passes Any there = true
 passes (Others thread) there = not (there.thread == thread)
@@ -56,9 +69,6 @@ passes Unfinished there = is_unissued there || nat_lt there.returned there.issue
 -- a record stands in the place, is marked, and passes
 abbrev pub picks : (mark : Bool) → Check → Option OperationRecord → Bool
 picks mark check place = on_place (λ there. mark && passes check there) place
-
-abbrev pub unless_marked : (mark : Bool) → Option OperationRecord → Option OperationRecord
-unless_marked mark place = if mark then None else place
 
 -- one test or the other
 abbrev pub also : (OperationRecord → Bool) → (OperationRecord → Bool) → OperationRecord → Bool

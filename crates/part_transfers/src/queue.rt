@@ -1,4 +1,5 @@
-//! The places that wait: those whose record has an unissued chunk, in the order in which their operations began.
+//! Places by the numbers of their operations: those that wait, as their record has an unissued chunk, and all that are
+//! taken.
 
 ghost use Rattle.std.specs.Prelude.{◌≡◌, ◌<◌, ◌≤◌, ◌==◌, ℕ, [], Option, Some, true, length, slice_get, remove};
 ghost use Rattle.std.specs.Prelude.{IfOk, IfSome, IfNone};
@@ -63,7 +64,8 @@ impl Queue {
     /// The entry at an index, counted from the oldest one.
     pub fn at(&self, index: usize) -> Queued
         requires { index < length self.now }
-        ensures { slice_get self.now index ≡ Some result }
+        ensures here { slice_get self.now index ≡ Some result }
+        ensures inside { result.place < 256 }
     {
         self.entries[index]
     }
@@ -108,7 +110,7 @@ impl Queue {
 
     /// The index of the first entry whose number isn't smaller than that: where an operation of that number goes, and
     /// where it stands. That of the first entry, of the last one, and the one behind it are found at once.
-    pub fn index_for(&self, number: u64) -> usize
+    fn index_for(&self, number: u64) -> usize
         ensures { IsIndexFor self.now number result }
     {
         let guess = self.guess(number);
@@ -138,11 +140,26 @@ impl Queue {
         None
     }
 
+    /// From which index on, and before which one, the entries of that number stand.
+    pub fn run_of(&self, number: u64) -> (usize, usize)
+        ensures within { result.1 ≤ length self.now }
+        ensures all { (index : ℕ) (entry : Queued) → slice_get self.now index ≡ Some entry
+            → entry.number ≡ number → (result.0 ≤ index) × (index < result.1) }
+    {
+        let from = self.index_for(number);
+        let many = self.len();
+        for end in from..many {
+            if self.at(end).number != number {
+                return (from, end);
+            }
+        }
+        (from, many)
+    }
+
     /// The index of a place that waits by that number.
     fn index_of(&self, place: usize, number: u64) -> usize
         requires { IsQueuedAs self.now place (Some number) }
-        ensures found { WaitsAt self.now result place }
-        ensures queue { IsQueue self.now }
+        ensures { WaitsAt self.now result place }
     {
         for index in self.index_for(number)..self.len() {
             if self.at(index).place == place {
@@ -155,7 +172,8 @@ impl Queue {
     /// The entry at an index goes.
     pub fn remove(&mut self, index: usize)
         requires { index < length self.old }
-        ensures { self.new ≡ remove self.old index }
+        ensures is { self.new ≡ remove self.old index }
+        ensures queue { IsQueue self.old }
     {
         self.entries.remove(index);
     }

@@ -1,11 +1,14 @@
 //! The records of a node's operations, in the 256 places of a slab.
 
 ghost use Rattle.std.specs.Prelude.{◌≡◌, ◌<◌, ◌≤◌, ℕ, List, Option, None, Some, length, replicate, slice_get};
-ghost use Rattle.std.specs.Prelude.{slice_set, IfOk, IfSome, IfNone, Bool, not, ◌||◌, ◌&&◌};
+ghost use Rattle.std.specs.Prelude.{slice_set, remove, IfOk, IfSome, IfNone, Bool, true, not, ◌||◌, ◌&&◌};
+ghost use Rattle.part_transfers.specs.declared.queue.Queued.{Queued};
+ghost use Rattle.part_transfers.specs.declared.table.Pick.TheVariants as pick;
 ghost use Rattle.part_transfers.specs.Syncs.{is_kind, flag_at};
 ghost use Rattle.part_transfers.specs.Table.{taken, is_unissued, waits_by, passes, picked, on_place, picks, ready, IsLeast};
-ghost use Rattle.part_transfers.specs.Table.{unless_marked, also, has_passing, AreMarks, IsPlaceOf, AreDropped};
-ghost use Rattle.part_transfers.specs.Table.{HasRecordAt};
+ghost use Rattle.part_transfers.specs.Table.{also, has_passing, AreMarks, IsPlaceOf, AreDropped, HasRecordAt};
+ghost use Rattle.part_transfers.specs.Table.{stands_by, regions_of};
+ghost use Rattle.part_transfers.specs.Places.{record_places, IsIndexed};
 ghost use Rattle.std.specs.List.{list_any};
 
 use crate::operation::{ImplicitKinds, Transfer};
@@ -150,6 +153,26 @@ fn waits_by(place: Option<OperationRecord>) -> Option<u64>
     }
 }
 
+/// The number by which a place stands in the list of all: its operation's, if a record stands there.
+fn stands_by(place: Option<OperationRecord>) -> Option<u64>
+    ensures { result ≡ stands_by place }
+{
+    match place {
+        Some(operation) => Some(operation.number),
+        None => None,
+    }
+}
+
+/// 1 if a record stands there that is in a region, or else 0.
+fn regions_of(place: Option<OperationRecord>) -> usize
+    ensures { result ≡ regions_of place }
+{
+    match place {
+        Some(operation) if operation.region.is_some() => 1,
+        _ => 0,
+    }
+}
+
 /// The record there, if a chunk of it may be issued; `can` has a flag for each node.
 fn ready(place: Option<OperationRecord>, can: &[bool]) -> Option<OperationRecord>
     ensures { result ≡ ready (flag_at can.now) place }
@@ -172,34 +195,67 @@ fn is_match(place: Option<OperationRecord>, pick: Pick, check: Check) -> bool
     }
 }
 
-/// 256 places: the keys of a slab, which tells the next blank one. Those of the records with an unissued chunk wait in
-/// the queue. The extent bounds each search to the places that are taken.
+/// Between which entries of the list of all those of the records that are meant stand.
+fn run(standing: &Queue, pick: Pick) -> (usize, usize)
+    ensures within { result.1 ≤ length standing.now }
+    ensures all { (index : ℕ) (entry : Queued) (there : OperationRecord)
+        → slice_get standing.now index ≡ Some entry → there.number ≡ entry.number
+        → picked pick there ≡ true → (result.0 ≤ index) × (index < result.1) }
+{
+    match pick {
+        Pick::Number(number) => standing.run_of(number),
+        _ => (0, standing.len()),
+    }
+}
+
+/// The record of an entry of the list of all goes.
+fn drop_at(
+    records: &mut Slab<OperationRecord>,
+    queue: &mut Queue,
+    standing: &mut Queue,
+    in_regions: &mut usize,
+    index: usize,
+)
+    requires within { index < length standing.old }
+    requires indexed { IsIndexed records.old queue.old standing.old in_regions.old }
+    ensures indexed { IsIndexed records.new queue.new standing.new in_regions.new }
+    ensures standing { standing.new ≡ remove standing.old index }
+    ensures gone { (entry : Queued) → slice_get standing.old index ≡ Some entry
+        → record_places records.new ≡ slice_set (record_places records.old) entry.place None }
+{
+    let place = standing.at(index).place;
+    let removed = records.try_remove(place);
+    queue.change(place, waits_by(removed), None);
+    standing.remove(index);
+    *in_regions -= regions_of(removed);
+}
+
+/// 256 places: the keys of a slab, which tells the next blank one. The places that are taken stand in a list by the
+/// numbers of their operations, and those of the records with an unissued chunk in a queue.
 #[derive(Drop)]
 pub(crate) struct Table {
     records: Slab<OperationRecord>,
     queue: Queue,
-    /// Each place from it on is blank.
-    extent: usize,
+    standing: Queue,
+    /// How many records are in a region.
+    in_regions: usize,
 }
 
 impl Model for Table {
-    ghost use Rattle.std.specs.Prelude.{List, Option, ◌≡◌};
-    ghost use Rattle.part_transfers.specs.Table.{waits_at};
-    ghost use Rattle.part_transfers.specs.Places.{record_places, IsExtent};
-    ghost use Rattle.part_transfers.specs.Queue.{Queues};
+    ghost use Rattle.std.specs.Prelude.{List, Option};
+    ghost use Rattle.part_transfers.specs.Places.{record_places, IsIndexed};
     ghost use Rattle.part_transfers.specs.declared.table.OperationRecord.{OperationRecord};
 
     ghost Value = { List (Option OperationRecord) };
 
     ghost view = { λ t. record_places t.records };
 
-    ghost invariant = { λ t. (t.records.capacity ≡ 256)
-        × Queues (waits_at (record_places t.records)) t.queue
-        × IsExtent t.extent (record_places t.records) };
+    ghost invariant = { λ t. IsIndexed t.records t.queue t.standing t.in_regions };
 }
 
 impl Table {
-    /// All places are blank. It takes the memory of 256 records and touches none of it; no later call takes any.
+    /// All places are blank. It takes the memory of 256 records and of two lists of as many, and touches none of it; no
+    /// later call takes any.
     pub fn new(alloc: Global) -> Result<Table, AllocError>
         ensures { IfOk result (λ table. table ≡ replicate 256 None) }
     {
@@ -211,7 +267,8 @@ impl Table {
         Ok(Table {
             records,
             queue: Queue::new(alloc)?,
-            extent: 0,
+            standing: Queue::new(alloc)?,
+            in_regions: 0,
         })
     }
 
@@ -236,7 +293,8 @@ impl Table {
         }
         let place = self.records.insert_reserved(operation);
         self.queue.change(place, None, waits_by(Some(operation)));
-        self.extent = self.extent.max(place + 1);
+        self.standing.change(place, None, Some(operation.number));
+        self.in_regions += regions_of(Some(operation));
         Some(place)
     }
 
@@ -245,29 +303,12 @@ impl Table {
         requires { HasRecordAt self.old place }
         ensures { self.new ≡ slice_set self.old place (Some operation) }
     {
-        let was = waits_by(self.at(place));
-        self.queue.change(place, was, waits_by(Some(operation)));
+        let was = self.at(place);
+        let now = Some(operation);
+        self.queue.change(place, waits_by(was), waits_by(now));
+        self.standing.change(place, stands_by(was), stands_by(now));
+        self.in_regions = self.in_regions - regions_of(was) + regions_of(now);
         self.records[place] = operation;
-    }
-
-    /// A place becomes blank.
-    fn remove(&mut self, place: usize)
-        requires { place < 256 }
-        ensures { self.new ≡ slice_set self.old place None }
-    {
-        let removed = self.records.try_remove(place);
-        self.queue.change(place, waits_by(removed), None);
-    }
-
-    /// A place becomes blank, if it is marked.
-    fn remove_marked(&mut self, place: usize, mark: bool)
-        requires { place < 256 }
-        ensures { (there : Option OperationRecord) → slice_get self.old place ≡ Some there
-            → self.new ≡ slice_set self.old place (unless_marked mark there) }
-    {
-        if mark {
-            self.remove(place);
-        }
     }
 
     /// Whether no record has an unissued chunk.
@@ -295,23 +336,24 @@ impl Table {
         None
     }
 
-    /// Whether some record is meant.
-    pub fn any(&self, pick: Pick) -> bool
-        ensures { result ≡ list_any (on_place (picked pick)) self.now }
+    /// Whether a region of that name stands. It looks at no record where none is in a region.
+    pub fn has_region(&self, name: u64) -> bool
+        ensures { result ≡ list_any (on_place (picked (pick.Region name))) self.now }
     {
-        for place in 0..self.extent {
-            if is_picked(self.at(place), pick) {
-                return true;
-            }
+        if self.in_regions == 0 {
+            return false;
         }
-        false
+        self.any_passes(Pick::Region(name), Check::Any)
     }
 
-    /// Whether some record that is meant passes. It looks at none behind the first one that does.
+    /// Whether some record that is meant passes. It looks at none behind the first one that does, and of a record that
+    /// is meant by its number at that one alone.
     pub fn any_passes(&self, pick: Pick, check: Check) -> bool
         ensures { result ≡ has_passing (picked pick) check self.now }
     {
-        for place in 0..self.extent {
+        let (from, end) = run(&self.standing, pick);
+        for index in from..end {
+            let place = self.standing.at(index).place;
             if is_match(self.at(place), pick, check) {
                 return true;
             }
@@ -324,7 +366,9 @@ impl Table {
         ensures { (test : OperationRecord → Bool) → AreMarks test self.now marks.old
             → AreMarks (also test (picked pick)) self.now marks.new }
     {
-        for place in 0..self.extent {
+        let (from, end) = run(&self.standing, pick);
+        for index in from..end {
+            let place = self.standing.at(index).place;
             marks[place] = either(marks[place], is_picked(self.at(place), pick));
         }
     }
@@ -334,7 +378,8 @@ impl Table {
         ensures { (test : OperationRecord → Bool) → AreMarks test self.now marks.now
             → result ≡ has_passing test check self.now }
     {
-        for place in 0..self.extent {
+        for index in 0..self.standing.len() {
+            let place = self.standing.at(index).place;
             if picks(self.at(place), flag_at(marks, place), check) {
                 return true;
             }
@@ -352,39 +397,40 @@ impl Table {
         self.queue.place_of(number)
     }
 
-    /// One more than the greatest place that is taken, or 0.
-    fn taken_end(&self) -> usize
-        ensures within { result ≤ 256 }
-        ensures end { (place : ℕ) (there : OperationRecord)
-            → slice_get self.now place ≡ Some (Some there) → place < result }
+    /// The records that are meant go.
+    pub fn drop_picked(&mut self, pick: Pick)
+        ensures { AreDropped (picked pick) self.old self.new }
     {
-        for place in (0..self.extent).rev() {
-            if self.at(place).is_some() {
-                return place + 1;
+        let (from, end) = run(&self.standing, pick);
+        for index in (from..end).rev() {
+            let place = self.standing.at(index).place;
+            if is_picked(self.records.get(place).copied(), pick) {
+                drop_at(
+                    &mut self.records,
+                    &mut self.queue,
+                    &mut self.standing,
+                    &mut self.in_regions,
+                    index,
+                );
             }
         }
-        0
     }
 
-    /// The extent ends behind the greatest place that is taken. Where none is, the slab begins anew: the next operation
-    /// takes the first place.
-    fn lower_end(&mut self)
-        ensures { self.new ≡ self.old }
-    {
-        self.extent = self.taken_end();
-        if self.extent == 0 {
-            self.records.clear();
-        }
-    }
-
-    /// The records that are marked go, the last place first, so that the next operation takes the first of their places.
+    /// The records that are marked go.
     pub fn drop_marked(&mut self, marks: &[bool; 256])
         ensures { (test : OperationRecord → Bool) → AreMarks test self.old marks.now
             → AreDropped test self.old self.new }
     {
-        for place in (0..self.extent).rev() {
-            self.remove_marked(place, flag_at(marks, place));
+        for index in (0..self.standing.len()).rev() {
+            if flag_at(marks, self.standing.at(index).place) {
+                drop_at(
+                    &mut self.records,
+                    &mut self.queue,
+                    &mut self.standing,
+                    &mut self.in_regions,
+                    index,
+                );
+            }
         }
-        self.lower_end();
     }
 }

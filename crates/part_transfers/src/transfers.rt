@@ -66,7 +66,7 @@ fn is_implicit(mode: Mode) -> bool
 }
 
 impl Transfers {
-    /// No operation began. It takes the memory of 256 records, of a queue of as many, and of an entry for each of
+    /// No operation began. It takes the memory of 256 records, of two lists of as many, and of an entry for each of
     /// `credits` slots of each node; `credits` is the greatest number of requests to one node that can be out. No later
     /// call takes any.
     pub fn new(alloc: Global, nodes: u16, credits: u16) -> Result<Transfers, AllocError>
@@ -185,16 +185,24 @@ impl Transfers {
 }
 
 impl Transfers {
+    /// The members of a handle other than the invalid one.
+    fn members(&self, handle: u64) -> Pick
+        ensures { (there : OperationRecord)
+            → picked result there ≡ member_in self.now.table handle there }
+    {
+        if self.table.has_region(handle) {
+            Pick::Region(handle)
+        } else {
+            Pick::Number(handle)
+        }
+    }
+
     /// Marks the members of a handle other than the invalid one.
     fn mark_members(&self, handle: u64, marks: &mut [bool; 256])
         ensures { (test : OperationRecord → Bool) → AreMarks test self.now.table marks.old
             → AreMarks (also test (member_in self.now.table handle)) self.now.table marks.new }
     {
-        if self.table.any(Pick::Region(handle)) {
-            self.table.mark(Pick::Region(handle), marks);
-        } else {
-            self.table.mark(Pick::Number(handle), marks);
-        }
+        self.table.mark(self.members(handle), marks);
     }
 
     /// Whether each chunk of a handle's operations was issued. `Some(true)` for the invalid handle, and `None` where no
@@ -206,12 +214,11 @@ impl Transfers {
         if handle.serial == 0 {
             return Some(true);
         }
-        let mut marks = [false; 256];
-        self.mark_members(handle.serial, &mut marks);
-        if !self.table.has(&marks, Check::Any) {
+        let pick = self.members(handle.serial);
+        if !self.table.any_passes(pick, Check::Any) {
             return None;
         }
-        Some(!self.table.has(&marks, Check::Unissued))
+        Some(!self.table.any_passes(pick, Check::Unissued))
     }
 
     /// Whether some chunk of the operation with the handle's number is unissued: of that one alone, also where it is in
@@ -277,8 +284,7 @@ impl Transfers {
         None
     }
 
-    /// Where what is meant is complete it goes. While it isn't, the first record that is unfinished answers, and no
-    /// record is marked.
+    /// Where what is meant is complete it goes. While it isn't, the first record that is unfinished answers.
     fn sync_picked(&mut self, exhausted: &[bool], pick: Pick) -> Synced
         requires { length exhausted.now ≤ MAX_NODES }
         ensures answer { ForItsOperations self.old (λ operations. (choice : Choice)
@@ -290,9 +296,7 @@ impl Transfers {
         ensures room { room_of self.new ≡ room_of self.old }
     {
         if !self.table.any_passes(pick, Check::Unfinished) {
-            let mut marks = [false; 256];
-            self.table.mark(pick, &mut marks);
-            self.table.drop_marked(&marks);
+            self.table.drop_picked(pick);
             return Synced::Ok;
         }
         match self.first_exhausted_of(exhausted, pick) {
@@ -301,18 +305,17 @@ impl Transfers {
         }
     }
 
-    /// What is wrong with a handle whose members are marked, if anything is: no operation and no region has it, or
+    /// What is wrong with a handle that has these members, if anything is: no operation and no region has it, or
     /// another thread's has.
-    fn fault(&self, thread: u16, marks: &[bool; 256]) -> Option<Synced>
-        ensures { ForItsOperations self.now (λ operations.
-            (choice : Choice) (test : OperationRecord → Bool)
-            → AreMarks test self.now.table marks.now → Agrees choice test
+    fn fault(&self, thread: u16, pick: Pick) -> Option<Synced>
+        ensures { ForItsOperations self.now (λ operations. (choice : Choice)
+            → Agrees choice (picked pick)
             → result ≡ fault_here thread (chosen choice 1 operations)) }
     {
-        if !self.table.has(marks, Check::Any) {
+        if !self.table.any_passes(pick, Check::Any) {
             return Some(Synced::BadHandle);
         }
-        if self.table.has(marks, Check::Others(thread)) {
+        if self.table.any_passes(pick, Check::Others(thread)) {
             return Some(Synced::NotYours);
         }
         None
@@ -334,11 +337,10 @@ impl Transfers {
         if handle.serial == 0 {
             return Synced::Ok;
         }
-        let mut marks = [false; 256];
-        self.mark_members(handle.serial, &mut marks);
-        match self.fault(thread, &marks) {
+        let pick = self.members(handle.serial);
+        match self.fault(thread, pick) {
             Some(fault) => fault,
-            None => self.sync_marked(exhausted, &marks),
+            None => self.sync_picked(exhausted, pick),
         }
     }
 
@@ -367,9 +369,7 @@ impl Transfers {
         ensures { ForItsOperations self.now (λ operations.
             result ≡ fault_here thread (chosen (members handle operations) 1 operations)) }
     {
-        let mut marks = [false; 256];
-        self.mark_members(handle, &mut marks);
-        self.fault(thread, &marks)
+        self.fault(thread, self.members(handle))
     }
 
     /// The first fault of these handles.
@@ -451,9 +451,9 @@ impl Transfers {
         if handle.serial == 0 {
             return false;
         }
-        let mut marks = [false; 256];
-        self.mark_members(handle.serial, &mut marks);
-        !self.table.has(&marks, Check::Unfinished)
+        !self
+            .table
+            .any_passes(self.members(handle.serial), Check::Unfinished)
     }
 
     /// Whether each of the handle's operations that stand is complete: each chunk of it was issued and is back. True

@@ -6,10 +6,10 @@ use Rattle.part_transfers.proofs.queue.Queue.leave.Goals as goal
 
 pub remove-requires : goal.remove-requires
 remove-requires c =
-    let at = c.index_of-index.ensures.found in
+    let at = c.index_of-index.ensures in
     slice_get_within c.args.self.now c.index_of-index.result at.entry at.here
 
 pub returns : goal.returns
 returns c =
     queue_left c.args.place c.args.was c.args.self.now c.remove.new.self c.index_of-index.result
-    (ap is_some c.in-Some.is) c.index_of-index.ensures.found c.remove.ensures c.index_of-index.ensures.queue
+    (ap is_some c.in-Some.is) c.index_of-index.ensures c.remove.ensures.is c.remove.ensures.queue

@@ -21,4 +21,7 @@ invariant_of-self c = (
 )
 
 pub returns : goal.returns
-returns c = is (goal.at.returns c).After-remove ∙ ap (λ xs. remove xs c.args.index) c.self.view_is
+returns c = record {
+  is = is (goal.at.returns c).After-remove ∙ ap (λ xs. remove xs c.args.index) c.self.view_is;
+  queue = subst IsQueue c.self.view_is c.self.invariant.1;
+}

@@ -1,11 +1,9 @@
-use Rattle.std.proofs.Common.{◌≡◌, ◌<◌, ℕ, false, Option, Some}
-use Rattle.std.specs.List.{slice_get}
-use Rattle.part_transfers.specs.declared.table.OperationRecord.{OperationRecord}
+use Rattle.std.proofs.Common.{◌&&◌}
 use Rattle.part_transfers.specs.Syncs.{flag_at}
-use Rattle.part_transfers.specs.Table.{picks}
+use Rattle.part_transfers.specs.Table.{passes}
+use Rattle.part_transfers.proofs.Standing.{NoneOf}
 use Rattle.part_transfers.proofs.table.Table.has.Given as goal
 
-abbrev pub invariant-loop-place : goal.invariant-loop-place
-invariant-loop-place l =
-    (place : ℕ) (there : Option OperationRecord) → place < l.place → slice_get l.self place ≡ Some there
-    → picks (flag_at l.marks place) l.check there ≡ false
+abbrev pub invariant-loop-index : goal.invariant-loop-index
+invariant-loop-index l =
+    NoneOf (λ place there. flag_at l.marks place && passes l.check there) l.self l.self-inside.standing 0 l.index

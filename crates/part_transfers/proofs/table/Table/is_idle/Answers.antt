@@ -7,5 +7,5 @@ use Rattle.part_transfers.proofs.table.Table.is_idle.Goals as goal
 
 pub returns : goal.returns
 returns c = c.is_empty.ensures
-    ∙ (queue_idle (record_places c.self.inside.records) c.self.inside.queue c.self.invariant.1
+    ∙ (queue_idle (record_places c.self.inside.records) c.self.inside.queue c.self.invariant.waiting
     ∙ ap (λ xs. not (list_any (on_place is_unissued) xs)) c.self.view_is)

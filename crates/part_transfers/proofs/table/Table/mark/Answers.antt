@@ -1,52 +1,34 @@
-use Rattle.std.proofs.Common.{◌≡◌, ◌<◌, ◌≤◌, ◌+◌, ◌||◌, ℕ, Bool, false, List, length, get_or, set, sym}
-use Rattle.std.proofs.Common.{ap, ◌∙◌, subst, Some, arith, inl, inr}
-use Rattle.std.specs.List.{slice_get}
-use Rattle.std.proofs.lemmas.Bool.{cases_lt}
+use Rattle.std.proofs.Common.{◌≡◌, ◌||◌, ◌+◌, false, get_or, set, sym, ap, ◌∙◌, subst, arith}
 use Rattle.std.proofs.lemmas.Option.{slice_get-get_or}
-use Rattle.part_transfers.specs.Table.{flat}
-use Rattle.part_transfers.specs.Table.{also, on_place, picked}
-use Rattle.part_transfers.specs.Places.{IsExtent}
-use Rattle.part_transfers.proofs.Tests.{rewrite_more}
-use Rattle.part_transfers.proofs.Marks.{also_is}
-use Rattle.part_transfers.proofs.Extents.{marks_beyond}
+use Rattle.part_transfers.specs.Queue.{Queues}
+use Rattle.part_transfers.specs.Table.{on_place, picked, stands_at}
+use Rattle.part_transfers.proofs.Standing.{IsMarking, mark_more, marked_all}
 use Rattle.part_transfers.proofs.table.Table.mark.Goals as goal
 
-pub loop-place-preserved : goal.loop-place-preserved
-loop-place-preserved c =
-    let f : ℕ → Bool → Bool =
-    λ place mark. mark || on_place (picked c.args.pick) (flat (slice_get c.args.self.now place)) in
-    let old = c.args.marks.now in
-    let now = c.loop-place.marks in
-    let end = c.loop-place-test.true in
-    let mark = get_or now c.loop-place.place false in
-    let here = slice_get-get_or now c.loop-place.place false
-    (omega (arith, end, c.told-marks, c.loop-place.invariant.0, c.self.invariant.2.within)) in
-    let told : c.either.result ≡ f c.loop-place.place mark =
-    c.either.ensures ∙ ap (λ is. mark || is) (c.is_picked.ensures
-    ∙ ap (λ there. on_place (picked c.args.pick) (flat there)) (sym c.at.ensures)) in
+pub loop-index-preserved : goal.loop-index-preserved
+loop-index-preserved c =
+    let standing = c.self.inside.standing in
+    let now = c.loop-index.marks in
+    let place = c.at-place.result.place in
+    let mark = get_or now place false in
+    let here = slice_get-get_or now place false
+    (omega (arith, c.told-marks, c.loop-index.invariant.many, c.at-place.ensures.inside)) in
+    let told : c.either.result ≡ (mark || on_place (picked c.args.pick) c.at.result) =
+    c.either.ensures ∙ ap (λ is. mark || is) c.is_picked.ensures in
     subst
-    (λ (new : List Bool). (length new ≡ length old)
-    × ((place : ℕ) (mark : Bool) → place < c.loop-place.place + 1 → slice_get old place ≡ Some mark
-    → slice_get new place ≡ Some (f place mark))
-    × ((place : ℕ) (mark : Bool) → c.loop-place.place + 1 ≤ place → slice_get old place ≡ Some mark
-    → slice_get new place ≡ Some mark))
-    (ap (set now c.loop-place.place) (sym told))
-    (rewrite_more f old now c.loop-place.place mark here c.loop-place.invariant)
+    (λ x. IsMarking (picked c.args.pick) c.args.self.now standing c.args.marks.now (set now place x) c.run-from.result.0
+    (c.loop-index.index + 1))
+    (sym told)
+    (mark_more (picked c.args.pick) c.args.self.now standing c.args.marks.now now c.run-from.result.0 c.loop-index.index
+    c.at-place.result mark c.at.result c.loop-index.invariant c.at-place.ensures.here here c.at.ensures)
 
 pub returns : goal.returns
 returns c test M =
-    let places = c.args.self.now in
-    let extent = c.self.inside.extent in
-    let known = subst (IsExtent extent) c.self.view_is c.self.invariant.2 in
-    let past = c.loop-place-test.false in
-    record {
-      many = c.loop-place.invariant.0 ∙ M.many;
-      each = λ place less. elim (cases_lt place c.loop-place.place) [
-        | inl marked ↦ c.loop-place.invariant.1 place (on_place test (flat (slice_get places place))) marked
-            (M.each place less)
-            ∙ ap Some (also_is test (picked c.args.pick) (flat (slice_get places place)))
-        | inr far ↦ c.loop-place.invariant.2 place (on_place test (flat (slice_get places place))) far (M.each place less)
-            ∙ ap Some (marks_beyond test (also test (picked c.args.pick)) extent places place known
-            (omega (arith, far, past)))
-      ];
-    }
+    let standing = c.self.inside.standing in
+    let Q = subst (λ ps. Queues (stands_at ps) standing) c.self.view_is c.self.invariant.listed in
+    let past = c.loop-index-test.false in
+    marked_all test (picked c.args.pick) c.args.self.now standing c.args.marks.now c.loop-index.marks c.run-from.result.0
+    c.loop-index.index Q M
+    (λ index entry there at same holds. (let spot = c.run-from.ensures.all index entry there at same holds in
+    (spot.0, omega (arith, spot.1, past))))
+    c.loop-index.invariant

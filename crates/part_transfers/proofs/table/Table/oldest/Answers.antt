@@ -17,20 +17,20 @@ pub returns-in-Some : goal.returns-in-Some
 returns-in-Some c =
     let places = c.args.self.now in
     let queue = c.self.inside.queue in
-    let Q = subst (λ ps. Queues (waits_at ps) queue) c.self.view_is c.self.invariant.1 in
+    let Q = subst (λ ps. Queues (waits_at ps) queue) c.self.view_is c.self.invariant.waiting in
     let found = ready_some (flag_at c.args.can.now) c.at.result c.in-Some.operation (sym c.in-Some.ensures) in
     least_some (flag_at c.args.can.now) places queue c.loop-index.index c.at-place.result c.in-Some.operation Q
-    c.len-index-end.ensures.queue c.at-place.ensures (c.at.ensures ∙ ap Some found.0) found.1 c.loop-index.invariant
+    c.len-index-end.ensures.queue c.at-place.ensures.here (c.at.ensures ∙ ap Some found.0) found.1 c.loop-index.invariant
 
 pub loop-index-preserved : goal.loop-index-preserved
 loop-index-preserved c =
     ready_more (flag_at c.args.can.now) c.args.self.now c.self.inside.queue c.loop-index.index c.at-place.result
-    c.at.result c.at-place.ensures c.at.ensures (sym c.in_default.ensures) c.loop-index.invariant
+    c.at.result c.at-place.ensures.here c.at.ensures (sym c.in_default.ensures) c.loop-index.invariant
 
 pub returns : goal.returns
 returns c =
     let queue = c.self.inside.queue in
-    let Q = subst (λ ps. Queues (waits_at ps) queue) c.self.view_is c.self.invariant.1 in
+    let Q = subst (λ ps. Queues (waits_at ps) queue) c.self.view_is c.self.invariant.waiting in
     let past = c.loop-index-test.false in
     least_none (flag_at c.args.can.now) c.args.self.now queue c.loop-index.index Q (omega (arith, past))
     c.loop-index.invariant

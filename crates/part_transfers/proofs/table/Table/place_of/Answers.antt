@@ -9,9 +9,9 @@ pub returns : goal.returns
 returns c =
     let places = c.args.self.now in
     let queue = c.self.inside.queue in
-    let Q = subst (λ ps. Queues (waits_at ps) queue) c.self.view_is c.self.invariant.1 in
+    let Q = subst (λ ps. Queues (waits_at ps) queue) c.self.view_is c.self.invariant.waiting in
     let found = place_found places queue c.args.number c.place_of.result Q c.place_of.ensures.found in
-    let many = many_places c.self.inside.records places c.self.view_is c.self.invariant.0 in
+    let many = many_places c.self.inside.records places c.self.view_is c.self.invariant.room in
     record {
       found = found;
       none = place_missed places queue c.args.number c.place_of.result Q c.place_of.ensures.none;

@@ -1,14 +1,13 @@
-use Rattle.std.proofs.Common.{false}
 use Rattle.part_transfers.specs.Syncs.{members}
+use Rattle.part_transfers.specs.Table.{picked}
 use Rattle.part_transfers.specs.Stands.{member_in}
-use Rattle.part_transfers.proofs.Members.{members_agree}
-use Rattle.part_transfers.proofs.Marks.{no_marks, only}
+use Rattle.part_transfers.proofs.Members.{members_agree, agrees_by}
 use Rattle.part_transfers.proofs.transfers.Transfers.fault_of.Goals as goal
 
 pub returns : goal.returns
 returns c operations S =
     let table = c.args.self.now.table in
-    let test = member_in table c.args.handle in
-    let M = only test table c.mark_members.new.marks (c.mark_members.ensures (λ there. false) (no_marks table)) in
-    c.fault.ensures operations S (members c.args.handle operations) test M
-    (members_agree table operations c.args.handle S.keeps)
+    let handle = c.args.handle in
+    c.fault.ensures operations S (members handle operations)
+    (agrees_by (members handle operations) (member_in table handle) (picked c.members.result) c.members.ensures
+    (members_agree table operations handle S.keeps))

@@ -1,19 +1,11 @@
-use Rattle.std.proofs.Common.{false, Some, None, not, sym, ap, ◌∙◌, subst, refl}
+use Rattle.std.proofs.Common.{Some, None, not, sym, ap, ◌∙◌, subst, refl}
 use Rattle.part_transfers.specs.Syncs.{flag_at, exhausted_or}
-use Rattle.part_transfers.specs.Table.{AreMarks, picked}
+use Rattle.part_transfers.specs.Table.{picked}
 use Rattle.part_transfers.specs.Stands.{IsFirstExhausted}
-use Rattle.part_transfers.proofs.Marks.{no_marks, only}
 use Rattle.part_transfers.proofs.Members.{complete_is}
 use Rattle.part_transfers.proofs.Exhausted.{exhausted_is}
 use Rattle.part_transfers.proofs.Gone.{stands_gone}
 use Rattle.part_transfers.proofs.transfers.Transfers.sync_picked.Goals as goal
-
--- what was marked is what is meant
-marked : (c : goal.After-drop_marked)
-    → AreMarks (picked c.args.pick) c.args.self.now.table c.mark.new.marks
-marked c =
-    only (picked c.args.pick) c.args.self.now.table c.mark.new.marks
-    (c.mark.ensures (λ there. false) (no_marks c.args.self.now.table))
 
 pub returns-then-not-any_passes-clause-answer : goal.returns-then-not-any_passes-clause-answer
 returns-then-not-any_passes-clause-answer c operations S choice A =
@@ -22,7 +14,7 @@ returns-then-not-any_passes-clause-answer c operations S choice A =
 
 pub returns-then-not-any_passes-clause-stands : goal.returns-then-not-any_passes-clause-stands
 returns-then-not-any_passes-clause-stands c operations S choice A =
-    stands_gone c.args.self.now c.drop_marked.new.self operations choice (picked c.args.pick) S A (c.drop_marked.ensures (picked c.args.pick) (marked c))
+    stands_gone c.args.self.now c.drop_picked.new.self operations choice (picked c.args.pick) S A c.drop_picked.ensures
     (complete_is c.args.self.now.table operations choice (picked c.args.pick) S.keeps A
     ∙ ap not (sym (c.any_passes.ensures) ∙ c.if-not-any_passes.true))
 

@@ -1,8 +1,8 @@
-use Rattle.std.proofs.Common.{sym, ap, ◌∙◌, false, ne_eqb}
+use Rattle.std.proofs.Common.{sym, ap, ◌∙◌, ne_eqb}
 use Rattle.part_transfers.specs.Syncs.{members, flag_at, sync_answer, chosen, unless_fault}
 use Rattle.part_transfers.specs.Stands.{member_in}
-use Rattle.part_transfers.proofs.Members.{members_agree}
-use Rattle.part_transfers.proofs.Marks.{no_marks, only}
+use Rattle.part_transfers.specs.Table.{picked}
+use Rattle.part_transfers.proofs.Members.{members_agree, agrees_by}
 use Rattle.part_transfers.proofs.Lists.{here_stays}
 use Rattle.part_transfers.proofs.transfers.Transfers.try_sync.Goals as goal
 
@@ -10,45 +10,41 @@ pub returns-in-Some-clause-answer : goal.returns-in-Some-clause-answer
 returns-in-Some-clause-answer c operations S =
     let table = c.args.self.now.table in
     let handle = c.args.handle.serial in
-    let M = only (member_in table handle) table c.mark_members.new.marks
-    (c.mark_members.ensures (λ there. false) (no_marks table)) in
-    let A = members_agree table operations handle S.keeps in
+    let A = agrees_by (members handle operations) (member_in table handle) (picked c.members-pick.result)
+    c.members-pick.ensures (members_agree table operations handle S.keeps) in
     rw (ne_eqb handle 0 c.if-handle-eq0.false)
     (ap (λ found. unless_fault found
     (sync_answer (flag_at c.args.exhausted.now) (chosen (members handle operations) 1 operations)))
-    (sym c.in-Some.is ∙ c.fault.ensures operations S (members handle operations) (member_in table handle) M A))
+    (sym c.in-Some.is ∙ c.fault.ensures operations S (members handle operations) A))
 
 pub returns-in-Some-clause-stands : goal.returns-in-Some-clause-stands
 returns-in-Some-clause-stands c operations S =
     let table = c.args.self.now.table in
     let handle = c.args.handle.serial in
-    let M = only (member_in table handle) table c.mark_members.new.marks
-    (c.mark_members.ensures (λ there. false) (no_marks table)) in
-    let A = members_agree table operations handle S.keeps in
+    let A = agrees_by (members handle operations) (member_in table handle) (picked c.members-pick.result)
+    c.members-pick.ensures (members_agree table operations handle S.keeps) in
     rw (ne_eqb handle 0 c.if-handle-eq0.false)
     (here_stays c.args.self.now operations c.args.thread (chosen (members handle operations) 1 operations)
     (members handle operations) c.in-Some.fault
-    (sym (c.fault.ensures operations S (members handle operations) (member_in table handle) M A) ∙ c.in-Some.is) S)
+    (sym (c.fault.ensures operations S (members handle operations) A) ∙ c.in-Some.is) S)
 
 pub returns-in-None-clause-answer : goal.returns-in-None-clause-answer
 returns-in-None-clause-answer c operations S =
     let table = c.args.self.now.table in
     let handle = c.args.handle.serial in
-    let M = only (member_in table handle) table c.mark_members.new.marks
-    (c.mark_members.ensures (λ there. false) (no_marks table)) in
-    let A = members_agree table operations handle S.keeps in
+    let A = agrees_by (members handle operations) (member_in table handle) (picked c.members-pick.result)
+    c.members-pick.ensures (members_agree table operations handle S.keeps) in
     rw (ne_eqb handle 0 c.if-handle-eq0.false)
-    (c.sync_marked.ensures.answer operations S (members handle operations) (member_in table handle) M A
+    (c.sync_picked.ensures.answer operations S (members handle operations) A
     ∙ ap (λ found. unless_fault found
     (sync_answer (flag_at c.args.exhausted.now) (chosen (members handle operations) 1 operations)))
-    (sym c.in-None.is ∙ c.fault.ensures operations S (members handle operations) (member_in table handle) M A))
+    (sym c.in-None.is ∙ c.fault.ensures operations S (members handle operations) A))
 
 pub returns-in-None-clause-stands : goal.returns-in-None-clause-stands
 returns-in-None-clause-stands c operations S =
     let table = c.args.self.now.table in
     let handle = c.args.handle.serial in
-    let M = only (member_in table handle) table c.mark_members.new.marks
-    (c.mark_members.ensures (λ there. false) (no_marks table)) in
-    let A = members_agree table operations handle S.keeps in
+    let A = agrees_by (members handle operations) (member_in table handle) (picked c.members-pick.result)
+    c.members-pick.ensures (members_agree table operations handle S.keeps) in
     rw (ne_eqb handle 0 c.if-handle-eq0.false)
-    (c.sync_marked.ensures.stands operations S (members handle operations) (member_in table handle) M A)
+    (c.sync_picked.ensures.stands operations S (members handle operations) A)

@@ -1,9 +1,0 @@
-use Rattle.std.proofs.Common.{◌≡◌, ◌<◌, ℕ, false, Option, Some}
-use Rattle.std.specs.List.{slice_get}
-use Rattle.part_transfers.specs.declared.table.OperationRecord.{OperationRecord}
-use Rattle.part_transfers.specs.Table.{on_place, picked}
-use Rattle.part_transfers.proofs.table.Table.any.Given as goal
-
-abbrev pub invariant-loop-place : goal.invariant-loop-place
-invariant-loop-place l = (place : ℕ) (there : Option OperationRecord) → place < l.place → slice_get l.self place ≡ Some there
-    → on_place (picked l.pick) there ≡ false
