@@ -70,11 +70,12 @@ typedef struct {
     uint64_t len, value;
 } gasnet_c_told;
 
-/* The client's handler that a delivery would run, and where its message stands in the bytes that were delivered. */
+/* Whose a datagram is, and which handler of the client's its delivery would run: where its message stands in the bytes.
+ * Of bytes that are no message `runs` is 0, and nothing else is said. */
 typedef struct {
     uint32_t runs;        /* 0: none; 1: a request's; 2: a reply's */
     uint32_t from;        /* the sender */
-    uint32_t handler;     /* the handler's index, 128 to 255 */
+    uint32_t handler;     /* its handler's index, whether or not it runs: a client's is 128 to 255 */
     uint32_t category;    /* 0: Short; 1: Medium; 2: Long */
     uint32_t count;       /* how many arguments there are, 0 to 16 */
     uint64_t args_at;     /* where the first of them stands: 4 bytes each, big-endian */
@@ -183,10 +184,6 @@ enum {
     GASNET_C_MAX_CREDITS = 32,
     GASNET_C_ALL_CREDITS = 65536, /* over all ordered pairs of nodes */
     GASNET_C_OPERATIONS = 256,    /* how many transfers of a node may stand, from their beginning to their sync */
-    /* The byte of a datagram that has its handler's index. Where it is below the first of the client's, a delivery runs
-     * no handler of the client's: gasnet_c_peek says so of each, and may be left out. */
-    GASNET_C_HANDLER_AT = 5,
-    GASNET_C_FIRST_HANDLER = 128,
     /* The handlers of operations on words: datagrams for them are delivered by gasnet_c_serve. */
     GASNET_C_BATCH_HANDLER = 252,
     GASNET_C_BLOCK_HANDLER = 253,
@@ -254,7 +251,7 @@ uint64_t gasnet_c_again(gasnet_c_node *node, uint16_t to, uint16_t slot, uint8_t
  * nothing. */
 uint64_t gasnet_c_next_due(gasnet_c_node *node);
 
-/* Which handler of the client's a delivery of these bytes would run. It changes nothing. */
+/* Whose these bytes are, and which handler of the client's a delivery would run. It changes nothing. */
 gasnet_c_coming gasnet_c_peek(gasnet_c_node *node, const uint8_t *bytes, size_t len);
 
 /* Delivers bytes. Where `gasnet_c_peek` told of a handler that runs, C ran it before this call and made no other call

@@ -143,22 +143,16 @@ static void run_coming(struct gasnetl_job *job, gasnet_token_t token, const gasn
     token->done.left = what_is_left(&run, payload, job->messages.left);
 }
 
-bool gasnetl_message_runs(struct gasnetl_job *job, const uint8_t *bytes, size_t length) {
-    return gasnet_c_peek(&job->node, bytes, length).runs != 0;
-}
-
-void gasnetl_message_take(struct gasnetl_job *job, const uint8_t *bytes, size_t length) {
+void gasnetl_message_take(struct gasnetl_job *job, const gasnet_c_coming *coming, const uint8_t *bytes, size_t length) {
     struct gasnetl_token token;
     if (job->ender) /* no handler runs any more */
         return;
-    const gasnet_c_coming coming = gasnet_c_peek(&job->node, bytes, length);
-    token_start(&token, (gasnet_node_t)coming.from, coming.runs == 1);
-    if (coming.runs)
-        run_coming(job, &token, &coming, bytes);
+    token_start(&token, (gasnet_node_t)coming->from, coming->runs == 1);
+    run_coming(job, &token, coming, bytes);
     const gasnet_c_told told = gasnet_c_deliver(&job->node, job->progress.time, bytes, length, &token.done,
                                                 gasnetl_network_room(&job->network), GASNET_C_ROOM);
     gasnetl_told(job, &told);
-    if (coming.runs && told.code != (coming.runs == 1 ? GASNET_C_RAN : GASNET_C_RETURNED))
+    if (told.code != (coming->runs == 1 ? GASNET_C_RAN : GASNET_C_RETURNED))
         gasnetl_stop(GASNETL_BROKEN, "a delivery was answered %u where its handler ran", told.code);
 }
 
@@ -284,7 +278,7 @@ static void request_there(struct gasnetl_job *job, gasnet_c_ask *ask, const stru
     }
     if (told.code != GASNET_C_ACCEPTED)
         gasnetl_stop(GASNETL_BROKEN, "a request to node %u was answered %u", ask->to, told.code);
-    gasnetl_told(job, &told);
+    gasnetl_client_asked(job, &told);
 }
 
 int gasnetl_request(gasnet_node_t node, const struct gasnetl_message *message) {

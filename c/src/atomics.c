@@ -171,15 +171,6 @@ void gasnetl_atomic_back(struct gasnetl_job *job, uint16_t to, uint16_t slot) {
     went_out(job, index, &told);
 }
 
-bool gasnetl_atomic_take(struct gasnetl_job *job, const uint8_t *bytes, size_t length) {
-    if (!job->atomics.served || length <= GASNET_C_HANDLER_AT || !gasnetl_is_atomic(bytes[GASNET_C_HANDLER_AT]))
-        return false;
-    gasnet_c_told told = gasnet_c_serve(&job->node, job->progress.time, bytes, length,
-                                        gasnetl_network_room(&job->network), GASNET_C_ROOM);
-    gasnetl_told(job, &told);
-    return true;
-}
-
 /* ---- Domains. */
 
 struct gasnetl_domain {

@@ -67,9 +67,6 @@ static inline bool gasnetl_is_atomic(int index) {
     return index == GASNET_C_BATCH_HANDLER || index == GASNET_C_BLOCK_HANDLER;
 }
 
-/* Takes a datagram, if it is one for the handlers of operations: false where it isn't. */
-bool gasnetl_atomic_take(struct gasnetl_job *job, const uint8_t *bytes, size_t length);
-
 /* The request in this slot is back: an operation's, or another's. */
 void gasnetl_atomic_back(struct gasnetl_job *job, uint16_t to, uint16_t slot);
 

@@ -163,18 +163,6 @@ void gasnetl_collectives_advance(struct gasnetl_job *job) {
     }
 }
 
-bool gasnetl_collective_take(struct gasnetl_job *job, const uint8_t *bytes, size_t length) {
-    struct gasnetl_collectives *collectives = &job->collectives;
-    if (!collectives->served || length <= GASNET_C_HANDLER_AT ||
-        bytes[GASNET_C_HANDLER_AT] != GASNET_C_COLLECTIVE_HANDLER)
-        return false;
-    gasnet_c_told told = gasnet_c_serve(&job->node, job->progress.time, bytes, length,
-                                        gasnetl_network_room(&job->network), GASNET_C_ROOM);
-    collectives->heard = collectives->heard || told.code == GASNET_C_RAN;
-    gasnetl_told(job, &told);
-    return true;
-}
-
 /* ---- The calls. */
 
 static void judge(const struct gasnetl_job *job, const struct gasnetl_collective *asked) {

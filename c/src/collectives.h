@@ -46,7 +46,7 @@ struct gasnetl_collectives {
     bool served;                             /* the client hasn't registered their handler itself */
     struct gasnetl_collective *first, *last; /* in the order in which they began */
     bool started;                            /* a piece of the first is */
-    bool heard;                              /* something came since the last try to end it */
+    bool heard;                              /* something came since the last try to end it: set by who delivers it */
     unsigned unsent;                         /* the nodes that the piece wasn't sent to */
 };
 
@@ -59,9 +59,6 @@ bool gasnetl_collectives_open(struct gasnetl_job *job);
 /* For a run-time over the layer: where a node finds that another one called another collective, this function is
  * called with that one's number, and ends the process in its own words. */
 void gasnetl_collectives_on_mismatch(void (*end)(int node));
-
-/* Takes a datagram, if it is one of collectives: false where it isn't. */
-bool gasnetl_collective_take(struct gasnetl_job *job, const uint8_t *bytes, size_t length);
 
 /* Takes what was begun as far as it goes without waiting. */
 void gasnetl_collectives_advance(struct gasnetl_job *job);

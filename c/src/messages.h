@@ -56,12 +56,9 @@ int gasnetl_register(struct gasnetl_messages *messages, gasnet_handlerentry_t *t
 /* Why a handler of the client's has this index, and what to do where it shouldn't: the end of a line. */
 const char *gasnetl_who_chose(const struct gasnetl_messages *messages, int index);
 
-/* Takes a datagram whose delivery may run a handler of the client's: runs it, and delivers the datagram with what it
- * did. */
-void gasnetl_message_take(struct gasnetl_job *job, const uint8_t *bytes, size_t length);
-
-/* Whether the delivery of such a datagram runs one now. */
-bool gasnetl_message_runs(struct gasnetl_job *job, const uint8_t *bytes, size_t length);
+/* Takes a datagram whose delivery runs a handler of the client's, as `coming` tells: runs it, and delivers the datagram
+ * with what it did. */
+void gasnetl_message_take(struct gasnetl_job *job, const gasnet_c_coming *coming, const uint8_t *bytes, size_t length);
 
 /* Calls a handler with as many arguments as the run has. */
 void gasnetl_call(gasnetl_handler *handler, gasnet_token_t token, const struct gasnetl_run *run);

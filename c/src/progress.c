@@ -62,23 +62,18 @@ static void send_told(struct gasnetl_job *job, const gasnet_c_told *told) {
         gasnetl_network_send(&job->network, told->to, gasnetl_network_room(&job->network), told->len);
 }
 
-bool gasnetl_is_for_client(const struct gasnetl_job *job, const uint8_t *bytes, size_t length) {
-    if (length <= GASNET_C_HANDLER_AT || bytes[GASNET_C_HANDLER_AT] < GASNET_C_FIRST_HANDLER)
-        return false;
-    uint8_t handler = bytes[GASNET_C_HANDLER_AT];
-    return !(job->atomics.served && gasnetl_is_atomic(handler)) &&
-           !(job->collectives.served && handler == GASNET_C_COLLECTIVE_HANDLER);
-}
-
 /* A new request is out. */
-static void request_went_out(struct gasnetl_job *job, const gasnet_c_told *told) {
+static void request_went_out(struct gasnetl_job *job, const gasnet_c_told *told, enum gasnetl_server server) {
     struct gasnetl_progress *progress = &job->progress;
-    bool is_for_client = gasnetl_is_for_client(job, gasnetl_network_room(&job->network), told->len);
     gasnetl_peer_asked(job, told->to);
     if (!progress->out++)
         progress->next_tick = gasnet_c_next_due(&job->node);
-    gasnetl_recovery_sent(job, told->to, told->slot, is_for_client ? GASNETL_BY_CLIENT : GASNETL_BY_LIBRARY);
+    gasnetl_recovery_sent(job, told->to, told->slot, server);
     send_told(job, told);
+}
+
+void gasnetl_client_asked(struct gasnetl_job *job, const gasnet_c_told *told) {
+    request_went_out(job, told, GASNETL_BY_CLIENT);
 }
 
 /* Of a request and a chunk that want the same credit, each gets every other one. */
@@ -134,11 +129,11 @@ void gasnetl_told(struct gasnetl_job *job, const gasnet_c_told *told) {
         break;
     case GASNET_C_CHUNK:
         gasnetl_chunk_out(job, told->to, told->slot);
-        request_went_out(job, told);
+        request_went_out(job, told, GASNETL_BY_LIBRARY);
         break;
     case GASNET_C_ACCEPTED:
     case GASNET_C_NOTE:
-        request_went_out(job, told);
+        request_went_out(job, told, GASNETL_BY_LIBRARY);
         break;
     case GASNET_C_NOTHING:
         nothing_due(&job->progress);
@@ -183,19 +178,39 @@ static void send_due(struct gasnetl_job *job, bool may_look) {
 
 /* ---- What comes. */
 
-static void deliver_message(struct gasnetl_job *job, const uint8_t *bytes, size_t length) {
-    if (gasnetl_atomic_take(job, bytes, length) || gasnetl_collective_take(job, bytes, length))
-        return;
-    if (gasnetl_is_for_client(job, bytes, length)) {
-        if (job->progress.keeps && gasnetl_message_runs(job, bytes, length))
-            gasnetl_keep(&job->kept, bytes, length);
-        else
-            gasnetl_message_take(job, bytes, length);
-        return;
-    }
+/* Delivers what runs no handler of the client's. */
+static void deliver_quietly(struct gasnetl_job *job, const uint8_t *bytes, size_t length) {
     gasnet_c_told told = gasnet_c_deliver(&job->node, job->progress.time, bytes, length, &gasnetl_no_run,
                                           gasnetl_network_room(&job->network), GASNET_C_ROOM);
     gasnetl_told(job, &told);
+}
+
+/* Delivers what is for a handler that the endpoint serves. */
+static void serve(struct gasnetl_job *job, uint32_t handler, const uint8_t *bytes, size_t length) {
+    gasnet_c_told told = gasnet_c_serve(&job->node, job->progress.time, bytes, length,
+                                        gasnetl_network_room(&job->network), GASNET_C_ROOM);
+    if (handler == GASNET_C_COLLECTIVE_HANDLER && told.code == GASNET_C_RAN)
+        job->collectives.heard = true;
+    gasnetl_told(job, &told);
+}
+
+/* Whether the endpoint serves the handler of this index: the client has none there. */
+static bool is_served(const struct gasnetl_job *job, uint32_t handler) {
+    if (handler == GASNET_C_COLLECTIVE_HANDLER)
+        return job->collectives.served;
+    return job->atomics.served && gasnetl_is_atomic((int)handler);
+}
+
+static void deliver_message(struct gasnetl_job *job, const uint8_t *bytes, size_t length) {
+    const gasnet_c_coming coming = gasnet_c_peek(&job->node, bytes, length);
+    if (is_served(job, coming.handler))
+        serve(job, coming.handler, bytes, length);
+    else if (!coming.runs)
+        deliver_quietly(job, bytes, length);
+    else if (job->progress.keeps)
+        gasnetl_keep(&job->kept, bytes, length);
+    else
+        gasnetl_message_take(job, &coming, bytes, length);
 }
 
 /* Whether a message is of this job, and of the node whose address it has. */

@@ -47,12 +47,12 @@ void gasnetl_request_begins(struct gasnetl_job *job);
  * 0 at first. Another thread may have its turn meanwhile. */
 void gasnetl_wait(struct gasnetl_job *job, unsigned *turn);
 
-/* Whether a datagram is for a handler of the client's: its delivery, or the delivery of the request that it is, runs
- * one. */
-bool gasnetl_is_for_client(const struct gasnetl_job *job, const uint8_t *bytes, size_t length);
-
-/* Does what an answer of the endpoint wants done: sends its datagram, and counts. */
+/* Does what an answer of the endpoint wants done: sends its datagram, and counts. A request that is accepted is one for
+ * the library of its target. */
 void gasnetl_told(struct gasnetl_job *job, const gasnet_c_told *told);
+
+/* The same of a request that is accepted, for a handler of the client's. */
+void gasnetl_client_asked(struct gasnetl_job *job, const gasnet_c_told *told);
 
 /* Sends chunks of transfers to a node while there are some and it has credits, but for those that requests wait for. */
 void gasnetl_send_chunks(struct gasnetl_job *job, uint16_t to);
