@@ -63,7 +63,7 @@ typedef struct {
  * datagram doesn't fit, `len` is 0 too: the request is sent again in time.)
  * Of GASNET_C_RETURNED `to` is the node that replied, and `slot` is the slot of the request that is back.
  * Of GASNET_C_HANDLE `value` is the handle; of an implicit transfer it is its number, and the transfer is synchronised
- * by gasnet_c_sync_implicit, or with the access region that is begun. What isn't named here is 0. */
+ * with the access region that is begun. What isn't named here is 0. */
 typedef struct {
     uint32_t code;
     uint16_t to, slot;
@@ -234,9 +234,6 @@ uint32_t gasnet_c_new(gasnet_c_node *node, const gasnet_c_setup *setup, gasnet_c
  * C's again. */
 void gasnet_c_free(gasnet_c_node *node);
 
-/* How many bytes the segment has; 0 of a dead handle. */
-uint64_t gasnet_c_segment(gasnet_c_node *node);
-
 /* A tick: at most one datagram that is due goes out. RESENT, NOTE, CHUNK, or NOTHING. */
 gasnet_c_told gasnet_c_tick(gasnet_c_node *node, uint64_t now, uint8_t *buffer, size_t room);
 
@@ -287,10 +284,6 @@ gasnet_c_told gasnet_c_begin(gasnet_c_node *node, uint64_t now, const gasnet_c_m
 /* Tries to synchronise the operation or region with this handle. OK (and the handle is used up; of handle 0 always),
  * NOT_READY, WORN_OUT, BAD. */
 gasnet_c_told gasnet_c_sync(gasnet_c_node *node, uint64_t now, uint64_t handle);
-
-/* Tries to synchronise the implicit operations: 0 for puts and memsets, 1 for gets, else all. OK, NOT_READY, WORN_OUT;
- * BAD while a region is begun. */
-gasnet_c_told gasnet_c_sync_implicit(gasnet_c_node *node, uint64_t now, uint32_t which);
 
 /* Begins an access region (DONE), or ends it (HANDLE, or DONE where no operation joined). BAD out of turn. */
 gasnet_c_told gasnet_c_region(gasnet_c_node *node, uint64_t now, bool ends);

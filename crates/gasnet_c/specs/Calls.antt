@@ -4,8 +4,6 @@ use Rattle.node_core.specs.declared.asking.Payload.{Payload}
 use Rattle.node_core.specs.declared.asking.Payload.TheVariants as payloads
 use Rattle.part_transfers.specs.declared.operation.Transfer.{Transfer}
 use Rattle.part_transfers.specs.declared.operation.Transfer.TheVariants as transfers
-use Rattle.part_transfers.specs.declared.operation.ImplicitKinds.{ImplicitKinds}
-use Rattle.part_transfers.specs.declared.operation.ImplicitKinds.TheVariants as some
 use Rattle.node_rules.specs.declared.call.Call.{Call}
 use Rattle.node_rules.specs.declared.call.Call.TheVariants as calls
 use Rattle.node_endpoint.specs.EndpointState.{EndpointState}
@@ -40,10 +38,6 @@ transfer_of what =
 abbrev pub moved_call : Move → Call
 moved_call what =
     if what.implicit then calls.BeginImplicit (transfer_of what) else calls.Begin None (transfer_of what)
-
--- the implicit operations that C names: 0 for puts, 1 for gets, else all
-abbrev pub which_of : ℕ → ImplicitKinds
-which_of which = if which == 0 then some.Puts else (if which == 1 then some.Gets else some.All)
 
 -- an access region begins, or ends
 abbrev pub region_call : Bool → Call

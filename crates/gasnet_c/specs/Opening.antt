@@ -1,13 +1,12 @@
 -- How a node opens.
-use Rattle.std.specs.Prelude.{ℕ, ◌≡◌, ◌<◌, ◌≤◌, ◌⊎◌, List, [], length, Option, Some, None}
+use Rattle.std.specs.Prelude.{ℕ, ◌≡◌, ◌<◌, ◌≤◌, ◌⊎◌, List, [], Option, Some, None}
 use Rattle.wire_message.specs.Parameters.{Parameters, AreInRange}
 use Rattle.part_handlers.specs.Registered.{entry_at}
 use Rattle.part_handlers.specs.declared.serves.Serves.TheVariants as served
 use Rattle.part_handlers.specs.declared.table.Entry.{Entry}
 use Rattle.spec_node.specs.Record.{opening_node}
-use Rattle.node_core.specs.Kept.{segment_of}
 use Rattle.node_rules.specs.EndpointLocal.{nothing_begun}
-use Rattle.node_endpoint.specs.EndpointState.{EndpointState, EndpointStands, ForItsRecord}
+use Rattle.node_endpoint.specs.EndpointState.{EndpointState, EndpointStands}
 use Rattle.gasnet_c.specs.declared.opening.Setup.{Setup}
 
 -- the settings of the job that C sets up: datagrams of version 1, one thread a node, and all numbers of requests
@@ -49,9 +48,3 @@ Opens setup None answer None = ((answer ≡ 1) × (IsSetupWithin setup → ⊥))
 Opens setup None answer (Some endpoint) =
     (answer ≡ 0) × IsSetupWithin setup × IsOpenedNode (settings_of setup) setup.me endpoint
 Opens setup (Some old) answer new = (answer ≡ 3) × (new ≡ Some old)
-
--- how many bytes the segment has of a node that is held
-abbrev pub IsSegmentIn : Option EndpointState → (len : ℕ) → Type 0
-IsSegmentIn None len = len ≡ 0
-IsSegmentIn (Some endpoint) len = ForItsRecord endpoint (λ node.
-    len ≡ length (segment_of endpoint.core.settings node.local.core))

@@ -1,7 +1,7 @@
 //! A node of a GASNet job as a static library for C: bytes and times go in, bytes and answers come out. C has the
 //! socket, the clock and the client's handlers; the library calls nothing back. `c/include/gasnet_c.h` declares it.
 //!
-//! Each export but `gasnet_c_new`, `gasnet_c_free`, `gasnet_c_segment`, `gasnet_c_peek`, `gasnet_c_again`,
+//! Each export but `gasnet_c_new`, `gasnet_c_free`, `gasnet_c_peek`, `gasnet_c_again`,
 //! `gasnet_c_next_due` and those of collectives makes one event of the node's endpoint. Its clause `tells` says which:
 //! the endpoint made that step, with some answer, and C is told the number of this answer and the datagram that is to
 //! be sent (`Tells`). A tick, a request to another node and a call that is no request is that step whatever the
@@ -55,11 +55,11 @@ pub use coming::Coming;
 pub use handle::Handle;
 pub use memory::Memory;
 pub use messages::{Ask, gasnet_c_deliver, gasnet_c_peek, gasnet_c_request, gasnet_c_request_own};
-pub use opening::{Setup, gasnet_c_free, gasnet_c_new, gasnet_c_segment};
+pub use opening::{Setup, gasnet_c_free, gasnet_c_new};
 pub use replay::{Reply, Run};
 pub use retransmission::{gasnet_c_again, gasnet_c_next_due};
 pub use serving::gasnet_c_serve;
 pub use slot::Slot;
 pub use stepping::gasnet_c_tick;
 pub use told::Told;
-pub use transfers::{Move, gasnet_c_begin, gasnet_c_region, gasnet_c_sync, gasnet_c_sync_implicit};
+pub use transfers::{Move, gasnet_c_begin, gasnet_c_region, gasnet_c_sync};

@@ -1,11 +1,10 @@
 //! A node with one thread.
 
-ghost use Rattle.std.specs.Prelude.{◌≡◌, ◌<◌, IfOk, Some, length, replicate};
+ghost use Rattle.std.specs.Prelude.{◌≡◌, ◌<◌, IfOk, Some, replicate};
 ghost use Rattle.part_handlers.specs.Runs.{Meaning};
 ghost use Rattle.spec_node.specs.Record.{opening_node};
-ghost use Rattle.node_core.specs.Kept.{segment_of};
 ghost use Rattle.node_rules.specs.EndpointLocal.{nothing_begun};
-ghost use Rattle.node_endpoint.specs.EndpointState.{EndpointStands, ForItsRecord};
+ghost use Rattle.node_endpoint.specs.EndpointState.{EndpointStands};
 ghost use Rattle.node_endpoint.specs.EndpointState.{IsNodeOf, RunsNone};
 ghost use Rattle.gasnet_c.specs.Batches.{AsksBatch, batch_for};
 ghost use Rattle.gasnet_c.specs.Whole.{IsForOne};
@@ -144,13 +143,5 @@ impl Node {
             Some(time) => time,
             None => u64::MAX,
         }
-    }
-
-    /// How many bytes the segment has.
-    pub fn segment_len(&self) -> u64
-        ensures { ForItsRecord self.now (λ node.
-            result ≡ length (segment_of self.now.core.settings node.local.core)) }
-    {
-        self.endpoint.segment().len()
     }
 }

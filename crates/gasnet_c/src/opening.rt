@@ -3,7 +3,7 @@
 ghost use Rattle.std.specs.Prelude.{◌≡◌, ◌<◌, None, IfOk, IfSome, MatchOption, replicate};
 ghost use Rattle.wire_message.specs.Parameters.{AreInRange};
 ghost use Rattle.gasnet_c.specs.Whole.{IsWhole};
-ghost use Rattle.gasnet_c.specs.Opening.{IsOpenedNode, IsSegmentIn, Opens, ServesAll, settings_of};
+ghost use Rattle.gasnet_c.specs.Opening.{IsOpenedNode, Opens, ServesAll, settings_of};
 
 use crate::handle::{Handle, put, taken};
 use crate::memory::Memory;
@@ -137,21 +137,4 @@ pub extern "C" fn gasnet_c_free(alloc: Global, handle: &mut Handle)
     if handle.live {
         drop(taken(handle, alloc));
     }
-}
-
-/// How many bytes the segment has; 0 of a dead handle. It changes nothing.
-#[unsafe(no_mangle)]
-pub extern "C" fn gasnet_c_segment(alloc: Global, handle: &mut Handle) -> u64
-    requires { IsWhole handle.old }
-    ensures whole { IsWhole handle.new }
-    ensures same { handle.new.slot.held ≡ handle.old.slot.held }
-    ensures len { IsSegmentIn handle.old.slot.held result }
-{
-    if !handle.live {
-        return 0;
-    }
-    let node = taken(handle, alloc);
-    let len = node.segment_len();
-    put(handle, node);
-    len
 }

@@ -4,7 +4,7 @@ ghost use Rattle.std.specs.Prelude.{◌≡◌, []};
 ghost use Rattle.part_handlers.specs.Runs.{Meaning};
 ghost use Rattle.node_rules.specs.declared.call.Call.TheVariants as call;
 ghost use Rattle.node_rules.specs.declared.call.Event.TheVariants as event;
-ghost use Rattle.gasnet_c.specs.Calls.{moved_call, region_call, transfer_of, which_of};
+ghost use Rattle.gasnet_c.specs.Calls.{moved_call, region_call, transfer_of};
 ghost use Rattle.gasnet_c.specs.Telling.{Tells};
 ghost use Rattle.gasnet_c.specs.Whole.{AsksNone, IsForOne, IsWhole};
 
@@ -12,7 +12,7 @@ use crate::handle::Handle;
 use crate::stepping::called;
 use crate::told::Told;
 use node_rules::Call;
-use part_transfers::{Handle as Operation, ImplicitKinds, Transfer};
+use part_transfers::{Handle as Operation, Transfer};
 use std::alloc::Global;
 
 /// A transfer: `gasnet_c_move`. Offsets and lengths are in bytes.
@@ -104,37 +104,6 @@ pub extern "C" fn gasnet_c_sync(alloc: Global, handle: &mut Handle, now: u64, se
 {
     let call = Call::SyncHandle {
         handle: Operation { serial },
-    };
-    called(alloc, handle, now, call)
-}
-
-/// The implicit operations that C names.
-fn which_of(which: u32) -> ImplicitKinds
-    ensures { result ≡ which_of which }
-{
-    match which {
-        0 => ImplicitKinds::Puts,
-        1 => ImplicitKinds::Gets,
-        _ => ImplicitKinds::All,
-    }
-}
-
-/// Tries to synchronise the implicit operations: 0 for puts and memsets, 1 for gets, else all. It is answered as
-/// `gasnet_c_sync`; and `GASNET_C_BAD` while an access region is begun.
-#[unsafe(no_mangle)]
-pub extern "C" fn gasnet_c_sync_implicit(
-    alloc: Global,
-    handle: &mut Handle,
-    now: u64,
-    which: u32,
-) -> Told
-    requires { IsWhole handle.old }
-    ensures whole { IsWhole handle.new }
-    ensures tells { (meaning : Meaning) → Tells meaning handle.old.slot.held now
-        (event.Call 0 (call.SyncImplicit (which_of which))) result [] handle.new.slot.held }
-{
-    let call = Call::SyncImplicit {
-        which: which_of(which),
     };
     called(alloc, handle, now, call)
 }
