@@ -8,8 +8,9 @@ use Rattle.std.proofs.lemmas.Bool.{cases_lt, cases_eq, and_parts, leb-true, eqb-
 use Rattle.std.proofs.lemmas.Option.{same_Some}
 use Rattle.part_segment.specs.Image.{overwritten, written_by}
 use Rattle.part_segment.proofs.Images.{length-overwritten}
+use Rattle.part_collective_area.proofs.Bytes.{part_spared}
 use Rattle.law_messages.specs.Ranges.{SparesRange}
-use Rattle.law_messages.proofs.Ranges.{part_spared, word_written}
+use Rattle.law_messages.proofs.Ranges.{word_written}
 use Rattle.node_atomics.specs.declared.word.WordOp.{WordOp}
 use Rattle.node_atomics.specs.Words.{applied_by}
 use Rattle.node_atomics.specs.BatchRequests.{are_inside, are_words_aligned}
