@@ -44,7 +44,8 @@ use Rattle.law_collectives.specs.Groups.{content_writes, request_writes}
 use Rattle.law_collectives.specs.Invariant.{GroupHolds, asks_phase, ran_phase}
 use Rattle.law_collectives.proofs.Phases.{cases_two}
 use Rattle.law_collectives.proofs.Messages.{IsPart}
-use Rattle.law_collectives.proofs.Steps.{IsNoRun, RequestStep, Same, Asked_one, Ticked_one, Ran_one, request_step}
+use Rattle.law_messages.specs.Steps.{IsNoRun, RequestStep, Same, ThreadAsks, NodeAsks, Runs}
+use Rattle.law_messages.proofs.Steps.{request_step}
 use Rattle.law_collectives.proofs.Quiet.{AsksSame, NoneFresh, Quiet, RanSame, asks_more, asks_same, fresh_more, fresh_same}
 use Rattle.law_collectives.proofs.Quiet.{asks_none, quiet_kept, ran_apart, ran_push, ran_same, with_records}
 use Rattle.law_collectives.proofs.Running.{message_at, part_kept, runs_kept, written_so}
@@ -223,7 +224,7 @@ other_by settings table meaning area group next event answer setting holds after
     (beside_only settings area group.records next event answer
     (λ node. no_run_writes settings.segment (plain_of group.records) node event answer quiet) written))
 other_by settings table meaning area group next event answer setting holds after among none written
-    (Asked_one from ask label is requests runs) =
+    (ThreadAsks from ask label is requests runs) =
     let plain = plain_of group.records in
     let other : ask.what.handler ≢ collective_handler = subst IsNoCollective is none in
     let differs = λ (same : (said_in (segment_of settings (plain.local from).core) ask.what).handler
@@ -236,7 +237,7 @@ other_by settings table meaning area group next event answer setting holds after
     (beside_only settings area group.records next event answer
     (λ node. ap (λ (it : Event OtherCall). collective_writes settings.segment plain node it answer) is) written))
 other_by settings table meaning area group next event answer setting holds after among none written
-    (Ticked_one from to request is given requests runs) =
+    (NodeAsks from to request is given requests runs) =
     let plain = plain_of group.records in
     let differs : request.content.handler ≢ collective_handler = sending_handler settings _ _ _ _ given in
     quiet_kept (job_of settings table meaning) area group next holds
@@ -247,7 +248,7 @@ other_by settings table meaning area group next event answer setting holds after
     (beside_only settings area group.records next event answer
     (λ node. ap (λ (it : Event OtherCall). collective_writes settings.segment plain node it answer) is) written))
 other_by settings table meaning area group next event answer setting holds after among none written
-    (Ran_one from to number said is answered first) =
+    (Runs from to number said is answered first) =
     let job = job_of settings table meaning in
     let plain = plain_of group.records in
     let requests = ap (λ (p : Plain EndpointLocal). p.requests) first.leaves in

@@ -2,7 +2,6 @@ pub mod Phases
 pub mod Messages
 pub mod Searching
 pub mod Ending
-pub mod Steps
 pub mod Quiet
 pub mod Running
 pub mod Events
