@@ -9,7 +9,8 @@ use Rattle.std.specs.declared.net.ip_addr.IpAddr.{IpAddr}
 use Rattle.std.specs.declared.net.socket_addr.SocketAddr.{SocketAddr}
 use Rattle.std.proofs.lemmas.List.{append-nil, append_assoc, length-append, map-append}
 use Rattle.base_io.specs.Told.{and_all, and_then}
-use Rattle.proc_linux.specs.Arrivals.{Arrival, Bound, FindsSender, TakesFirst}
+use Rattle.proc_linux.specs.declared.arrivals.Bound.{Bound}
+use Rattle.proc_linux.specs.Arrivals.{Arrival, FindsSender, TakesFirst}
 
 -- so many strays were dropped, and nothing else came
 pub record AreDropped (hosts : List IpAddr) (bound : Bound) (count : ℕ) (old new : Option (List Arrival)) : Type 0 where

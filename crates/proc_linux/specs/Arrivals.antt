@@ -9,6 +9,7 @@ use Rattle.std.specs.declared.net.ip_addr.IpAddr.{IpAddr}
 use Rattle.std.specs.declared.net.socket_addr.SocketAddr.{SocketAddr}
 use Rattle.base_io.specs.Told.{and_all}
 use Rattle.proc_linux.specs.Addresses.{FindsPeer}
+use Rattle.proc_linux.specs.declared.arrivals.Bound.{Bound}
 use Rattle.proc_linux.specs.declared.arrivals.Look.{Look}
 
 -- what asking for the next datagram gave: its bytes and its source, or an error
@@ -20,13 +21,13 @@ abbrev pub arrival_of : Result (ℕ × SocketAddr) Error → (buf : List ℕ) �
 arrival_of (Ok got) buf = Ok (take got.0 buf, got.1)
 arrival_of (Err error) buf = Err error
 
--- the node of a job for which a datagram is sought: its rank, the number of nodes, and the port of rank 0
-abbrev pub Bound : Type 0
-Bound = ℕ × ℕ × ℕ
+-- what a link tells of what it is bound to: the rank of its node, the number of nodes, and the port of rank 0
+abbrev pub told_bound : Bound → ℕ × ℕ × ℕ
+told_bound bound = (bound.rank, bound.nodes, bound.port)
 
 -- the peer of that node at this address, where there is one
 abbrev pub FindsSender : List IpAddr → Bound → SocketAddr → Option ℕ → Type 0
-FindsSender hosts bound from peer = FindsPeer hosts bound.2 bound.1 bound.0 from peer
+FindsSender hosts bound from peer = FindsPeer hosts bound.port bound.nodes bound.rank from peer
 
 -- what ends a look after so many strays: the datagram of a peer, which is in the buffer; an error; or the 64th stray,
 -- which is told as an error of the kind `WouldBlock`

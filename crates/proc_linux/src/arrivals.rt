@@ -27,6 +27,17 @@ pub trait Arrivals {
         ensures told { told self.new ≡ and_then (told self.old) (arrival_of result buf.new) };
 }
 
+/// What a link is bound to.
+#[derive(Clone, Copy)]
+pub struct Bound {
+    /// The rank of its node.
+    pub rank: u16,
+    /// The number of nodes of the job.
+    pub nodes: u16,
+    /// The port of rank 0.
+    pub port: u16,
+}
+
 /// What a look for the datagram of a peer gave.
 #[derive(Drop)]
 pub struct Look {
@@ -36,19 +47,17 @@ pub struct Look {
     pub found: io::Result<(usize, u16)>,
 }
 
-/// Takes the first datagram from a peer of a node. `bound` is that node's rank, the number of nodes, and the port of
-/// rank 0. At most 64 strays before it are dropped.
+/// Takes the first datagram from a peer of the node that this is bound for. At most 64 strays before it are dropped.
 pub fn take_first<A: Arrivals>(
     arrivals: &mut A,
     buf: &mut [u8],
     hosts: &Hosts,
-    bound: (u16, u16, u16),
+    bound: Bound,
 ) -> Look
     ensures within { IfOk result.found (λ got. got.0 ≤ length buf.new) }
     ensures taken { TakesFirst hosts.now.addresses.items bound buf.new result
         (A.told arrivals.old) (A.told arrivals.new) }
 {
-    let (rank, nodes, port) = bound;
     for strays in 0..DROPS {
         let (len, from) = match arrivals.take_next(buf) {
             Ok(got) => got,
@@ -59,7 +68,7 @@ pub fn take_first<A: Arrivals>(
                 };
             }
         };
-        if let Some(peer) = hosts.peer(from, rank, nodes, port) {
+        if let Some(peer) = hosts.peer(from, bound.rank, bound.nodes, bound.port) {
             return Look {
                 strays,
                 found: Ok((len, peer)),

@@ -6,7 +6,7 @@ ghost use Rattle.base_io.specs.Faults.{Rose};
 ghost use Rattle.proc_linux.specs.Addresses.{HasPlace, IsAt};
 ghost use Rattle.proc_linux.specs.Losses.{IsLoss};
 
-use crate::arrivals::{Arrivals, take_first};
+use crate::arrivals::{Arrivals, Bound, take_first};
 use crate::hosts::Hosts;
 use crate::link_fault::LinkFault;
 use crate::link_socket::LinkSocket;
@@ -54,7 +54,7 @@ pub struct UdpLink<'a, R: Net> {
     rt: R,
     socket: &'a LinkSocket,
     hosts: &'a Hosts,
-    bound: Option<(u16, u16, u16)>,
+    bound: Option<Bound>,
     faults: u64,
 }
 
@@ -116,10 +116,10 @@ impl<'a, R: Net> UdpLink<'a, R> {
 
     /// Hands a datagram to the socket.
     fn hand(&self, to: u16, bytes: &[u8]) -> io::Result<()> {
-        let (Some(socket), Some((_, _, port))) = (self.socket.get(), self.bound) else {
+        let (Some(socket), Some(bound)) = (self.socket.get(), self.bound) else {
             return Err(io::Error::from(ErrorKind::NotConnected));
         };
-        match socket.send_to(bytes, self.address(port, to)?) {
+        match socket.send_to(bytes, self.address(bound.port, to)?) {
             Err(error) if !is_loss(&error) => Err(error),
             _ => Ok(()),
         }
@@ -154,8 +154,10 @@ fn is_loss(error: &io::Error) -> bool
 
 impl<R: Net> Link for UdpLink<'_, R> {
     ghost use Rattle.std.specs.Prelude.{None};
+    ghost use Rattle.std.specs.Option.{option_map};
+    ghost use Rattle.proc_linux.specs.Arrivals.{told_bound};
 
-    ghost bound = { λ l. l.bound };
+    ghost bound = { λ l. option_map told_bound l.bound };
 
     ghost sent = { λ _. None };
 
@@ -174,7 +176,7 @@ impl<R: Net> Link for UdpLink<'_, R> {
             self.faults = self.faults.saturating_add(1);
             return LinkAnswer::Failed;
         }
-        self.bound = Some((rank, nodes, port));
+        self.bound = Some(Bound { rank, nodes, port });
         LinkAnswer::Done
     }
 
