@@ -107,8 +107,8 @@ typedef struct {
     uint8_t handler;        /* the handler's index, 128 to 255 */
 } gasnet_c_reply;
 
-/* What a handler did that C ran: the reply that it asked for, and the bytes that stood at a Long's place when it was
- * done, as a copy. Where there are none the payload stands there as it came. */
+/* What the handler of a request to the local node did: the reply that it asked for, and the bytes that stood at a
+ * Long's place when it was done, as a copy. Where there are none the payload stands there as it came. */
 typedef struct {
     gasnet_c_reply reply;
     gasnet_c_bytes left;
@@ -251,11 +251,12 @@ uint64_t gasnet_c_next_due(gasnet_c_node *node);
 /* Whose these bytes are, and which handler of the client's a delivery would run. It changes nothing. */
 gasnet_c_coming gasnet_c_peek(gasnet_c_node *node, const uint8_t *bytes, size_t len);
 
-/* Delivers bytes. Where `gasnet_c_peek` told of a handler that runs, C ran it before this call and made no other call
- * in between, and `run` is what it did. Else it doesn't matter what `run` says, but its pointers are right. RAN, NOTED,
- * AGAIN, RETURNED; STALE, LATE or REFUSED, and nothing happened. */
+/* Delivers bytes. Where `gasnet_c_peek` told of a handler that runs, C put a Long's payload at its place, ran the
+ * handler before this call and made no other call in between, and `reply` is the reply that it asked for. Nothing is
+ * stored at the place: what stands there is what the handler left. Else it doesn't matter what `reply` says, but its
+ * pointers are right. RAN, NOTED, AGAIN, RETURNED; STALE, LATE or REFUSED, and nothing happened. */
 gasnet_c_told gasnet_c_deliver(gasnet_c_node *node, uint64_t now, const uint8_t *bytes, size_t len,
-                               const gasnet_c_run *run, uint8_t *buffer, size_t room);
+                               const gasnet_c_reply *reply, uint8_t *buffer, size_t room);
 
 /* A request to another node. ACCEPTED, NOT_YET, WORN_OUT, BAD. */
 gasnet_c_told gasnet_c_request(gasnet_c_node *node, uint64_t now, const gasnet_c_ask *ask, uint8_t *buffer,

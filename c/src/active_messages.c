@@ -120,7 +120,7 @@ static void read_args(gasnet_handlerarg_t *args, const uint8_t *bytes, uint32_t 
 }
 
 /* The payload as the handler sees it: a Long's at its place, a Medium's in a buffer. Both are copies, since the handler
- * may change them, and the datagram is delivered as it came. */
+ * may change them, and the datagram is delivered as it came. The delivery stores nothing at a Long's place any more. */
 static uint8_t *payload_for(struct gasnetl_job *job, const gasnet_c_coming *coming, const uint8_t *payload) {
     uint8_t *seen = coming->category == LONG ? job->segment.base + coming->place : job->messages.medium;
     memcpy(seen, payload, coming->payload_len);
@@ -131,16 +131,14 @@ static uint8_t *payload_for(struct gasnetl_job *job, const gasnet_c_coming *comi
 static void run_coming(struct gasnetl_job *job, gasnet_token_t token, const gasnet_c_coming *coming,
                        const uint8_t *bytes) {
     gasnet_handlerarg_t args[GASNETL_ARGS];
-    const uint8_t *payload = bytes + coming->payload_at;
     const struct gasnetl_run run = { (gasnet_handler_t)coming->handler,
                                      coming->category,
-                                     payload_for(job, coming, payload),
+                                     payload_for(job, coming, bytes + coming->payload_at),
                                      coming->payload_len,
                                      coming->count,
                                      args };
     read_args(args, bytes + coming->args_at, coming->count);
     run_handler(job, token, &run);
-    token->done.left = what_is_left(&run, payload, job->messages.left);
 }
 
 void gasnetl_message_take(struct gasnetl_job *job, const gasnet_c_coming *coming, const uint8_t *bytes, size_t length) {
@@ -149,7 +147,7 @@ void gasnetl_message_take(struct gasnetl_job *job, const gasnet_c_coming *coming
         return;
     token_start(&token, (gasnet_node_t)coming->from, coming->runs == 1);
     run_coming(job, &token, coming, bytes);
-    const gasnet_c_told told = gasnet_c_deliver(&job->node, job->progress.time, bytes, length, &token.done,
+    const gasnet_c_told told = gasnet_c_deliver(&job->node, job->progress.time, bytes, length, &token.done.reply,
                                                 gasnetl_network_room(&job->network), GASNET_C_ROOM);
     gasnetl_told(job, &told);
     if (told.code != (coming->runs == 1 ? GASNET_C_RAN : GASNET_C_RETURNED))

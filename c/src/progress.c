@@ -180,7 +180,7 @@ static void send_due(struct gasnetl_job *job, bool may_look) {
 
 /* Delivers what runs no handler of the client's. */
 static void deliver_quietly(struct gasnetl_job *job, const uint8_t *bytes, size_t length) {
-    gasnet_c_told told = gasnet_c_deliver(&job->node, job->progress.time, bytes, length, &gasnetl_no_run,
+    gasnet_c_told told = gasnet_c_deliver(&job->node, job->progress.time, bytes, length, &gasnetl_no_run.reply,
                                           gasnetl_network_room(&job->network), GASNET_C_ROOM);
     gasnetl_told(job, &told);
 }

@@ -83,6 +83,9 @@ for build in out out/sanitized; do
         GASNET_SWAP=20 GASNET_SEED=7 GASNET_RESEND=5 bin/gasnetrun -n 4 $build/tests/collectives 1000
 done
 
+for way in thread poll; do
+    check "stores, $way" 0 "" env GASNET_PROGRESS=$way bin/gasnetrun -n 2 out/tests/stores
+done
 check "threads leave nothing" 0 "" bin/gasnetrun -n 2 out/tests/leaks
 
 # The records of gasnet_c.h have the layouts of the proved library: with two fields exchanged the layer isn't compiled.

@@ -1,5 +1,6 @@
 pub mod Values
 pub mod Telling
+pub mod Quiet
 pub mod Peeked
 pub mod Opened
 pub mod NextDue

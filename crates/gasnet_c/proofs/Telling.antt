@@ -9,12 +9,14 @@ use Rattle.node_rules.specs.declared.call.Call.{Call}
 use Rattle.node_rules.specs.declared.call.Event.{Event}
 use Rattle.node_rules.specs.declared.call.Event.TheVariants as event
 use Rattle.node_rules.specs.Called.{HasTarget}
+use Rattle.node_core.specs.InPlace.{keeping_in}
 use Rattle.node_endpoint.specs.EndpointState.{EndpointState, RunsNone}
 use Rattle.gasnet_c.specs.Calls.{asked_call, IsToAnother}
-use Rattle.gasnet_c.specs.Replayed.{both_replayed_by}
+use Rattle.gasnet_c.specs.Replayed.{asked_in, asking, both_replayed_by}
 use Rattle.gasnet_c.specs.Telling.{IsDead, IsMark, OwnAsked, Tells, TellsOf, TellsOwn}
 use Rattle.gasnet_c.specs.Whole.{AsksNone, RunsNoneIn}
 use Rattle.gasnet_c.specs.declared.messages.Ask.{Ask}
+use Rattle.gasnet_c.specs.declared.replay.Reply.{Reply}
 use Rattle.gasnet_c.specs.declared.replay.Run.{Run}
 use Rattle.gasnet_c.specs.declared.told.Told.{Told}
 
@@ -43,6 +45,17 @@ pub tells_in : (meaning : Meaning) (old new : Option EndpointState) (from to : E
 tells_in meaning old new from to now event told buffer is becomes tells =
     subst (λ (held : Option EndpointState). Tells meaning held now event told buffer new) (sym is)
     (subst (λ (held : Option EndpointState). Tells meaning (Some from) now event told buffer held) (sym becomes) tells)
+
+-- a delivery whose handler C ran
+pub asked_tells : (reply : Reply) (old new : Option EndpointState) (from to : EndpointState) (now : ℕ) (event : Event)
+    (told : Told) (buffer : List ℕ) → old ≡ Some from → new ≡ Some to
+    → TellsOf (keeping_in from.core.segment (λ handler frame start. asking reply frame start)) from now event told buffer
+    to
+    → Tells (asked_in old reply) old now event told buffer new
+asked_tells reply old new from to now event told buffer is becomes tells =
+    subst (λ (held : Option EndpointState). Tells (asked_in held reply) held now event told buffer new) (sym is)
+    (subst (λ (held : Option EndpointState). Tells (asked_in (Some from) reply) (Some from) now event told buffer held)
+    (sym becomes) tells)
 
 pub runs_none_in : (old : Option EndpointState) (from : EndpointState) (event : Event) → old ≡ Some from
     → RunsNoneIn old event → RunsNone from event

@@ -10,7 +10,7 @@ use Rattle.part_handlers.proofs.Lawful.{medium_reply-content, short_reply-conten
 use Rattle.gasnet_c.specs.declared.replay.Reply.{Reply}
 use Rattle.gasnet_c.specs.declared.replay.Run.{Run}
 use Rattle.gasnet_c.specs.declared.replay.OwnRuns.{OwnRuns}
-use Rattle.gasnet_c.specs.Replayed.{answering, both_replayed, left_write, leaving, mark_of, marked, replayed}
+use Rattle.gasnet_c.specs.Replayed.{answering, asking, both_replayed, left_write, leaving, mark_of, marked, replayed}
 use Rattle.gasnet_c.specs.Replayed.{writing_if}
 
 lawful-kept : {frame : Frame} {start : Start} {outcome : Outcome} (write : Write) (none far : Bool)
@@ -46,6 +46,9 @@ lawful-answering reply frame start outcome lawful =
     (lawful-replying frame start _ outcome (medium_reply-content reply.handler args payload) lawful)
     (lawful-either (reply.category == 2)
     (lawful-replying frame start _ outcome (long_reply-content reply.handler args reply.offset payload) lawful) lawful))
+
+pub asking_lawful : (reply : Reply) (frame : Frame) (start : Start) → IsLawfulRun frame start (asking reply frame start)
+asking_lawful reply frame start = lawful-answering reply frame start _ (lawful-untouched frame start)
 
 pub replayed_lawful : (run : Run) (frame : Frame) (start : Start) → IsLawfulRun frame start (replayed run frame start)
 replayed_lawful run frame start =

@@ -5,6 +5,8 @@ use Rattle.std.specs.Ordering.{int_eq}
 use Rattle.part_segment.specs.Image.{Write, overwritten}
 use Rattle.wire_message.specs.Content.{short_reply, medium_reply, long_reply}
 use Rattle.part_handlers.specs.Runs.{Frame, Start, Outcome, Meaning, replying, untouched, writing}
+use Rattle.node_core.specs.InPlace.{keeping_in}
+use Rattle.node_endpoint.specs.EndpointState.{EndpointState}
 use Rattle.gasnet_c.specs.declared.replay.Reply.{Reply}
 use Rattle.gasnet_c.specs.declared.replay.Run.{Run}
 use Rattle.gasnet_c.specs.declared.replay.OwnRuns.{OwnRuns}
@@ -42,13 +44,19 @@ answering reply frame outcome =
     then replying frame (long_reply reply.handler reply.args.now reply.offset reply.payload.now) outcome
     else outcome))
 
+-- the reply that it asked for alone
+abbrev pub asking : Reply → Frame → Start → Outcome
+asking reply frame start = answering reply frame (untouched start)
+
+-- what the handlers of a delivery mean at a node with this segment, whichever they are: C ran them, they asked for this
+-- reply, and left at a Long's place what stands there
+abbrev pub asked_in : Option EndpointState → Reply → Meaning
+asked_in None reply = λ handler frame start. asking reply frame start
+asked_in (Some endpoint) reply = keeping_in endpoint.core.segment (λ handler frame start. asking reply frame start)
+
 -- the handler did this
 abbrev pub replayed : Run → Frame → Start → Outcome
 replayed run frame start = answering run.reply frame (leaving run.left.now frame start)
-
--- the handlers mean that, whichever they are
-abbrev pub replayed_by : Run → Meaning
-replayed_by run = λ handler frame start. replayed run frame start
 
 -- ---- a request to the local node
 

@@ -1,14 +1,14 @@
 //! A node of a GASNet job as a static library for C: bytes and times go in, bytes and answers come out. C has the
 //! socket, the clock and the client's handlers; the library calls nothing back. `c/include/gasnet_c.h` declares it.
 //!
-//! Each export but `gasnet_c_new`, `gasnet_c_free`, `gasnet_c_peek`, `gasnet_c_again`,
-//! `gasnet_c_next_due` and those of collectives makes one event of the node's endpoint. Its clause `tells` says which:
-//! the endpoint made that step, with some answer, and C is told the number of this answer and the datagram that is to
-//! be sent (`Tells`). A tick, a request to another node and a call that is no request is that step whatever the
-//! handlers mean. Of a delivery, and of a request to the local node, C ran the handlers before, and they mean what C
-//! says that they did (`replayed_by`). Operations on words are batches of one, which the library serves itself
-//! (`serving`): `gasnet_c_atomic` asks one [`TellsBatch`], and `gasnet_c_serve` delivers what is for the handlers of
-//! batches and of collectives.
+//! Each export but `gasnet_c_new`, `gasnet_c_free`, `gasnet_c_peek`, `gasnet_c_again`, `gasnet_c_next_due` and those of
+//! collectives makes one event of the node's endpoint. Its clause `tells` says which: the endpoint made that step, with
+//! some answer, and C is told the number of this answer and the datagram that is to be sent (`Tells`). A tick, a
+//! request to another node and a call that is no request is that step whatever the handlers mean. Of a delivery, and of
+//! a request to the local node, C ran the handlers before, and they mean what C says that they did (`asked_in`,
+//! `both_replayed_by`). Operations on words are batches of one, which the library serves itself (`serving`):
+//! `gasnet_c_atomic` asks one [`TellsBatch`], and `gasnet_c_serve` delivers what is for the handlers of batches and of
+//! collectives.
 //!
 //! Collectives have a handle of their own. `gasnet_c_coll_start`, `gasnet_c_coll_step` and `gasnet_c_coll_end` are the
 //! calls of `node_collectives` at a caller of the node [`StartsFor`, `StepsFor`, `EndsFor`], and C is told the number of

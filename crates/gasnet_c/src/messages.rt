@@ -5,14 +5,14 @@ ghost use Rattle.part_handlers.specs.Runs.{Meaning};
 ghost use Rattle.node_rules.specs.declared.call.Event.TheVariants as event;
 ghost use Rattle.gasnet_c.specs.Calls.{asked_call, payload_of, IsToAnother};
 ghost use Rattle.gasnet_c.specs.Peeking.{PeeksIn};
-ghost use Rattle.gasnet_c.specs.Replayed.{replayed_by};
+ghost use Rattle.gasnet_c.specs.Replayed.{asked_in};
 ghost use Rattle.gasnet_c.specs.Telling.{Tells, TellsOwn};
 ghost use Rattle.gasnet_c.specs.Whole.{IsForOne, IsWhole};
 
 use crate::coming::{Coming, nothing};
 use crate::handle::{Handle, put, taken};
 use crate::node::EventAt;
-use crate::replay::{Left, NO_RUN, OwnRuns, Run};
+use crate::replay::{Left, NO_RUN, OwnRuns, Reply, Replying, Run};
 use crate::stepping::stepped;
 use crate::told::{Told, dead};
 use node_core::Payload;
@@ -181,32 +181,34 @@ pub extern "C" fn gasnet_c_peek(alloc: Global, handle: &mut Handle, bytes: &[u8]
 }
 
 /// Delivers the bytes of a datagram, whatever they are. Where `gasnet_c_peek` told of a handler that runs, C ran it
-/// before this call, and `run` is what it did; else `run` isn't read.
+/// before this call, and `reply` is the reply that it asked for; else `reply` isn't read.
 ///
 /// It is `GASNET_C_RAN`, `GASNET_C_NOTED` or `GASNET_C_AGAIN`, and a reply is told that is to be sent;
 /// `GASNET_C_RETURNED`, and the node and slot are told of the request that is back; or `GASNET_C_STALE`,
 /// `GASNET_C_LATE`, `GASNET_C_DEFERRED` or `GASNET_C_REFUSED`, and nothing happened.
 ///
-/// C owes that the payload of a Long stood at its place before its handler ran, and that `run.left` is a copy of what
-/// stood there when it was done. What else the handler wrote into the segment is what a call `Set` before this one
-/// would write.
+/// C owes that the payload of a Long stood at its place before its handler ran. Nothing is written there: what stands
+/// there is what the handler left. What it wrote elsewhere into the segment is what a call `Set` before this one would
+/// write.
 #[unsafe(no_mangle)]
 pub extern "C" fn gasnet_c_deliver(
     alloc: Global,
     handle: &mut Handle,
     now: u64,
     bytes: &[u8],
-    run: &Run<'_>,
+    reply: &Reply<'_>,
     buffer: &mut [u8],
 ) -> Told
     requires { IsWhole handle.old }
     ensures whole { IsWhole handle.new }
-    ensures tells { Tells (replayed_by run.now) handle.old.slot.held now
+    ensures tells { Tells (asked_in handle.old.slot.held reply.now) handle.old.slot.held now
         (event.Deliver bytes.entry) result buffer.new handle.new.slot.held }
 {
     if !handle.live {
         return dead();
     }
-    let event = Event::Deliver { bytes };
-    stepped(alloc, handle, run, &EventAt { time: now, event }, buffer)
+    let mut node = taken(handle, alloc);
+    let told = node.deliver(&Replying { reply: *reply }, now, bytes, buffer);
+    put(handle, node);
+    told
 }

@@ -3,18 +3,21 @@
 ghost use Rattle.std.specs.Prelude.{◌≡◌, ◌<◌, IfOk, Some, replicate};
 ghost use Rattle.part_handlers.specs.Runs.{Meaning};
 ghost use Rattle.spec_node.specs.Record.{opening_node};
+ghost use Rattle.node_core.specs.InPlace.{keeping_in};
+ghost use Rattle.node_rules.specs.declared.call.Event.TheVariants as event;
 ghost use Rattle.node_rules.specs.EndpointLocal.{nothing_begun};
 ghost use Rattle.node_endpoint.specs.EndpointState.{EndpointStands};
 ghost use Rattle.node_endpoint.specs.EndpointState.{IsNodeOf, RunsNone};
 ghost use Rattle.gasnet_c.specs.Batches.{AsksBatch, batch_for};
 ghost use Rattle.gasnet_c.specs.Whole.{IsForOne};
 ghost use Rattle.gasnet_c.specs.Peeking.{Peeks};
+ghost use Rattle.gasnet_c.specs.Replayed.{asking};
 ghost use Rattle.gasnet_c.specs.Retransmission.{TellsAgain, TellsNextDue};
 ghost use Rattle.gasnet_c.specs.Telling.{IsMark, TellsOf};
 
 use crate::atomics::{Operation, batch_for, request};
 use crate::coming::{Coming, peeked};
-use crate::replay::MARK;
+use crate::replay::{MARK, Replying};
 use crate::serving::OwnHandlers;
 use crate::told::{Told, bad, sent, tell};
 use node_core::{Side, SlotRef};
@@ -89,6 +92,24 @@ impl Node {
             self.old event_at.now.time event_at.now.event result buffer.new self.new }
     {
         let answer = self.endpoint.step(handlers, event_at.time, &event_at.event);
+        tell(&self.endpoint, &answer, buffer)
+    }
+
+    /// Bytes come whose client's handler, where one runs, ran before, and asked for this reply: what it left in the
+    /// segment stands there. What the delivery sends is copied into the buffer, where it fits.
+    #[tactic(auto, using(crate::proofs::Quiet::asking_quiet))]
+    pub fn deliver(
+        &mut self,
+        replying: &Replying<'_>,
+        now: u64,
+        bytes: &[u8],
+        buffer: &mut [u8],
+    ) -> Told
+        ensures { TellsOf (keeping_in self.old.core.segment (λ handler frame start.
+            asking replying.now.reply frame start)) self.old now (event.Deliver bytes.entry) result
+            buffer.new self.new }
+    {
+        let answer = self.endpoint.deliver_in_place(replying, now, bytes);
         tell(&self.endpoint, &answer, buffer)
     }
 

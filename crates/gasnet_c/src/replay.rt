@@ -22,6 +22,13 @@ pub struct Reply<'a> {
     pub handler: u8,
 }
 
+/// The reply that the handler of a delivery asked for. What it left in the segment stands there.
+#[derive(Clone, Copy)]
+pub struct Replying<'a> {
+    /// The reply; a reply's handler asks for none.
+    pub reply: Reply<'a>,
+}
+
 /// What a handler did: `gasnet_c_run`.
 #[repr(C)]
 #[derive(Clone, Copy)]
@@ -85,6 +92,32 @@ fn leave(segment: &mut Segment, place: Option<(u64, u64)>, left: &[u8])
             return;
         }
         segment.part_mut(offset, len).copy_from_slice(left);
+    }
+}
+
+impl Handlers for Replying<'_> {
+    ghost use Rattle.gasnet_c.specs.Replayed.{asking};
+    ghost use Rattle.gasnet_c.specs.Lawful.{asking_lawful};
+
+    ghost meaning = { λ it handler frame start. asking it.reply frame start };
+
+    ghost is_lawful = { λ it handler frame start. asking_lawful it.reply frame start };
+
+    /// It asks for the reply that C's handler asked for.
+    fn run(&self, _handler: u8, _segment: &mut Segment, _cells: &mut Cells, desk: &mut Desk<'_>) {
+        let reply = &self.reply;
+        match reply.category {
+            0 => {
+                let _ = desk.reply_short(reply.handler, reply.args);
+            }
+            1 => {
+                let _ = desk.reply_medium(reply.handler, reply.args, reply.payload);
+            }
+            2 => {
+                let _ = desk.reply_long(reply.handler, reply.args, reply.payload, reply.offset);
+            }
+            _ => {}
+        }
     }
 }
 

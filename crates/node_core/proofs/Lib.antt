@@ -12,6 +12,7 @@ pub mod Readings
 pub mod Bounds
 pub mod Counts
 pub mod Landings
+pub mod InPlace
 pub mod LibraryLaws
 pub mod ThreadLocks
 pub mod LocalKept

@@ -11,5 +11,6 @@ pub mod HandlerContextRuns
 pub mod AskedFor
 pub mod CoreStep
 pub mod Landed
+pub mod InPlace
 pub mod Sizes
 pub mod Lending

@@ -9,6 +9,7 @@ ghost use Rattle.part_handlers.specs.Runs.{IsPlaced};
 ghost use Rattle.node_core.specs.HandlerRuns.{landing, place_of, shown_payload};
 ghost use Rattle.node_core.specs.ClientRules.{IsFine, passes_source, payload_in};
 ghost use Rattle.node_core.specs.AskedFor.{asking_of, content_asked, content_with, payload_from};
+ghost use Rattle.node_core.specs.InPlace.{laid_writes};
 ghost use Rattle.node_core.specs.Landed.{IsLanded, content_at};
 ghost use Rattle.wire_message.specs.declared.limits.TheConstants.{MAX_DATAGRAM};
 
@@ -16,6 +17,15 @@ use crate::asking::{Asking, Category, Payload};
 use part_handlers::Reply;
 use part_segment::Segment;
 use wire_message::{Kind, View};
+
+/// What a delivery does with the payload of a Long message for a client's handler.
+#[derive(Clone, Copy, Drop)]
+pub enum Landing {
+    /// It is written to its place, before the handler runs.
+    Written,
+    /// The handler ran before: what stands at the place is what it left there, and stays.
+    Kept,
+}
 
 /// Writes bytes to their place of a segment.
 fn write(segment: &mut Segment, offset: u64, bytes: &[u8])
@@ -40,6 +50,19 @@ pub fn land(segment: &mut Segment, message: &View<'_>)
         Kind::LongRequest | Kind::LongReply => write(segment, message.offset, message.payload),
         Kind::ShortRequest | Kind::MediumRequest => {}
         Kind::ShortReply | Kind::MediumReply | Kind::Ack => {}
+    }
+}
+
+/// The same, where it is to be written.
+pub fn land_if_written(segment: &mut Segment, landing: Landing, message: &View<'_>)
+    requires { IsPlaced (length segment.old) (place_of (content_of (viewed_message message.now))) }
+    ensures landed { segment.new ≡ written_by segment.old
+        (laid_writes landing (content_of (viewed_message message.now))) }
+    ensures len { length segment.new ≡ length segment.old }
+{
+    match landing {
+        Landing::Written => land(segment, message),
+        Landing::Kept => {}
     }
 }
 

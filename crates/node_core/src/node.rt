@@ -16,6 +16,7 @@ ghost use Rattle.node_core.specs.AskedFor.{ask_of, work_of};
 ghost use Rattle.node_core.specs.Library.{WorkFits};
 ghost use Rattle.node_core.specs.Kept.{nothing_done, segment_of};
 ghost use Rattle.node_core.specs.CoreStep.{judged_at, noting};
+ghost use Rattle.node_core.specs.InPlace.{IsQuiet, keeping_in, meant_in};
 ghost use Rattle.node_core.specs.Sizes.{HasSegment};
 ghost use Rattle.node_core.specs.Stands.{CoreStands};
 ghost use Rattle.node_core.specs.CoreContracts.{CoreSteps, Check, Lock, Unlock, Checked, Locked};
@@ -24,6 +25,7 @@ ghost use Rattle.node_core.specs.CoreContracts.{AsksOwn, ForItsRecord, retransmi
 
 use crate::answer::{Asked, Delivered, Side, SlotRef, Why};
 use crate::asking::{Asking, Payload};
+use crate::landing::Landing;
 use crate::library::LibraryRequest;
 use crate::slots::{free_replies, free_requests, slots_of};
 use part_handlers::{
@@ -202,8 +204,31 @@ impl Core {
         requires { HasSegment self.old }
         ensures { Delivers (H.meaning handlers.now) self.old bytes.now result self.new }
     {
+        self.deliver_as(handlers, Landing::Written, bytes)
+    }
+
+    /// A datagram that was delivered whose client's handler, where one runs, ran before: what it left in the segment
+    /// stands there already, and nothing is written at a Long's place. `handlers` say what else it did.
+    ///
+    /// It is `deliver` with handlers that leave at a Long's place what stood there as the call began.
+    pub fn deliver_in_place<H: Handlers>(&mut self, handlers: &H, bytes: &[u8]) -> Delivered
+        requires segment { HasSegment self.old }
+        requires quiet { IsQuiet (H.meaning handlers.now) }
+        ensures { Delivers (keeping_in self.old.segment (H.meaning handlers.now)) self.old bytes.now
+            result self.new }
+    {
+        self.deliver_as(handlers, Landing::Kept, bytes)
+    }
+
+    /// A datagram that was delivered: any bytes.
+    fn deliver_as<H: Handlers>(&mut self, handlers: &H, landing: Landing, bytes: &[u8]) -> Delivered
+        requires segment { HasSegment self.old }
+        requires quiet { landing ≡ Landing.Kept → IsQuiet (H.meaning handlers.now) }
+        ensures { Delivers (meant_in landing self.old.segment (H.meaning handlers.now)) self.old
+            bytes.now result self.new }
+    {
         match view(bytes, self.settings.version()) {
-            Ok(message) => self.receive(handlers, &message),
+            Ok(message) => self.receive(handlers, landing, &message),
             Err(refused) => Delivered::Refused(Why::Bytes(refused)),
         }
     }

@@ -19,13 +19,14 @@ ghost use Rattle.node_core.specs.CoreStep.{CanRunReply, asked_fault, claim_of, l
 ghost use Rattle.node_core.specs.CoreStep.{message_refusal, with_own_run};
 ghost use Rattle.node_core.specs.CoreStep.{client_delivered, with_reply_ran, with_client_reply_ran};
 ghost use Rattle.node_core.specs.HandlerRuns.{arrival_in, place_of};
+ghost use Rattle.node_core.specs.InPlace.{IsQuiet, RunsOn, client_on, laid, meant_in, with_client_reply_on};
 ghost use Rattle.node_core.specs.Sizes.{HasSegment};
 
 use crate::answer::{Asked, Delivered, Side, SlotRef, Why};
 use crate::arguments::arguments;
 use crate::asking::{Asking, Category, Payload};
 use crate::context::{HandlerContext, listed_for};
-use crate::landing::{land, lend_own};
+use crate::landing::{Landing, land, land_if_written, lend_own};
 use crate::library::LAST_OWN;
 use crate::library_runs::library_fault;
 use crate::node::Core;
@@ -251,21 +252,27 @@ impl Core {
 
 impl Core {
     /// A message that was delivered.
-    pub(crate) fn receive<H: Handlers>(&mut self, handlers: &H, message: &View<'_>) -> Delivered
+    pub(crate) fn receive<H: Handlers>(
+        &mut self,
+        handlers: &H,
+        landing: Landing,
+        message: &View<'_>,
+    ) -> Delivered
         requires segment { HasSegment self.old }
+        requires quiet { landing ≡ Landing.Kept → IsQuiet (H.meaning handlers.now) }
         requires message { IsMessage (viewed_message message.now) }
-        ensures { DeliversMessage (H.meaning handlers.now) self.old
-            (viewed_message message.now) result self.new }
+        ensures { DeliversMessage (meant_in landing self.old.segment (H.meaning handlers.now))
+            self.old (viewed_message message.now) result self.new }
     {
         if let Some(why) = self.refusal(message) {
             return Delivered::Refused(why);
         }
         match message.kind {
             Kind::ShortRequest | Kind::MediumRequest | Kind::LongRequest => {
-                self.run(handlers, message)
+                self.run(handlers, landing, message)
             }
             Kind::ShortReply | Kind::MediumReply | Kind::LongReply | Kind::Ack => {
-                self.take(handlers, message)
+                self.take(handlers, landing, message)
             }
         }
     }
@@ -368,11 +375,12 @@ impl Core {
 
     /// A request that was delivered: unless it ran before, or waits for a lock, its handler runs, and its reply is
     /// kept.
-    fn run<H: Handlers>(&mut self, handlers: &H, message: &View<'_>) -> Delivered
+    fn run<H: Handlers>(&mut self, handlers: &H, landing: Landing, message: &View<'_>) -> Delivered
         requires segment { HasSegment self.old }
+        requires quiet { landing ≡ Landing.Kept → IsQuiet (H.meaning handlers.now) }
         requires ours { IsOurRequest self.old (viewed_message message.now) }
-        ensures { DeliversMessage (H.meaning handlers.now) self.old
-            (viewed_message message.now) result self.new }
+        ensures { DeliversMessage (meant_in landing self.old.segment (H.meaning handlers.now))
+            self.old (viewed_message message.now) result self.new }
     {
         let at = SlotRef {
             side: Side::Reply,
@@ -389,7 +397,7 @@ impl Core {
                 Some(lock) => Delivered::Deferred(lock),
                 None if message.handler <= LAST_OWN => self.run_library(message, at),
                 None => {
-                    self.run_new(handlers, message);
+                    self.run_client(handlers, landing, message);
                     Delivered::Ran(at)
                 }
             },
@@ -398,18 +406,32 @@ impl Core {
 
     /// Runs a request for a client's handler whose number is greater than the last one of its slot, and keeps its reply
     /// there.
-    fn run_new<H: Handlers>(&mut self, handlers: &H, message: &View<'_>)
+    fn run_client<H: Handlers>(&mut self, handlers: &H, landing: Landing, message: &View<'_>)
         requires segment { HasSegment self.old }
+        requires quiet { landing ≡ Landing.Kept → IsQuiet (H.meaning handlers.now) }
         requires new { IsNewRequest self.old (viewed_message message.now) }
         requires free { lock_at self.old (viewed_message message.now) ≡ None }
         ensures { RunsBy
-            (client_delivered (H.meaning handlers.now) self.old (viewed_message message.now))
+            (client_delivered (meant_in landing self.old.segment (H.meaning handlers.now)) self.old
+            (viewed_message message.now))
             self.old (viewed_message message.now) self.new }
+    {
+        self.run_new(handlers, landing, message);
+    }
+
+    /// The same, as what the handler's own run gives where its payload landed or was kept.
+    fn run_new<H: Handlers>(&mut self, handlers: &H, landing: Landing, message: &View<'_>)
+        requires segment { HasSegment self.old }
+        requires new { IsNewRequest self.old (viewed_message message.now) }
+        requires free { lock_at self.old (viewed_message message.now) ≡ None }
+        ensures { let core = laid landing self.old (content_of (viewed_message message.now)) in
+            RunsOn (client_on (H.meaning handlers.now) core (viewed_message message.now)) core
+            (viewed_message message.now) self.new }
     {
         let (args, count) = arguments(message);
         let listed = listed_for(&self.table, message.handler);
         let incoming = self.received(Role::Request, message, &args[..count], message.payload);
-        land(&mut self.segment, message);
+        land_if_written(&mut self.segment, landing, message);
         let mut context = HandlerContext {
             cells: &mut self.cells,
             segment: &mut self.segment,
@@ -458,11 +480,12 @@ impl Core {
 
     /// A reply that was delivered: where its request isn't back, and it waits for no lock, its handler runs, and the
     /// credit is back.
-    fn take<H: Handlers>(&mut self, handlers: &H, message: &View<'_>) -> Delivered
+    fn take<H: Handlers>(&mut self, handlers: &H, landing: Landing, message: &View<'_>) -> Delivered
         requires segment { HasSegment self.old }
+        requires quiet { landing ≡ Landing.Kept → IsQuiet (H.meaning handlers.now) }
         requires ours { IsOurReply self.old (viewed_message message.now) }
-        ensures { DeliversMessage (H.meaning handlers.now) self.old
-            (viewed_message message.now) result self.new }
+        ensures { DeliversMessage (meant_in landing self.old.segment (H.meaning handlers.now))
+            self.old (viewed_message message.now) result self.new }
     {
         let (peer, slot, number) = (message.from, message.slot, message.number);
         if let Some(lock) = self.awaited(message) {
@@ -476,7 +499,7 @@ impl Core {
             return Delivered::Late;
         }
         if message.kind != Kind::Ack {
-            self.run_reply(handlers, message);
+            self.run_reply(handlers, landing, message);
         }
         Delivered::Returned {
             to: message.from,
@@ -487,32 +510,48 @@ impl Core {
 
     /// Runs the handler of a reply. The library's own has nothing to do but to put the bytes that a get asked for in
     /// their place.
-    fn run_reply<H: Handlers>(&mut self, handlers: &H, reply: &View<'_>)
+    fn run_reply<H: Handlers>(&mut self, handlers: &H, landing: Landing, reply: &View<'_>)
         requires segment { HasSegment self.old }
+        requires quiet { landing ≡ Landing.Kept → IsQuiet (H.meaning handlers.now) }
         requires reply { CanRunReply self.old (viewed_message reply.now) }
-        ensures { self.new ≡ with_reply_ran (H.meaning handlers.now) self.old
+        ensures { self.new ≡ with_reply_ran
+            (meant_in landing self.old.segment (H.meaning handlers.now)) self.old
             (with_sender self.old.me (viewed_message reply.now))
             (content_of (viewed_message reply.now)) }
     {
         if reply.handler <= LAST_OWN {
             land(&mut self.segment, reply);
         } else {
-            self.run_client_reply(handlers, reply);
+            self.run_client_reply(handlers, landing, reply);
         }
     }
 
     /// Runs a client's handler of a reply.
-    fn run_client_reply<H: Handlers>(&mut self, handlers: &H, reply: &View<'_>)
+    fn run_client_reply<H: Handlers>(&mut self, handlers: &H, landing: Landing, reply: &View<'_>)
+        requires segment { HasSegment self.old }
+        requires quiet { landing ≡ Landing.Kept → IsQuiet (H.meaning handlers.now) }
+        requires reply { CanRunReply self.old (viewed_message reply.now) }
+        ensures { self.new ≡ with_client_reply_ran
+            (meant_in landing self.old.segment (H.meaning handlers.now)) self.old
+            (with_sender self.old.me (viewed_message reply.now))
+            (content_of (viewed_message reply.now)) }
+    {
+        self.run_reply_on(handlers, landing, reply);
+    }
+
+    /// The same, as what the handler's own run gives where its payload landed or was kept.
+    fn run_reply_on<H: Handlers>(&mut self, handlers: &H, landing: Landing, reply: &View<'_>)
         requires segment { HasSegment self.old }
         requires reply { CanRunReply self.old (viewed_message reply.now) }
-        ensures { self.new ≡ with_client_reply_ran (H.meaning handlers.now) self.old
+        ensures { self.new ≡ with_client_reply_on (H.meaning handlers.now)
+            (laid landing self.old (content_of (viewed_message reply.now)))
             (with_sender self.old.me (viewed_message reply.now))
             (content_of (viewed_message reply.now)) }
     {
         let (args, count) = arguments(reply);
         let listed = listed_for(&self.table, reply.handler);
         let incoming = self.received(Role::Reply, reply, &args[..count], reply.payload);
-        land(&mut self.segment, reply);
+        land_if_written(&mut self.segment, landing, reply);
         let mut context = HandlerContext {
             cells: &mut self.cells,
             segment: &mut self.segment,

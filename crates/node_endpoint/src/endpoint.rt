@@ -13,6 +13,7 @@ ghost use Rattle.spec_node.specs.SlotMessages.{message_at, number_in_slot};
 ghost use Rattle.part_transfers.specs.Operation.{has_unissued};
 ghost use Rattle.part_transfers.specs.Syncs.{issued_answer};
 ghost use Rattle.node_core.specs.Kept.{segment_of};
+ghost use Rattle.node_core.specs.InPlace.{IsQuiet, keeping_in};
 ghost use Rattle.node_core.specs.Known.{IsLastRun};
 ghost use Rattle.node_rules.specs.EndpointLocal.{nothing_begun};
 ghost use Rattle.node_rules.specs.EndpointRules.{transition};
@@ -141,6 +142,22 @@ impl Endpoint {
             NodeSteps meaning self.old (transition now (called thread call.now) result) self.new }
     {
         self.call_as_recorded(handlers, now, thread, call)
+    }
+
+    /// Bytes that are delivered at the time `now`. Their client's handler, where one runs, ran before:
+    /// what it left in the segment stands there already, and nothing is written at a Long's place.
+    /// `handlers` say what else it did.
+    ///
+    /// It is `step` at that event with handlers that leave at a Long's place what stood there as the call began.
+    #[inline(always)]
+    pub fn deliver_in_place<H: Handlers>(&mut self, handlers: &H, now: u64, bytes: &[u8]) -> Answer
+        requires { IsQuiet (H.meaning handlers.now) }
+        ensures { BytesCome (keeping_in self.old.core.segment (H.meaning handlers.now)) self.old
+            (transition now bytes.now result) self.new }
+    {
+        let answer = self.core.deliver_in_place(handlers, bytes);
+        self.extended.hear(&answer);
+        Answer::Delivered(answer)
     }
 
     /// The datagram of a slot: None exactly where the peer is no other node, the slot isn't among

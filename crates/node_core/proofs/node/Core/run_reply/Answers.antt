@@ -6,6 +6,7 @@ use Rattle.wire_message.specs.Reading.{viewed_message}
 use Rattle.spec_node.specs.Step.{with_sender}
 use Rattle.node_core.specs.CoreState.{CoreState}
 use Rattle.node_core.specs.CoreStep.{landed_core}
+use Rattle.node_core.specs.InPlace.{meant_in}
 use Rattle.node_core.proofs.LibraryLaws.{library_reply_ran}
 use Rattle.node_core.proofs.node.Core.run_reply.Goals as goal
 
@@ -19,7 +20,8 @@ returns-then-reply-le-LAST_OWN g c =
     let content = content_of message in
     let core = c.args.self.now in
     landed_is _ core c.land.new.segment content c.self.view_is c.land.ensures.landed
-    ∙ library_reply_ran (g.H.Handlers.meaning c.args.handlers.now) core (with_sender core.me message) message
+    ∙ library_reply_ran (meant_in c.args.landing core.segment (g.H.Handlers.meaning c.args.handlers.now)) core
+    (with_sender core.me message) message
     c.requires.reply.ours c.requires.reply.runs c.if-reply-le-LAST_OWN.true
   where
     landed_is : (inside core : CoreState) (bytes : List ℕ) (content : Content) → inside ≡ core

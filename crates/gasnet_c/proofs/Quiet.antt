@@ -1,0 +1,30 @@
+-- The handlers of deliveries that are replayed write nothing, and don't depend on the segment.
+use Rattle.std.proofs.Common.{◌≡◌, List, [], Bool, true, false, if◌then◌else◌, refl}
+use Rattle.std.specs.Prelude.{◌==◌}
+use Rattle.wire_message.specs.Content.{long_reply, medium_reply, short_reply}
+use Rattle.part_handlers.specs.Runs.{Frame, Outcome, Start, untouched}
+use Rattle.part_handlers.proofs.Laws.{writes-replying}
+use Rattle.node_core.specs.InPlace.{IsQuiet}
+use Rattle.gasnet_c.specs.Replayed.{asking}
+use Rattle.gasnet_c.specs.declared.replay.Reply.{Reply}
+
+quiet-either : {one other : Outcome} (test : Bool) → one.writes ≡ [] → other.writes ≡ []
+    → (if test then one else other).writes ≡ []
+quiet-either true one other = one
+quiet-either false one other = other
+
+asking_writes : (reply : Reply) (frame : Frame) (start : Start) → (asking reply frame start).writes ≡ []
+asking_writes reply frame start =
+    let args = reply.args.now in
+    let payload = reply.payload.now in
+    quiet-either (reply.category == 0) (writes-replying frame (short_reply reply.handler args) (untouched start))
+    (quiet-either (reply.category == 1)
+    (writes-replying frame (medium_reply reply.handler args payload) (untouched start))
+    (quiet-either (reply.category == 2)
+    (writes-replying frame (long_reply reply.handler args reply.offset payload) (untouched start)) refl))
+
+pub asking_quiet : (reply : Reply) → IsQuiet (λ handler frame start. asking reply frame start)
+asking_quiet reply = record {
+  writes = λ handler frame start. asking_writes reply frame start;
+  blind = λ handler frame start segment. refl;
+}
