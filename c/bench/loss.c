@@ -1,8 +1,9 @@
 /* Two nodes over a network that may lose packets: round trips of a Short, blocking puts of 1 MiB, 8 of them under way,
- * and puts of 64 bytes, each for some seconds: loss [SECONDS]. */
+ * puts of 64 bytes, and streams of Mediums that fit a packet of 1,500 bytes and of longer ones, which IP cuts there;
+ * each for some seconds: loss [SECONDS]. */
 #include "nodes.h"
 
-enum { ASK = 200, BACK = 201, UNDER_WAY = 8, MOST = 1 << 20 };
+enum { ASK = 200, BACK, TAKE, UNDER_WAY = 8, MOST = 1 << 20, MEDIUMS = 256, FITS = 1400, CUT = 8192 };
 
 static volatile unsigned backs;
 static char near[MIB];
@@ -12,6 +13,12 @@ static void ask(gasnet_token_t token) { GASNET_SAFE(gasnet_AMReplyShort0(token, 
 static void back(gasnet_token_t token) {
     (void)token;
     backs++;
+}
+
+static void take(gasnet_token_t token, void *bytes, size_t nbytes) {
+    (void)bytes;
+    (void)nbytes;
+    GASNET_SAFE(gasnet_AMReplyShort0(token, BACK));
 }
 
 static void trips(double time) {
@@ -40,6 +47,17 @@ static void put_eight(void) {
 
 static void put_small(void) { gasnet_put(1, far(1, 0), near, 64); }
 
+static void send_mediums(size_t nbytes) {
+    backs = 0;
+    for (int i = 0; i < MEDIUMS; i++)
+        GASNET_SAFE(gasnet_AMRequestMedium0(1, TAKE, near, nbytes));
+    GASNET_BLOCKUNTIL(backs == MEDIUMS);
+}
+
+static void send_short_mediums(void) { send_mediums(FITS); }
+
+static void send_long_mediums(void) { send_mediums(CUT); }
+
 /* The seconds that one of them takes, on the average. */
 static double mean(void (*put)(void), double time) {
     int count = 0;
@@ -50,9 +68,9 @@ static double mean(void (*put)(void), double time) {
 }
 
 int main(int argc, char **argv) {
-    gasnet_handlerentry_t table[] = { { ASK, ask }, { BACK, back } };
+    gasnet_handlerentry_t table[] = { { ASK, ask }, { BACK, back }, { TAKE, take } };
     double time = argument(argc, argv, 1, 1);
-    start(table, 2, UNDER_WAY * MIB);
+    start(table, 3, UNDER_WAY * MIB);
     memset(near, 1, sizeof near);
     barrier();
     if (!me) {
@@ -61,6 +79,8 @@ int main(int argc, char **argv) {
         printf("put 1 MiB %.2f MB/s\n", MIB / mean(put_large, time) / 1e6);
         printf("8 puts of 1 MiB %.2f MB/s\n", UNDER_WAY * MIB / mean(put_eight, time) / 1e6);
         printf("put 64 B %.2f us\n", mean(put_small, time) * 1e6);
+        printf("Mediums of 1400 %.2f MB/s\n", MEDIUMS * FITS / mean(send_short_mediums, time) / 1e6);
+        printf("Mediums of 8192 %.2f MB/s\n", MEDIUMS * CUT / mean(send_long_mediums, time) / 1e6);
     }
     barrier();
     gasnet_exit(0);

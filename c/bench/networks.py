@@ -170,8 +170,8 @@ class Loopback(Network):
         host.cut_packets("lo")
         if self.loss:
             host.must("nft", "add", "table", "inet", "loss")
-            host.must("nft", "add", "chain", "inet", "loss", "input", "{ type filter hook input priority 0; }")
-            host.must("nft", "add", "rule", "inet", "loss", "input", "meta", "l4proto", "{ tcp, udp }", "numgen", "random", "mod",
+            host.must("nft", "add", "chain", "inet", "loss", "packets", "{ type filter hook prerouting priority -300; }")
+            host.must("nft", "add", "rule", "inet", "loss", "packets", "meta", "l4proto", "{ tcp, udp }", "numgen", "random", "mod",
                       100_000, "<", round(self.loss * 1000), "drop")
 
     def run(self, words, limit, env=None):
