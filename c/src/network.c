@@ -24,7 +24,8 @@ static int receive_messages(int socket, struct mmsghdr *messages, int most) {
 }
 
 static ssize_t send_to(int socket, const void *bytes, size_t length, const struct gasnetl_place *place) {
-    return syscall(SYS_sendto, socket, bytes, length, MSG_DONTWAIT, &place->address, place->length);
+    return syscall(SYS_sendto, socket, bytes, length, MSG_DONTWAIT, place ? &place->address : NULL,
+                   place ? place->length : 0);
 }
 
 /* Asks for wide buffers. The system may give less. */
@@ -99,6 +100,8 @@ static void tell_refusals(struct gasnetl_network *network) {
 static void ask_for_groups(struct gasnetl_network *network) {
     int yes = 1, each;
     socklen_t length = sizeof each;
+    for (int node = 0; node < GASNET_C_MAX_NODES; node++)
+        network->single_from[node] = SIZE_MAX;
     network->has_groups = !getsockopt(network->socket, IPPROTO_UDP, UDP_SEGMENT, &each, &length) &&
                           !setsockopt(network->socket, IPPROTO_UDP, UDP_GRO, &yes, sizeof yes);
 }
@@ -130,6 +133,23 @@ static bool take_socket(struct gasnetl_network *network, int socket) {
     return false;
 }
 
+/* Whether the socket is bound to the node's own address, and not to all of the host's. */
+static bool has_own_address(const struct gasnetl_network *network) {
+    struct sockaddr_storage address = { 0 };
+    socklen_t length = sizeof address;
+    return !getsockname(network->socket, (struct sockaddr *)&address, &length) &&
+           gasnetl_places_find(&network->places, &address) == network->me;
+}
+
+/* Where a job has two nodes the socket is for the other one alone: so the system looks for the way once, and not for
+ * each datagram. */
+static void connect_to_only_peer(struct gasnetl_network *network) {
+    if (network->places.nodes != 2 || !has_own_address(network))
+        return;
+    const struct gasnetl_place *peer = &network->places.of[1 - network->me];
+    network->is_connected = !connect(network->socket, (const struct sockaddr *)&peer->address, peer->length);
+}
+
 bool gasnetl_network_open(struct gasnetl_network *network, const struct gasnetl_config *config, uint16_t me,
                           int socket) {
     network->me = me;
@@ -137,6 +157,7 @@ bool gasnetl_network_open(struct gasnetl_network *network, const struct gasnetl_
         return false;
     tell_refusals(network);
     ask_for_groups(network);
+    connect_to_only_peer(network);
     if (gasnetl_faults_start(&network->faults, config, me))
         return true;
     fprintf(stderr, "gasnet: node %u has no memory\n", me);
@@ -145,13 +166,14 @@ bool gasnetl_network_open(struct gasnetl_network *network, const struct gasnetl_
 
 /* ---- What is sent. */
 
-/* Sends bytes as datagrams of as many bytes each. */
+/* Sends bytes as datagrams of as many bytes each, to the node to which the socket is connected where `place` is NULL.
+ */
 static ssize_t send_group(struct gasnetl_network *network, const struct gasnetl_place *place, const void *bytes,
                           size_t length, size_t each) {
     struct iovec all = { (void *)(uintptr_t)bytes, length };
     _Alignas(struct cmsghdr) char control[CMSG_SPACE(sizeof(uint16_t))] = { 0 };
-    struct msghdr message = { .msg_name = (void *)(uintptr_t)&place->address,
-                              .msg_namelen = place->length,
+    struct msghdr message = { .msg_name = place ? (void *)(uintptr_t)&place->address : NULL,
+                              .msg_namelen = place ? place->length : 0,
                               .msg_iov = &all,
                               .msg_iovlen = 1,
                               .msg_control = control,
@@ -164,7 +186,7 @@ static ssize_t send_group(struct gasnetl_network *network, const struct gasnetl_
 }
 
 static ssize_t send_once(struct gasnetl_network *network, uint16_t to, const void *bytes, size_t length, size_t each) {
-    const struct gasnetl_place *place = &network->places.of[to];
+    const struct gasnetl_place *place = network->is_connected ? NULL : &network->places.of[to];
     if (each < length)
         return send_group(network, place, bytes, length, each);
     return send_to(network->socket, bytes, length, place);
@@ -211,7 +233,7 @@ static void send_waiting(struct gasnetl_network *network) {
     else if (!is_no_way_for_groups(errno))
         network->unsent += going->count;
     else {
-        network->takes_single[going->to] = true;
+        network->single_from[going->to] = going->each;
         send_singly(network);
     }
     going->count = 0;
@@ -234,8 +256,8 @@ uint8_t *gasnetl_network_room(struct gasnetl_network *network) {
 static bool may_join(const struct gasnetl_network *network, uint16_t to, size_t length) {
     const struct gasnetl_going *going = &network->going;
     bool is_even = going->end - going->first == going->count * going->each;
-    return network->has_groups && !network->takes_single[to] && going->to == to && length <= going->each && is_even &&
-           going->count < GASNETL_GROUP && going->end - going->first + length <= GASNETL_GROUP_BYTES;
+    return network->has_groups && going->to == to && length <= going->each && going->each < network->single_from[to] &&
+           is_even && going->count < GASNETL_GROUP && going->end - going->first + length <= GASNETL_GROUP_BYTES;
 }
 
 /* Puts a datagram behind those that wait. */

@@ -52,14 +52,15 @@ typedef void gasnetl_came_back(struct gasnetl_job *job, uint16_t to, const uint8
 struct gasnetl_network {
     int socket; /* -1 where there is none */
     uint16_t me;
-    bool has_groups; /* the system sends and receives groups */
+    bool has_groups;   /* the system sends and receives groups */
+    bool is_connected; /* to the only peer */
     struct gasnetl_places places;
     struct gasnetl_faults faults;
-    gasnetl_came_back *came_back;          /* takes what came back; NULL where nobody does */
-    struct gasnetl_job *job;               /* what it is handed */
-    bool is_unsealed[GASNET_C_MAX_NODES];  /* a datagram without a right tag came from the node's address */
-    bool takes_single[GASNET_C_MAX_NODES]; /* the way to the node has no groups */
-    struct gasnetl_key key;                /* where one is set, datagrams are sealed under it */
+    gasnetl_came_back *came_back;           /* takes what came back; NULL where nobody does */
+    struct gasnetl_job *job;                /* what it is handed */
+    bool is_unsealed[GASNET_C_MAX_NODES];   /* a datagram without a right tag came from the node's address */
+    size_t single_from[GASNET_C_MAX_NODES]; /* the way to the node has no groups of datagrams of so many bytes */
+    struct gasnetl_key key;                 /* where one is set, datagrams are sealed under it */
     struct gasnetl_going going;
     struct gasnetl_coming coming;
     uint64_t sent, received, strays, unsealed, unsent;

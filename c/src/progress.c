@@ -67,7 +67,7 @@ static void request_went_out(struct gasnetl_job *job, const gasnet_c_told *told,
     struct gasnetl_progress *progress = &job->progress;
     gasnetl_peer_asked(job, told->to);
     if (!progress->out++)
-        progress->next_tick = gasnet_c_next_due(&job->node);
+        progress->next_tick = 0;
     gasnetl_recovery_sent(job, told->to, told->slot, server);
     send_told(job, told);
 }
@@ -160,10 +160,12 @@ void gasnetl_tick(struct gasnetl_job *job) {
 /* The endpoint sends again by itself what has no answer for long: the last resort. */
 static void last_resort(struct gasnetl_job *job) {
     struct gasnetl_progress *progress = &job->progress;
+    if (!progress->next_tick)
+        progress->next_tick = gasnet_c_next_due(&job->node);
     if (progress->time < progress->next_tick)
         return;
     gasnetl_tick(job);
-    progress->next_tick = gasnet_c_next_due(&job->node);
+    progress->next_tick = 0;
 }
 
 /* Sends the notes of the barrier that are due, and, where what came is taken, what is to go again. */

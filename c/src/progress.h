@@ -17,7 +17,8 @@ struct gasnetl_progress {
     uint64_t elapsed;     /* the time in which this node looked for datagrams, in microseconds */
     uint64_t time;        /* the endpoint's, in milliseconds: what of it elapsed */
     uint64_t last_empty;  /* what had elapsed when nothing more had come */
-    uint64_t next_tick;   /* when a request is due that the endpoint sends again by itself, by its time */
+    uint64_t next_tick;   /* when a request is due that the endpoint sends again by itself, by its time; 0 where it
+                             has to be asked */
     unsigned out;         /* the requests to all peers that aren't back */
     uint64_t resent;      /* how often a request was sent again */
     unsigned credits;     /* how many may be out to one peer */
