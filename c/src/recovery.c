@@ -13,9 +13,10 @@ enum {
     MOST_DOUBLINGS = 20, /* of a time-out */
     DELAY = 30,          /* microseconds by which a host's own work may lengthen a round trip */
     OVERHEAD = 640,      /* what the system counts of a receive buffer for a datagram, beside its payload */
-    LONG_WAY = 2000,     /* microseconds of a round trip that no host's work makes */
-    UNHARMED = 128,      /* answers without a loss, behind which a chunk is doubled */
-    CHUNK_DOUBLINGS = 4  /* from 512 bytes to GASNET_C_PAYLOAD */
+    UNHARMED = 128,      /* answers without a loss, behind which a chunk is doubled, at first */
+    PUT_OFF = 8,         /* times as many, once a chunk that was doubled is lost; up to MOST_UNHARMED */
+    MOST_UNHARMED = 1 << 16,
+    CHUNK_DOUBLINGS = 4 /* from 512 bytes to GASNET_C_PAYLOAD */
 };
 
 /* ---- Transmissions in order. */
@@ -61,6 +62,7 @@ void gasnetl_recovery_start(struct gasnetl_job *job) {
     for (uint16_t node = 0; node < job->nodes; node++) {
         struct gasnetl_path *path = &recovery->paths[node];
         path->lost = path->flights[GASNETL_BY_LIBRARY].sequence = path->flights[GASNETL_BY_CLIENT].sequence = nothing;
+        path->wanted = UNHARMED;
     }
 }
 
@@ -80,20 +82,40 @@ void gasnetl_recovery_open(struct gasnetl_job *job) {
         gasnetl_window_start(&job->recovery.paths[node].window, most_to(job, node));
 }
 
-/* ---- The chunks of a long way. */
+/* ---- How long chunks are. */
 
-uint32_t gasnetl_recovery_chunk(const struct gasnetl_job *job, uint16_t to) {
-    uint64_t bytes = (uint64_t)job->control.ways[to].chunk << job->recovery.paths[to].doublings;
+static uint32_t doubled(uint32_t chunk, unsigned doublings) {
+    uint64_t bytes = (uint64_t)chunk << doublings;
     return bytes < GASNET_C_PAYLOAD ? (uint32_t)bytes : GASNET_C_PAYLOAD;
 }
 
-/* An answer came. Where the window is as wide as it can be on a long way, and nothing is lost, chunks grow. */
-static void grow_chunk(struct gasnetl_path *path, const struct gasnetl_round_trip *trip) {
-    bool is_held_back = path->window.size == path->window.most && trip->least >= LONG_WAY;
-    if (!is_held_back || path->doublings == CHUNK_DOUBLINGS || ++path->unharmed < UNHARMED)
+uint32_t gasnetl_recovery_chunk(const struct gasnetl_job *job, uint16_t to) {
+    return doubled(job->control.ways[to].chunk, job->recovery.paths[to].doublings);
+}
+
+/* Whether the peer's receive buffer has room for a window of chunks that are doubled so often. */
+static bool has_room_for(const struct gasnetl_way *way, unsigned most, unsigned doublings) {
+    uint64_t packets = UINT64_C(1) << doublings;
+    return way->buffer / most >= doubled(way->chunk, doublings) + packets * OVERHEAD;
+}
+
+/* An answer came. Where the window is as wide as it can be, so that credits alone hold the sender back, and nothing was
+ * lost for long, chunks are doubled: then some packets of a chunk have one answer. */
+static void grow_chunk(const struct gasnetl_way *way, struct gasnetl_path *path) {
+    if (!path->window.most || path->window.size < path->window.most || path->doublings == CHUNK_DOUBLINGS ||
+        way->chunk << path->doublings >= GASNET_C_PAYLOAD || ++path->unharmed < path->wanted)
         return;
-    path->doublings++;
     path->unharmed = 0;
+    if (has_room_for(way, path->window.most, path->doublings + 1))
+        path->doublings++;
+}
+
+/* A request was lost: chunks fit one packet again, since of a chunk of several the rest of a lost one's packets would
+ * stay in the receiver's memory. Where they didn't, the next try is put off eight times as long. */
+static void shrink_chunk(struct gasnetl_path *path) {
+    if (path->doublings && path->wanted < MOST_UNHARMED)
+        path->wanted *= PUT_OFF;
+    path->doublings = path->unharmed = 0;
 }
 
 /* ---- When something is due. */
@@ -184,7 +206,7 @@ static void lose(struct gasnetl_path *path, struct gasnetl_flight *flight, uint8
     take_out(path, &flight->sequence, slot);
     append(path, &path->lost, slot);
     one->is_lost = true;
-    path->doublings = path->unharmed = 0;
+    shrink_chunk(path);
     gasnetl_window_lost(&path->window, one->order, path->order, waiting_in_queues(path, flight));
 }
 
@@ -236,7 +258,7 @@ void gasnetl_recovery_answered(struct gasnetl_job *job, uint16_t to, uint16_t sl
     struct gasnetl_flight *flight = &path->flights[one->server];
     note_answer(job, path, one);
     gasnetl_window_answered(&path->window, flight->sequence.count);
-    grow_chunk(path, &flight->trip);
+    grow_chunk(&job->control.ways[to], path);
     take_out(path, one->is_lost ? &path->lost : &flight->sequence, (uint8_t)slot);
     one->times = 0;
     find_lost(job, path, flight);

@@ -56,6 +56,7 @@ struct gasnetl_path {
     struct gasnetl_sequence lost; /* those that wait to be sent again */
     struct gasnetl_window window;
     unsigned doublings, unharmed;                 /* of a chunk; the answers since the last one, or since a loss */
+    unsigned wanted;                              /* how many have to be, before a chunk is doubled */
     uint64_t order;                               /* of the last transmission */
     uint64_t by_order, by_time, probed, spurious; /* retransmissions by their cause, and how many had no cause */
 };
@@ -79,7 +80,7 @@ bool gasnetl_recovery_is_measured(const struct gasnetl_job *job, uint16_t node);
 void gasnetl_recovery_open(struct gasnetl_job *job);
 
 /* How many bytes a chunk to a peer has at most: as many as one packet takes. Where the credits of the pair, and nothing
- * else, hold the sender back on a long way, which loses nothing, it is more, up to GASNET_C_PAYLOAD. */
+ * else, hold the sender back on a way that loses nothing for long, it is more, up to GASNET_C_PAYLOAD. */
 uint32_t gasnetl_recovery_chunk(const struct gasnetl_job *job, uint16_t to);
 
 /* Whether a request to a peer may be sent now, beside `waiting` ones that are begun and not sent. */
