@@ -15,9 +15,14 @@ static const uint8_t no_bytes[1];
 const gasnet_c_run gasnetl_no_run = { { { no_args, 0 }, NOTHING, 0, NONE, 0 }, NOTHING };
 
 size_t gasnet_AMMaxArgs(void) { return GASNETL_ARGS; }
-size_t gasnet_AMMaxMedium(void) { return GASNET_C_PAYLOAD; }
-size_t gasnet_AMMaxLongRequest(void) { return GASNET_C_PAYLOAD; }
-size_t gasnet_AMMaxLongReply(void) { return GASNET_C_PAYLOAD; }
+
+/* Longer messages are taken, up to GASNET_C_PAYLOAD, but IP cuts them. */
+size_t gasnet_AMMaxMedium(void) {
+    return gasnetl_job.initialised ? atomic_load_explicit(&gasnetl_job.control.message, memory_order_relaxed)
+                                   : GASNET_C_PAYLOAD;
+}
+size_t gasnet_AMMaxLongRequest(void) { return gasnet_AMMaxMedium(); }
+size_t gasnet_AMMaxLongReply(void) { return gasnet_AMMaxMedium(); }
 
 /* ---- The table. */
 

@@ -126,12 +126,34 @@ bool gasnetl_control_is_own(const struct gasnetl_job *job, const uint8_t *bytes,
 
 /* ---- Runs. */
 
+/* A message to a node has at most as many bytes as fit a packet of this MTU. */
+static void limit_messages(struct gasnetl_job *job, uint16_t node, uint32_t mtu) {
+    uint32_t most = gasnetl_path_message(&job->network, node, mtu);
+    if (most < job->control.message)
+        job->control.message = most;
+}
+
+/* Finds what this node can know of the ways to and from the others. */
+static void find_ways(struct gasnetl_job *job) {
+    struct gasnetl_control *control = &job->control;
+    control->buffer = gasnetl_path_buffer(&job->network, job->nodes - 1u);
+    control->message = GASNET_C_PAYLOAD;
+    control->ways[job->me] = (struct gasnetl_way){ GASNET_C_PAYLOAD, UINT32_MAX, UINT64_MAX };
+    for (uint16_t node = 0; node < job->nodes; node++) {
+        if (node == job->me)
+            continue;
+        control->mtu[node] = job->config.mtu ? job->config.mtu : gasnetl_path_mtu(&job->network, node);
+        limit_messages(job, node, control->mtu[node]);
+    }
+}
+
 bool gasnetl_control_start(struct gasnetl_job *job) {
     struct gasnetl_control *control = &job->control;
     while (!control->run)
         if (getrandom(&control->run, sizeof control->run, 0) != sizeof control->run)
             return false;
     control->runs[job->me] = control->run;
+    find_ways(job);
     return true;
 }
 
@@ -189,6 +211,7 @@ static void take_size(struct gasnetl_job *job, uint16_t from, const struct datag
         return;
     job->segment.sizes[from] = hello->first;
     control->ways[from] = (struct gasnetl_way){ gasnetl_path_chunk(&job->network, from, mtu), mtu, hello->buffer };
+    limit_messages(job, from, mtu);
     control->knows_size[from] = true;
 }
 
@@ -296,19 +319,7 @@ static void exchange_all(struct gasnetl_job *job, const bool *known) {
         gasnetl_absent_end(job, known, gasnetl_clock() - begun);
 }
 
-/* Finds what this node can know of the ways to and from the others. */
-static void find_ways(struct gasnetl_job *job) {
-    struct gasnetl_control *control = &job->control;
-    control->buffer = gasnetl_path_buffer(&job->network, job->nodes - 1u);
-    for (uint16_t node = 0; node < job->nodes; node++)
-        if (node != job->me)
-            control->mtu[node] = job->config.mtu ? job->config.mtu : gasnetl_path_mtu(&job->network, node);
-    control->ways[job->me] = (struct gasnetl_way){ GASNET_C_PAYLOAD, UINT32_MAX, UINT64_MAX };
-}
-
 void gasnetl_exchange_sizes(struct gasnetl_job *job) {
-    if (!job->control.has_size)
-        find_ways(job);
     job->control.has_size = true;
     job->control.knows_size[job->me] = true;
     job->segment.sizes[job->me] = job->segment.size;

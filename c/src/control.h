@@ -53,9 +53,12 @@ struct gasnetl_control {
     struct gasnetl_way ways[GASNET_MAXNODES]; /* complete where all sizes are known */
     uint32_t mtu[GASNET_MAXNODES];            /* that this node found of the way to the peer */
     uint64_t buffer;                          /* the bytes that each peer may have on the way to this node */
+    _Atomic uint32_t
+        message; /* the most bytes of a message to any peer whose datagram is one packet, as far as known */
 };
 
-/* Draws this node's run. False where the system has no random numbers. */
+/* Draws this node's run, and finds what it can know of the ways to the others. False where the system has no random
+ * numbers. */
 bool gasnetl_control_start(struct gasnetl_job *job);
 
 /* The number of the endpoint's job, where all sizes are exchanged: the same on all nodes. */

@@ -4,12 +4,15 @@
 #include <stdbool.h>
 #include <unistd.h>
 
+#include "messages.h"
+
 enum {
     USUAL_MTU = 1500, /* of an Ethernet */
     IPV4_HEADER = 20,
     IPV6_HEADER = 40,
     UDP_HEADER = 8,      /* without options */
     MESSAGE_HEADER = 40, /* of the endpoint's (docs/FORMATS.md) */
+    ARGUMENTS = 4 * GASNETL_ARGS,
     GRAIN = 8,
     LEAST_CHUNK = 512
 };
@@ -50,14 +53,23 @@ uint32_t gasnetl_path_mtu(const struct gasnetl_network *network, uint16_t node) 
     return is_known && mtu > 0 ? (uint32_t)mtu : USUAL_MTU;
 }
 
-uint32_t gasnetl_path_chunk(const struct gasnetl_network *network, uint16_t node, uint32_t mtu) {
-    uint32_t front = (is_ipv6(network, node) ? IPV6_HEADER : IPV4_HEADER) + UDP_HEADER + MESSAGE_HEADER;
+/* The greatest payload that stands behind so many bytes of a message in a packet. */
+static uint32_t payload_behind(const struct gasnetl_network *network, uint16_t node, uint32_t mtu, uint32_t front) {
+    front += (is_ipv6(network, node) ? IPV6_HEADER : IPV4_HEADER) + UDP_HEADER;
     if (network->key.is_set)
         front += GASNETL_TAG_BYTES;
-    uint32_t chunk = mtu > front ? (mtu - front) / GRAIN * GRAIN : 0;
-    if (chunk < LEAST_CHUNK)
+    uint32_t payload = mtu > front ? (mtu - front) / GRAIN * GRAIN : 0;
+    if (payload < LEAST_CHUNK)
         return LEAST_CHUNK;
-    return chunk < GASNET_C_PAYLOAD ? chunk : GASNET_C_PAYLOAD;
+    return payload < GASNET_C_PAYLOAD ? payload : GASNET_C_PAYLOAD;
+}
+
+uint32_t gasnetl_path_chunk(const struct gasnetl_network *network, uint16_t node, uint32_t mtu) {
+    return payload_behind(network, node, mtu, MESSAGE_HEADER);
+}
+
+uint32_t gasnetl_path_message(const struct gasnetl_network *network, uint16_t node, uint32_t mtu) {
+    return payload_behind(network, node, mtu, MESSAGE_HEADER + ARGUMENTS);
 }
 
 uint64_t gasnetl_path_buffer(const struct gasnetl_network *network, unsigned peers) {

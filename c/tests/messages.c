@@ -184,10 +184,17 @@ static void test_sixteen(int node) {
     barrier();
 }
 
+/* 1,500 bytes without the headers of IPv4 and UDP, and of a message with 16 arguments. */
+enum { FITS_ETHERNET = 1500 - 28 - 40 - 64 };
+
+static void test_limits(void) {
+    size_t most = getenv("GASNET_MTU") && nodes > 1 ? FITS_ETHERNET : PLACE;
+    CHECK(gasnet_AMMaxArgs() == 16 && gasnet_AMMaxMedium() == most);
+    CHECK(gasnet_AMMaxLongRequest() == most && gasnet_AMMaxLongReply() == most);
+}
+
 static void test_refusals(void) {
     static char bytes[PLACE + 1];
-    CHECK(gasnet_AMMaxArgs() == 16 && gasnet_AMMaxMedium() == PLACE);
-    CHECK(gasnet_AMMaxLongRequest() == PLACE && gasnet_AMMaxLongReply() == PLACE);
     CHECK(gasnet_AMRequestShort0((gasnet_node_t)nodes, TELL) == GASNET_ERR_BAD_ARG);
     CHECK(gasnet_AMRequestShort0(0, 127) == GASNET_ERR_BAD_ARG);
     CHECK(gasnet_AMRequestMedium0(0, TELL_BUF, bytes, PLACE + 1) == GASNET_ERR_BAD_ARG);
@@ -223,6 +230,7 @@ int main(int argc, char **argv) {
     };
     start(&argc, &argv, table, COUNT(table), SEGMENT);
     CHECK(table[0].index >= 128 && table[1].index >= 128 && table[0].index != table[1].index);
+    test_limits();
     test_refusals();
     for (int node = 0; node < nodes; node++) {
         test_counts((me + node) % nodes, table);

@@ -209,6 +209,7 @@ unequal() { # VARIABLE VALUE VALUE
 export -f unequal
 check "unequal GASNET_CREDITS" 0 "" bash -c 'unequal GASNET_CREDITS 32 16'
 check "unequal GASNET_RESEND" 0 "" bash -c 'unequal GASNET_RESEND 20 50'
+check "messages by GASNET_MTU" 0 "" env GASNET_MTU=1500 bin/gasnetrun -n 2 out/tests/messages
 check "unequal GASNET_MTU" 0 "" bin/gasnetrun -n 2 bash -c 'export GASNET_MTU=$((1000 + 500 * GASNET_RANK)); exec out/tests/transfers'
 more_nodes() { # node 1 counts a node more than node 0
     local port=$((20000 + RANDOM % 10000)) log

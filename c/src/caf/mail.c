@@ -6,8 +6,6 @@
 #include "errors.h"
 #include "state.h"
 
-enum { PIECE = 8192 };
-
 /* ---- What came. */
 
 static struct caf_mail **find(struct caf_team *team, uint32_t sequence, uint32_t step) {
@@ -177,9 +175,9 @@ void caf_mail_send(const struct caf_operation *operation, uint32_t step, int mem
     int node = team->members[member];
     if (!is_there(operation, member))
         return;
-    size_t done = 0, piece;
+    size_t done = 0, piece, most = gasnet_AMMaxMedium();
     do {
-        piece = length - done < PIECE ? length - done : PIECE;
+        piece = length - done < most ? length - done : most;
         gasnet_AMRequestMedium8(caf_counted(node), CAF_MAIL, (void *)((uintptr_t)bytes + done), piece,
                                 caf_low(team->id), caf_high(team->id), (int32_t)operation->sequence,
                                 (int32_t)number_of(operation, step), caf_low(operation->length),
