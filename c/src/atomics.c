@@ -102,7 +102,7 @@ static uint64_t complete(struct gasnetl_atomics *atomics, uint16_t index, uint64
     const uint64_t number = gasnetl_number_in(&block->change, word);
     if (block->result)
         memcpy(block->result, &number, block->change.bits / 8);
-    block->op->open--;
+    gasnetl_part_take_out(&block->part);
     block->next = atomics->free;
     atomics->free = index;
     return gasnetl_word_made(&block->change, word);
@@ -215,9 +215,9 @@ struct asked {
     uint64_t a, b;
 };
 
-/* An operation as it begins, for one of the layer's; where it breaks a rule the job ends. */
-static struct gasnetl_block judge(const struct gasnetl_job *job, struct gasnetl_op *op, const struct asked *asked) {
-    struct gasnetl_block block = { .op = op, .to = (uint16_t)asked->node, .behind = GASNETL_NONE, .together = 1 };
+/* An operation as it begins; where it breaks a rule the job ends. */
+static struct gasnetl_block judge(const struct gasnetl_job *job, const struct asked *asked) {
+    struct gasnetl_block block = { .to = (uint16_t)asked->node, .behind = GASNETL_NONE, .together = 1 };
     const size_t size = gasnetl_size_of(asked->type);
     if (asked->node >= job->nodes)
         gasnetl_stop(GASNETL_MISUSE, "%s to node %u: there are %u nodes", asked->call, asked->node, job->nodes);
@@ -237,12 +237,13 @@ static struct gasnetl_block judge(const struct gasnetl_job *job, struct gasnetl_
     return block;
 }
 
-/* The first free block becomes this one. */
-static uint16_t take_block(struct gasnetl_atomics *atomics, const struct gasnetl_block *block) {
+/* The first free block becomes this one, a part of one of the layer's operations. */
+static uint16_t take_block(struct gasnetl_atomics *atomics, struct gasnetl_op *op, const struct gasnetl_block *block) {
     const uint16_t index = atomics->free;
     atomics->free = atomics->blocks[index].next;
     atomics->blocks[index] = *block;
     atomics->blocks[index].last = index;
+    gasnetl_part_add(op, &atomics->blocks[index].part);
     return index;
 }
 
@@ -282,22 +283,21 @@ static void do_here(struct gasnetl_job *job, uint16_t index, gasnet_c_told told)
     } while (index != GASNETL_NONE);
 }
 
-/* Begins an operation for one of the layer's, which is open until it is complete. */
+/* Begins an operation for one of the layer's, of which it is a part until it is complete. */
 static void begin(struct gasnetl_job *job, struct gasnetl_op *op, const struct asked *asked) {
     struct gasnetl_atomics *atomics = &job->atomics;
-    struct gasnetl_block block = judge(job, op, asked);
+    struct gasnetl_block block = judge(job, asked);
     const bool swaps = !is_direct(&block);
-    op->open++;
     gasnetl_request_begins(job);
     const uint16_t first = swaps ? first_on_word(atomics, &block) : GASNETL_NONE;
     if (first != GASNETL_NONE && atomics->free != GASNETL_NONE) {
-        wait_behind(atomics, first, take_block(atomics, &block));
+        wait_behind(atomics, first, take_block(atomics, op, &block));
         return;
     }
     if (swaps && atomics->known.to == block.to && atomics->known.offset == block.offset)
         block.expected = atomics->known.word;
     gasnet_c_told told = ask(job, &block);
-    const uint16_t index = take_block(atomics, &block);
+    const uint16_t index = take_block(atomics, op, &block);
     if (told.code == GASNET_C_RAN_HERE)
         do_here(job, index, told);
     else

@@ -29,8 +29,8 @@ enum {
 
 /* An operation. The first one of those on a word has the others behind it. */
 struct gasnetl_block {
-    struct gasnetl_op *op;
-    void *result; /* where what the number was goes; or NULL */
+    struct gasnetl_part part; /* of what the client synchronises */
+    void *result;             /* where what the number was goes; or NULL */
     struct gasnetl_change change;
     uint64_t offset;   /* of the word in its node's segment */
     uint16_t to;       /* the word's node */

@@ -143,7 +143,7 @@ static void finish(struct gasnetl_job *job) {
     struct gasnetl_collectives *collectives = &job->collectives;
     struct gasnetl_collective *one = collectives->first;
     collectives->first = one->next;
-    one->op->open--;
+    gasnetl_part_take_out(&one->part);
     free(one);
     gasnetl_wake(&job->turns);
 }
@@ -183,8 +183,8 @@ static gex_Event_t begin(const struct gasnetl_collective *asked) {
     if (!one)
         gasnetl_stop(GASNETL_BROKEN, "there is no memory for another collective");
     *one = *asked;
-    struct gasnetl_op *op = one->op = gasnetl_op_new(&job->transfers.ops);
-    op->open++;
+    struct gasnetl_op *op = gasnetl_op_new(&job->transfers.ops);
+    gasnetl_part_add(op, &one->part);
     *(collectives->first ? &collectives->last->next : &collectives->first) = one;
     collectives->last = one;
     gasnetl_request_begins(job);

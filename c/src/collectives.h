@@ -36,7 +36,7 @@ struct gasnetl_collective {
     size_t nbytes; /* that each node gives */
     size_t done;   /* of these the bytes of the pieces that are ended */
     uint64_t sign; /* the bit of each word that is turned on the way in and out: so signed words compare as unsigned */
-    struct gasnetl_op *op;
+    struct gasnetl_part part; /* of what the client synchronises */
     struct gasnetl_collective *next;
 };
 

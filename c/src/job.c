@@ -70,7 +70,7 @@ static int start(struct gasnetl_job *job, int threaded) {
     job->turns.first = threaded ? NULL : &gasnetl_thread;
     fix_most(job);
     gasnetl_progress_start(job);
-    gasnetl_transfers_start(&job->transfers);
+    gasnetl_transfers_start(&job->transfers, job->nodes);
     if (!gasnetl_exit_start(job))
         return gasnetl_refuse(GASNET_ERR_RESOURCE, "there is no memory");
     return GASNET_OK;

@@ -126,7 +126,7 @@ static void blocking(const struct pieces *all) {
     struct gasnetl_op op = { 0 };
     unsigned turn = 0;
     begin_all(job, &op, all);
-    while (op.open)
+    while (!gasnetl_op_is_complete(&op))
         gasnetl_wait(job, &turn);
     gasnetl_leave(job);
 }

@@ -16,8 +16,10 @@ enum {
     SPIN = 400,       /* the empty looks before a call that waits sleeps, where each node has a processor */
     POLL_EACH = 32,   /* requests between two polls */
     POLL_MOST = 64,
-    SLEEP = 100000,       /* microseconds that it sleeps at most */
-    SLEEP_THREADED = 5000 /* the same where another thread may see what it waits for */
+    ASK_EACH = 256,        /* polls in which nothing came, between two questions about all transfers */
+    SLEEP = 100000,        /* microseconds that it sleeps at most */
+    SLEEP_THREADED = 5000, /* the same where another thread may see what it waits for */
+    SLEEP_ASKING = 1000    /* the same where the endpoint is to be asked again */
 };
 
 uint64_t gasnetl_clock(void) {
@@ -243,6 +245,14 @@ static int take_kept(struct gasnetl_job *job, int most) {
     return took;
 }
 
+/* Asks the endpoint again about transfers that seemed to be complete, and about all of them now and then where nothing
+ * comes. Whether one of them is complete. */
+static bool ask_about_transfers(struct gasnetl_job *job, bool came) {
+    if (job->transfers.asks_again != GASNETL_NONE && gasnetl_transfers_ask_again(job))
+        return true;
+    return !came && ++job->progress.idle % ASK_EACH == 0 && gasnetl_transfers_ask_all(job);
+}
+
 bool gasnetl_poll(struct gasnetl_job *job, int most) {
     struct gasnetl_progress *progress = &job->progress;
     const uint8_t *bytes = NULL;
@@ -265,8 +275,10 @@ bool gasnetl_poll(struct gasnetl_job *job, int most) {
     /* What came is taken before anything goes again; but whoever sends without end doesn't hold that up. */
     if (!bytes)
         progress->last_empty = progress->elapsed;
-    if (job->attached)
+    if (job->attached) {
+        came += ask_about_transfers(job, came);
         send_due(job, !bytes || progress->elapsed - progress->last_empty >= PATIENCE);
+    }
     gasnetl_network_flush(&job->network);
     gasnetl_peers_look(job);
     if (came)
@@ -285,6 +297,8 @@ void gasnetl_request_begins(struct gasnetl_job *job) {
 static uint64_t sleep_time(const struct gasnetl_job *job) {
     const struct gasnetl_progress *progress = &job->progress;
     uint64_t most = job->turns.threaded ? SLEEP_THREADED : SLEEP, due = job->recovery.next_look;
+    if (job->transfers.asks_again != GASNETL_NONE)
+        most = SLEEP_ASKING;
     if (!progress->out || due >= progress->now + most)
         return most;
     return due > progress->now ? due - progress->now : 0;
@@ -299,7 +313,9 @@ void gasnetl_wait(struct gasnetl_job *job, unsigned *turn) {
     ++*turn;
     int mode = atomic_load_explicit(&progress->wait_mode, memory_order_relaxed);
     bool sleeps = mode == GASNET_WAIT_BLOCK || (mode == GASNET_WAIT_SPINBLOCK && *turn >= progress->spin);
-    if (sleeps)
+    if (sleeps && gasnetl_transfers_ask_all(job))
+        gasnetl_wake(&job->turns);
+    else if (sleeps)
         gasnetl_sleep(&job->turns, job->network.socket, sleep_time(job));
     else if (gasnetl_is_wanted(&job->turns))
         gasnetl_sleep(&job->turns, job->network.socket, 0);

@@ -24,6 +24,7 @@ struct gasnetl_progress {
     unsigned credits;     /* how many may be out to one peer */
     bool has_notes;       /* a note of the barrier may be due */
     unsigned since_poll;  /* requests since the last poll */
+    unsigned idle;        /* polls in which nothing came */
     bool keeps;           /* no handler of the client's may run: what runs one is kept for the next poll */
     atomic_int wait_mode; /* a client's thread sets it without a turn */
     unsigned spin;        /* the empty looks of a call that waits, before it sleeps */

@@ -10,7 +10,7 @@ enum { POLL_MOST = 64 };
 static int sync_one(struct gasnetl_job *job, gasnet_handle_t handle) {
     if (!handle)
         return GASNET_OK;
-    if (handle->open)
+    if (!gasnetl_op_is_complete(handle))
         return GASNET_ERR_NOT_READY;
     gasnetl_op_free(&job->transfers.ops, handle);
     return GASNET_OK;
@@ -18,7 +18,7 @@ static int sync_one(struct gasnetl_job *job, gasnet_handle_t handle) {
 
 static int sync_all(struct gasnetl_job *job, gasnet_handle_t *handles, size_t count) {
     for (size_t i = 0; i < count; i++)
-        if (handles[i] && handles[i]->open)
+        if (handles[i] && !gasnetl_op_is_complete(handles[i]))
             return GASNET_ERR_NOT_READY;
     for (size_t i = 0; i < count; i++) {
         sync_one(job, handles[i]);
@@ -43,7 +43,7 @@ static int sync_some(struct gasnetl_job *job, gasnet_handle_t *handles, size_t c
 
 int gasnet_try_syncnb(gasnet_handle_t handle) {
     struct gasnetl_job *job = gasnetl_enter("gasnet_try_syncnb");
-    if (handle && handle->open)
+    if (handle && !gasnetl_op_is_complete(handle))
         gasnetl_poll(job, POLL_MOST);
     int code = sync_one(job, handle);
     gasnetl_leave(job);
@@ -98,10 +98,11 @@ void gasnet_wait_syncnb_some(gasnet_handle_t *handles, size_t numhandles) {
 
 /* ---- Of the thread's implicit operations. */
 
+static bool is_under_way(const struct gasnetl_op *op) { return op && !gasnetl_op_is_complete(op); }
+
 /* Whether one of its puts, where these are asked for, or its gets isn't complete. */
-static bool is_open(bool puts, bool gets) {
-    const struct gasnetl_thread *self = &gasnetl_thread;
-    return (puts && self->puts && self->puts->open) || (gets && self->gets && self->gets->open);
+static bool are_under_way(bool puts, bool gets) {
+    return (puts && is_under_way(gasnetl_thread.puts)) || (gets && is_under_way(gasnetl_thread.gets));
 }
 
 static struct gasnetl_job *enter_implicit(const char *call) {
@@ -113,9 +114,9 @@ static struct gasnetl_job *enter_implicit(const char *call) {
 
 static int try_implicit(const char *call, bool puts, bool gets) {
     struct gasnetl_job *job = enter_implicit(call);
-    if (is_open(puts, gets))
+    if (are_under_way(puts, gets))
         gasnetl_poll(job, POLL_MOST);
-    int code = is_open(puts, gets) ? GASNET_ERR_NOT_READY : GASNET_OK;
+    int code = are_under_way(puts, gets) ? GASNET_ERR_NOT_READY : GASNET_OK;
     gasnetl_leave(job);
     return code;
 }
@@ -123,7 +124,7 @@ static int try_implicit(const char *call, bool puts, bool gets) {
 static void wait_implicit(const char *call, bool puts, bool gets) {
     struct gasnetl_job *job = enter_implicit(call);
     unsigned turn = 0;
-    while (is_open(puts, gets))
+    while (are_under_way(puts, gets))
         gasnetl_wait(job, &turn);
     gasnetl_leave(job);
 }

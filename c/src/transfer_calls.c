@@ -58,13 +58,13 @@ static void move_now(const struct gasnetl_asked *asked) {
     struct gasnetl_op op = { 0 };
     unsigned turn = 0;
     gasnetl_begin(job, &op, asked);
-    while (op.open)
+    while (!gasnetl_op_is_complete(&op))
         gasnetl_wait(job, &turn);
     gasnetl_leave(job);
 }
 
 struct gasnetl_op *gasnetl_settled(struct gasnetl_job *job, struct gasnetl_op *op) {
-    if (op->open)
+    if (!gasnetl_op_is_complete(op))
         return op;
     gasnetl_op_free(&job->transfers.ops, op);
     return GASNET_INVALID_HANDLE;
@@ -217,7 +217,7 @@ gasnet_register_value_t gasnet_wait_syncnb_valget(gasnet_valget_handle_t handle)
     unsigned turn = 0;
     if (!handle)
         gasnetl_stop(GASNETL_MISUSE, "gasnet_wait_syncnb_valget: there is no handle");
-    while (handle->open)
+    while (!gasnetl_op_is_complete(handle))
         gasnetl_wait(job, &turn);
     gasnet_register_value_t value = handle->value;
     gasnetl_op_free(&job->transfers.ops, handle);

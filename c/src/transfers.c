@@ -8,6 +8,8 @@
 
 enum { BLOCK = 64 }; /* operations, or transfers, that are allocated at once */
 
+_Static_assert(GASNET_C_MAX_CREDITS <= 32, "a piece has a bit for each slot");
+
 /* ---- Operations. */
 
 void gasnetl_op_free(struct gasnetl_ops *ops, struct gasnetl_op *op) {
@@ -20,7 +22,7 @@ static void free_left_ops(struct gasnetl_ops *ops) {
     struct gasnetl_op **at = &ops->left;
     while (*at) {
         struct gasnetl_op *op = *at;
-        if (op->open) {
+        if (!gasnetl_op_is_complete(op)) {
             at = &op->next;
             continue;
         }
@@ -43,7 +45,7 @@ struct gasnetl_op *gasnetl_op_new(struct gasnetl_ops *ops) {
     }
     struct gasnetl_op *op = ops->free;
     ops->free = op->next;
-    op->open = 0;
+    op->parts = NULL;
     return op;
 }
 
@@ -55,68 +57,34 @@ void gasnetl_op_leave(struct gasnetl_ops *ops, struct gasnetl_op *op) {
     free_left_ops(ops);
 }
 
-/* ---- Batches of the endpoint's operations. */
+/* ---- Places for pieces. */
 
-static void batch_sync(struct gasnetl_job *job, struct gasnetl_batch *batch) {
-    gasnet_c_told told = gasnet_c_sync(&job->node, job->progress.time, batch->handle);
-    if (told.code != GASNET_C_OK)
-        gasnetl_stop(GASNETL_BROKEN, "transfers that are complete were answered %u", told.code);
-    batch->state = GASNETL_BATCH_FREE;
+/* Whether a peer gets one more: one of its own, or of the common ones, of which more have to be free than it has. */
+static bool has_room(const struct gasnetl_transfers *all, const struct gasnetl_lane *lane) {
+    return lane->begun < all->own + all->common;
 }
 
-static void batch_end(struct gasnetl_job *job, struct gasnetl_batch *batch) {
-    gasnet_c_told told = gasnet_c_region(&job->node, job->progress.time, true);
-    if (told.code != GASNET_C_HANDLE)
-        gasnetl_stop(GASNETL_BROKEN, "the end of a region was answered %u", told.code);
-    batch->handle = told.value;
-    batch->state = GASNETL_BATCH_ENDED;
-    if (!batch->open)
-        batch_sync(job, batch);
+static uint16_t take_place(struct gasnetl_transfers *all, struct gasnetl_lane *lane) {
+    uint16_t index = all->free;
+    all->free = all->pieces[index].next;
+    if (lane->begun++ >= all->own)
+        all->common--;
+    return index;
 }
 
-static bool batch_begin(struct gasnetl_job *job) {
-    struct gasnetl_transfers *all = &job->transfers;
-    for (unsigned i = 0; i < GASNETL_BATCHES; i++) {
-        struct gasnetl_batch *batch = &all->batches[i];
-        if (batch->state != GASNETL_BATCH_FREE)
-            continue;
-        gasnet_c_told told = gasnet_c_region(&job->node, job->progress.time, false);
-        if (told.code != GASNET_C_DONE)
-            gasnetl_stop(GASNETL_BROKEN, "the beginning of a region was answered %u", told.code);
-        *batch = (struct gasnetl_batch){ .state = GASNETL_BATCH_FILLING };
-        all->batch = i;
-        return true;
-    }
-    return false;
-}
-
-/* Whether the endpoint takes one more operation. */
-static bool has_room(struct gasnetl_job *job) {
-    struct gasnetl_transfers *all = &job->transfers;
-    struct gasnetl_batch *batch = &all->batches[all->batch];
-    if (all->free_piece == GASNETL_NONE)
-        return false;
-    if (batch->state == GASNETL_BATCH_FILLING && batch->begun < GASNETL_BATCH)
-        return true;
-    if (batch->state == GASNETL_BATCH_FILLING)
-        batch_end(job, batch);
-    return batch_begin(job);
+static void give_place(struct gasnetl_transfers *all, uint16_t index) {
+    struct gasnetl_piece *piece = &all->pieces[index];
+    if (--all->lanes[piece->to].begun >= all->own)
+        all->common++;
+    piece->handle = 0;
+    piece->next = all->free;
+    all->free = index;
 }
 
 /* ---- Pieces. */
 
 bool gasnetl_has_chunk(const struct gasnetl_transfers *transfers, uint16_t to) {
-    return transfers->lanes[to].first != GASNETL_NONE;
-}
-
-static void enter_lane(struct gasnetl_transfers *all, uint16_t to, uint16_t index) {
-    struct gasnetl_lane *lane = &all->lanes[to];
-    all->pieces[index].next = GASNETL_NONE;
-    if (lane->first == GASNETL_NONE)
-        lane->first = index;
-    else
-        all->pieces[lane->last].next = index;
-    lane->last = index;
+    return transfers->lanes[to].sending != GASNETL_NONE;
 }
 
 /* How many bytes the next piece to a node has at most: a chunk that fits the way, or two of the longest. */
@@ -125,39 +93,43 @@ static uint32_t piece_to(const struct gasnetl_job *job, uint16_t to) {
     return chunk < GASNET_C_PAYLOAD ? chunk : GASNETL_PIECE;
 }
 
-/* Begins the first piece of what is left of a transfer, which becomes shorter. There is room for it. */
-static void begin_piece(struct gasnetl_job *job, struct gasnetl_move *rest, struct gasnetl_op *op,
-                        struct gasnetl_transfer *transfer) {
+/* Whether the next piece to a node may begin: the one before is sent, and there is room in the window, and a place. */
+static bool may_begin(const struct gasnetl_job *job, uint16_t to) {
+    const struct gasnetl_lane *lane = &job->transfers.lanes[to];
+    return lane->sending == GASNETL_NONE && gasnetl_recovery_may_send(job, to, GASNETL_BY_LIBRARY, 0) &&
+           has_room(&job->transfers, lane);
+}
+
+static uint64_t stage_of(const struct gasnetl_job *job, uint16_t index) {
+    return job->segment.stage + (uint64_t)index * GASNETL_PIECE;
+}
+
+/* Begins the first piece of what is left of a transfer, which becomes shorter. It may begin. */
+static void begin_piece(struct gasnetl_job *job, struct gasnetl_move *rest, struct gasnetl_op *op) {
     struct gasnetl_transfers *all = &job->transfers;
-    uint16_t index = all->free_piece;
+    struct gasnetl_lane *lane = &all->lanes[rest->node];
+    uint16_t index = take_place(all, lane);
     struct gasnetl_piece *piece = &all->pieces[index];
     uint32_t most = piece_to(job, rest->node), nbytes = rest->nbytes < most ? (uint32_t)rest->nbytes : most;
-    uint64_t local = rest->direct ? (uint64_t)(rest->near - job->segment.base)
-                                  : job->segment.stage + (uint64_t)index * GASNETL_PIECE;
     gasnet_c_move move = { .remote = rest->remote,
-                           .local = local,
+                           .local = rest->direct ? (uint64_t)(rest->near - job->segment.base) : stage_of(job, index),
                            .len = nbytes,
                            .kind = rest->kind,
                            .to = rest->node,
-                           .byte = rest->byte,
-                           .implicit = true };
+                           .byte = rest->byte };
     if (rest->kind == GASNETL_PUT && !rest->direct)
-        memcpy(job->segment.base + local, rest->near, nbytes);
+        memcpy(job->segment.base + move.local, rest->near, nbytes);
     gasnet_c_told told = gasnet_c_begin(&job->node, job->progress.time, &move);
     if (told.code != GASNET_C_HANDLE)
         gasnetl_stop(GASNETL_BROKEN, "a transfer was answered %u", told.code);
-    all->free_piece = piece->next;
-    piece->op = op;
-    piece->transfer = transfer;
+    piece->handle = told.value;
     piece->out = rest->kind == GASNETL_GET && !rest->direct ? rest->near : NULL;
     piece->nbytes = nbytes;
-    piece->unissued = piece->open = (uint16_t)((nbytes + GASNET_C_PAYLOAD - 1) / GASNET_C_PAYLOAD);
-    piece->batch = (uint16_t)all->batch;
-    all->batches[all->batch].begun++;
-    all->batches[all->batch].open++;
-    op->open++;
-    all->lanes[rest->node].unsent += piece->unissued;
-    enter_lane(all, rest->node, index);
+    piece->slots = 0;
+    piece->to = rest->node;
+    gasnetl_part_add(op, &piece->part);
+    lane->sending = index;
+    lane->unsent = (uint16_t)((nbytes + GASNET_C_PAYLOAD - 1) / GASNET_C_PAYLOAD);
     rest->remote += nbytes;
     rest->nbytes -= nbytes;
     if (rest->near)
@@ -166,32 +138,30 @@ static void begin_piece(struct gasnetl_job *job, struct gasnetl_move *rest, stru
 
 void gasnetl_chunk_out(struct gasnetl_job *job, uint16_t to, uint16_t slot) {
     struct gasnetl_lane *lane = &job->transfers.lanes[to];
-    uint16_t index = lane->first;
-    if (index == GASNETL_NONE)
-        gasnetl_stop(GASNETL_BROKEN, "a chunk to node %u is nobody's", to);
-    struct gasnetl_piece *piece = &job->transfers.pieces[index];
-    lane->owner[slot] = index;
-    lane->unsent--;
-    if (!--piece->unissued)
-        lane->first = piece->next;
+    if (lane->sending == GASNETL_NONE)
+        return;
+    lane->hints[slot] = lane->sending;
+    job->transfers.pieces[lane->sending].slots |= (uint32_t)1 << slot;
+    if (!--lane->unsent)
+        lane->sending = GASNETL_NONE;
 }
 
 /* ---- The queues of transfers. */
 
 static struct gasnetl_transfer *transfer_new(struct gasnetl_transfers *all) {
-    if (!all->free) {
+    if (!all->spare) {
         struct gasnetl_transfer *block = calloc(BLOCK, sizeof *block);
         if (!block)
             gasnetl_stop(GASNETL_BROKEN, "there is no memory for another transfer");
         block[0].block = all->blocks;
         all->blocks = block;
         for (int i = 0; i < BLOCK; i++) {
-            block[i].next = all->free;
-            all->free = &block[i];
+            block[i].next = all->spare;
+            all->spare = &block[i];
         }
     }
-    struct gasnetl_transfer *transfer = all->free;
-    all->free = transfer->next;
+    struct gasnetl_transfer *transfer = all->spare;
+    all->spare = transfer->next;
     return transfer;
 }
 
@@ -204,107 +174,125 @@ static void enqueue(struct gasnetl_lane *lane, struct gasnetl_transfer *transfer
     lane->queue_end = transfer;
 }
 
-/* The transfer at the front of a lane has begun a piece: the next one has its turn. */
-static void rotate(struct gasnetl_lane *lane) {
-    struct gasnetl_transfer *transfer = lane->queue;
-    lane->queue = transfer->next;
-    if (transfer->rest.nbytes)
-        enqueue(lane, transfer);
-}
-
-/* A transfer is told that it is begun as a whole, or that all of it is complete. */
-static void transfer_settle(struct gasnetl_transfers *all, struct gasnetl_transfer *transfer) {
-    if (transfer->rest.nbytes)
-        return;
+/* All of a transfer is begun: its pieces are the parts of its operation. */
+static void transfer_begun(struct gasnetl_transfers *all, struct gasnetl_transfer *transfer) {
+    gasnetl_part_take_out(&transfer->part);
     if (transfer->begun)
         *transfer->begun = true;
-    transfer->begun = NULL;
-    if (transfer->open)
-        return;
-    transfer->op->open--;
-    transfer->next = all->free;
-    all->free = transfer;
+    transfer->next = all->spare;
+    all->spare = transfer;
 }
 
-/* A lane waits for a piece, behind those that do. */
-static void wait_for_piece(struct gasnetl_transfers *all, uint16_t to) {
-    struct gasnetl_lane *lane = &all->lanes[to];
-    if (lane->waits)
-        return;
-    lane->waits = true;
-    lane->next = GASNETL_NONE;
-    if (all->waiting == GASNETL_NONE)
-        all->waiting = to;
-    else
-        all->lanes[all->waiting_end].next = to;
-    all->waiting_end = to;
-}
-
+/* Begins a piece of the first transfer to a node. Then the next one has its turn. */
 static void begin_next(struct gasnetl_job *job, uint16_t to) {
     struct gasnetl_lane *lane = &job->transfers.lanes[to];
     struct gasnetl_transfer *transfer = lane->queue;
-    begin_piece(job, &transfer->rest, transfer->op, transfer);
-    transfer->open++;
-    rotate(lane);
-    transfer_settle(&job->transfers, transfer);
+    begin_piece(job, &transfer->rest, transfer->op);
+    lane->queue = transfer->next;
+    if (transfer->rest.nbytes)
+        enqueue(lane, transfer);
+    else
+        transfer_begun(&job->transfers, transfer);
 }
 
+/* A lane that finds no place has pieces under way: it is fed again as one of them is complete. */
 void gasnetl_transfers_feed(struct gasnetl_job *job, uint16_t to) {
-    struct gasnetl_lane *lane = &job->transfers.lanes[to];
-    while (lane->queue && gasnetl_recovery_may_send(job, to, GASNETL_BY_LIBRARY, lane->unsent)) {
-        if (!has_room(job)) {
-            wait_for_piece(&job->transfers, to);
-            return;
-        }
+    while (job->transfers.lanes[to].queue && may_begin(job, to)) {
         begin_next(job, to);
         gasnetl_send_chunks(job, to);
     }
 }
 
-/* A piece is free: the lanes that wait take it in order, as their windows let them. */
-static void feed_waiting(struct gasnetl_job *job) {
-    struct gasnetl_transfers *all = &job->transfers;
-    while (all->waiting != GASNETL_NONE && has_room(job)) {
-        uint16_t to = all->waiting;
-        all->waiting = all->lanes[to].next;
-        all->lanes[to].waits = false;
-        gasnetl_transfers_feed(job, to);
-    }
+/* ---- What is complete. */
+
+/* The endpoint answered that a piece is complete. */
+static void complete(struct gasnetl_job *job, uint16_t index) {
+    struct gasnetl_piece *piece = &job->transfers.pieces[index];
+    if (piece->out)
+        memcpy(piece->out, job->segment.base + stage_of(job, index), piece->nbytes);
+    gasnetl_part_take_out(&piece->part);
+    give_place(&job->transfers, index);
 }
 
-static void piece_complete(struct gasnetl_job *job, uint16_t index) {
-    struct gasnetl_transfers *all = &job->transfers;
+/* Asks the endpoint whether a piece is complete. */
+static bool ask(struct gasnetl_job *job, uint16_t index) {
+    const struct gasnetl_piece *piece = &job->transfers.pieces[index];
+    gasnet_c_told told = gasnet_c_sync(&job->node, job->progress.time, piece->handle);
+    if (told.code == GASNET_C_OK)
+        complete(job, index);
+    else if (told.code != GASNET_C_NOT_READY)
+        gasnetl_stop(GASNETL_BROKEN, "the sync of a transfer with node %u was answered %u", piece->to, told.code);
+    return told.code == GASNET_C_OK;
+}
+
+/* Whether all chunks of a piece seem to be back, and it isn't to be asked about again anyway. */
+static bool seems_complete(const struct gasnetl_transfers *all, uint16_t index) {
+    const struct gasnetl_piece *piece = &all->pieces[index];
+    return piece->handle && !piece->slots && !piece->asks_again && all->lanes[piece->to].sending != index;
+}
+
+/* A piece isn't complete. If no chunk of it says when it may be, it is to be asked about again. */
+static void ask_later(struct gasnetl_transfers *all, uint16_t index) {
     struct gasnetl_piece *piece = &all->pieces[index];
-    struct gasnetl_batch *batch = &all->batches[piece->batch];
-    struct gasnetl_transfer *transfer = piece->transfer;
-    if (piece->out)
-        memcpy(piece->out, job->segment.base + job->segment.stage + (uint64_t)index * GASNETL_PIECE, piece->nbytes);
-    piece->op->open--;
-    piece->next = all->free_piece;
-    all->free_piece = index;
-    if (!--batch->open && batch->state == GASNETL_BATCH_ENDED)
-        batch_sync(job, batch);
-    if (transfer) {
-        transfer->open--;
-        transfer_settle(all, transfer);
-    }
-    feed_waiting(job);
+    if (!seems_complete(all, index))
+        return;
+    piece->asks_again = true;
+    piece->next = all->asks_again;
+    all->asks_again = index;
 }
 
 void gasnetl_chunk_back(struct gasnetl_job *job, uint16_t to, uint16_t slot) {
-    uint16_t *owner = &job->transfers.lanes[to].owner[slot], index = *owner;
+    struct gasnetl_lane *lane = &job->transfers.lanes[to];
+    uint16_t index = lane->hints[slot];
     if (index == GASNETL_NONE)
         return;
-    *owner = GASNETL_NONE;
-    if (!--job->transfers.pieces[index].open)
-        piece_complete(job, index);
+    lane->hints[slot] = GASNETL_NONE;
+    job->transfers.pieces[index].slots &= ~((uint32_t)1 << slot);
+    if (seems_complete(&job->transfers, index) && !ask(job, index))
+        ask_later(&job->transfers, index);
 }
 
+/* Asks about a piece, which is in no list, and begins others where it is complete. */
+static bool ask_and_feed(struct gasnetl_job *job, uint16_t index) {
+    if (ask(job, index)) {
+        gasnetl_transfers_feed(job, job->transfers.pieces[index].to);
+        return true;
+    }
+    ask_later(&job->transfers, index);
+    return false;
+}
+
+bool gasnetl_transfers_ask_again(struct gasnetl_job *job) {
+    struct gasnetl_transfers *all = &job->transfers;
+    uint16_t index = all->asks_again;
+    bool has_completed = false;
+    all->asks_again = GASNETL_NONE;
+    while (index != GASNETL_NONE) {
+        struct gasnetl_piece *piece = &all->pieces[index];
+        uint16_t next = piece->next;
+        piece->asks_again = false;
+        if (ask_and_feed(job, index))
+            has_completed = true;
+        index = next;
+    }
+    return has_completed;
+}
+
+bool gasnetl_transfers_ask_all(struct gasnetl_job *job) {
+    struct gasnetl_transfers *all = &job->transfers;
+    bool has_completed = gasnetl_transfers_ask_again(job);
+    for (uint16_t index = 0; index < GASNETL_PIECES; index++)
+        if (all->pieces[index].handle && !all->pieces[index].asks_again && ask_and_feed(job, index))
+            has_completed = true;
+    return has_completed;
+}
+
+/* ---- The beginning. */
+
 /* Whether a transfer is one piece, which may go now. */
-static bool goes_at_once(struct gasnetl_job *job, const struct gasnetl_move *move) {
-    const struct gasnetl_lane *lane = &job->transfers.lanes[move->node];
-    return !lane->queue && move->nbytes <= piece_to(job, move->node) &&
-           gasnetl_recovery_may_send(job, move->node, GASNETL_BY_LIBRARY, lane->unsent) && has_room(job);
+static bool goes_at_once(const struct gasnetl_job *job, const struct gasnetl_move *move) {
+    return !job->transfers.lanes[move->node].queue && move->nbytes <= piece_to(job, move->node) &&
+           may_begin(job, move->node);
 }
 
 void gasnetl_transfer(struct gasnetl_job *job, struct gasnetl_op *op, const struct gasnetl_move *move, bool *begun) {
@@ -312,7 +300,7 @@ void gasnetl_transfer(struct gasnetl_job *job, struct gasnetl_op *op, const stru
     gasnetl_read_clock(job);
     if (goes_at_once(job, move)) {
         struct gasnetl_move rest = *move;
-        begin_piece(job, &rest, op, NULL);
+        begin_piece(job, &rest, op);
         if (begun)
             *begun = true;
         gasnetl_send_chunks(job, move->node);
@@ -320,21 +308,21 @@ void gasnetl_transfer(struct gasnetl_job *job, struct gasnetl_op *op, const stru
     }
     struct gasnetl_transfer *transfer = transfer_new(all);
     *transfer = (struct gasnetl_transfer){ .rest = *move, .op = op, .begun = begun, .block = transfer->block };
-    op->open++;
+    gasnetl_part_add(op, &transfer->part);
     enqueue(&all->lanes[move->node], transfer);
     gasnetl_transfers_feed(job, move->node);
 }
 
-/* ---- The beginning. */
-
-void gasnetl_transfers_start(struct gasnetl_transfers *transfers) {
+void gasnetl_transfers_start(struct gasnetl_transfers *transfers, gasnet_node_t nodes) {
+    unsigned peers = nodes > 1 ? nodes - 1u : 1;
     memset(transfers, 0, sizeof *transfers);
+    transfers->own = (uint16_t)(GASNETL_PIECES / 2 / peers);
+    transfers->common = (uint16_t)(GASNETL_PIECES - transfers->own * peers);
+    transfers->asks_again = GASNETL_NONE;
     for (uint16_t i = 0; i < GASNETL_PIECES; i++)
         transfers->pieces[i].next = i + 1 < GASNETL_PIECES ? (uint16_t)(i + 1) : GASNETL_NONE;
     for (uint16_t node = 0; node < GASNET_MAXNODES; node++) {
-        struct gasnetl_lane *lane = &transfers->lanes[node];
-        lane->first = lane->last = GASNETL_NONE;
-        memset(lane->owner, 0xff, sizeof lane->owner);
+        transfers->lanes[node].sending = GASNETL_NONE;
+        memset(transfers->lanes[node].hints, 0xff, sizeof transfers->lanes[node].hints);
     }
-    transfers->waiting = GASNETL_NONE;
 }

@@ -1,18 +1,17 @@
 /* Puts, gets and memsets to other nodes.
  *
- * A transfer is cut into pieces, and each piece is begun as one operation of the endpoint, which sends it in chunks.
+ * A transfer is cut into pieces, and each piece is begun as one explicit operation of the endpoint, which sends it in
+ * chunks. What the client begins is complete where the endpoint's own sync answered GASNET_C_OK for each of its pieces
+ * (operations.h): what the layer knows of chunks says when it is worth to ask that, and nothing else.
+ *
  * The endpoint moves bytes between segments alone. So a piece whose near side isn't in the client's part of the local
  * segment has a place behind that part, the stage: a put is copied there as it begins, a get is copied out as it is
  * complete.
  *
- * A piece is begun where the window of its node has room for its chunks, so that they are sent at once, and what goes
- * to one node doesn't wait for another one. Where the way has packets of less than a whole chunk a piece is as long as
- * one packet takes.
- *
- * The endpoint's tick names the node and the slot of each chunk that it sends, and a delivery those of each that is
- * back. As chunks to a node go in the order in which its pieces began, the layer knows of each chunk whose it is, and
- * of each piece when it is complete, without a search. To the endpoint the pieces are synchronised by whole batches,
- * each an access region of it: its answer has to be that they are complete. */
+ * A piece is begun where the window of its node has room, so that its chunks are sent at once, and what goes to one
+ * node doesn't wait for another one. Where the way has packets of less than a whole chunk a piece is as long as one
+ * packet takes. The places of pieces are shared: each peer has some of its own, and of the others at most as many as
+ * are free beside. So whatever one peer leaves unanswered, the others go on. */
 #ifndef GASNETL_TRANSFERS_H
 #define GASNETL_TRANSFERS_H
 
@@ -30,8 +29,6 @@ enum {
     GASNETL_PIECE = 2 * GASNET_C_PAYLOAD, /* the bytes of a piece at most */
     GASNETL_PIECES = GASNET_C_OPERATIONS,
     GASNETL_STAGE = GASNETL_PIECE * GASNETL_PIECES,
-    GASNETL_BATCHES = 4,
-    GASNETL_BATCH = GASNETL_PIECES / GASNETL_BATCHES,
     GASNETL_NONE = 0xffff
 };
 
@@ -48,57 +45,50 @@ struct gasnetl_move {
     size_t nbytes;
 };
 
-/* A transfer that isn't begun as a whole yet, or whose pieces aren't complete. */
+/* A transfer that isn't begun as a whole yet. */
 struct gasnetl_transfer {
+    struct gasnetl_part part;
     struct gasnetl_move rest; /* what isn't begun */
     struct gasnetl_op *op;
-    unsigned open;                  /* its pieces that aren't complete */
     bool *begun;                    /* set as the whole is begun; or NULL */
     struct gasnetl_transfer *next;  /* in the lane's queue, or in the list of free ones */
     struct gasnetl_transfer *block; /* in the list of blocks */
 };
 
+/* A place for an operation of the endpoint, with its part of the stage. */
 struct gasnetl_piece {
-    struct gasnetl_op *op;
-    struct gasnetl_transfer *transfer; /* or NULL, where the piece is the whole of it */
-    uint8_t *out;                      /* where a staged get is copied to; else NULL */
+    struct gasnetl_part part;
+    uint64_t handle; /* the endpoint's; 0 where the place is free */
+    uint8_t *out;    /* where a staged get is copied to; else NULL */
     uint32_t nbytes;
-    uint16_t unissued, open; /* its chunks that aren't sent; those that aren't back */
-    uint16_t next;           /* among those to its node with chunks to send, or among the free ones */
-    uint16_t batch;
+    uint32_t slots; /* a hint: in which slots its chunks are on the way, a bit for each */
+    uint16_t to;
+    uint16_t next;   /* among the free ones, or among those to ask about again */
+    bool asks_again; /* it is among the latter */
 };
 
-enum gasnetl_batch_state { GASNETL_BATCH_FREE, GASNETL_BATCH_FILLING, GASNETL_BATCH_ENDED };
-
-struct gasnetl_batch {
-    enum gasnetl_batch_state state;
-    uint64_t handle;      /* of its access region, once it is ended */
-    unsigned begun, open; /* its pieces; those that aren't complete */
-};
-
-/* Of a node: its transfers that aren't begun as a whole, its pieces with chunks to send, in order, and whose chunk is
- * in which slot. */
+/* Of a node: its transfers that aren't begun as a whole, and its pieces. */
 struct gasnetl_lane {
     struct gasnetl_transfer *queue, *queue_end;
-    uint16_t first, last;
-    unsigned unsent; /* the chunks of those pieces */
-    bool waits;      /* for a piece */
-    uint16_t next;   /* the next lane that does, or GASNETL_NONE */
-    uint16_t owner[GASNET_C_MAX_CREDITS];
+    uint16_t begun;                       /* how many places its pieces have */
+    uint16_t sending;                     /* the piece that began last, while it has chunks to send, or GASNETL_NONE */
+    uint16_t unsent;                      /* the ticks that send these */
+    uint16_t hints[GASNET_C_MAX_CREDITS]; /* whose chunk went in which slot: the piece to ask about as it is back */
 };
 
 struct gasnetl_transfers {
     struct gasnetl_piece pieces[GASNETL_PIECES];
-    uint16_t free_piece;
-    struct gasnetl_batch batches[GASNETL_BATCHES];
-    unsigned batch; /* the one that is filled */
+    uint16_t free;       /* the first free place */
+    uint16_t own;        /* how many places each peer has of its own */
+    uint16_t common;     /* how many of the others are free */
+    uint16_t asks_again; /* the pieces of which all chunks seem to be back, and the endpoint says otherwise */
     struct gasnetl_lane lanes[GASNET_MAXNODES];
-    uint16_t waiting, waiting_end; /* the lanes that wait for a piece, in order, or GASNETL_NONE */
-    struct gasnetl_transfer *free, *blocks;
+    struct gasnetl_transfer *spare, *blocks;
     struct gasnetl_ops ops;
 };
 
-void gasnetl_transfers_start(struct gasnetl_transfers *transfers);
+/* Makes ready for a job of so many nodes. */
+void gasnetl_transfers_start(struct gasnetl_transfers *transfers, gasnet_node_t nodes);
 
 /* Whether some piece to this node has a chunk to send. */
 bool gasnetl_has_chunk(const struct gasnetl_transfers *transfers, uint16_t to);
@@ -109,12 +99,19 @@ void gasnetl_chunk_out(struct gasnetl_job *job, uint16_t to, uint16_t slot);
 /* Begins pieces of the transfers to this node, and sends their chunks, as its window lets them. */
 void gasnetl_transfers_feed(struct gasnetl_job *job, uint16_t to);
 
-/* The request in this slot is back: a chunk's, or another's. */
+/* The request in this slot is back: a chunk's, or another's. With its last chunk the endpoint is asked whether a piece
+ * is complete. */
 void gasnetl_chunk_back(struct gasnetl_job *job, uint16_t to, uint16_t slot);
 
-/* Begins a transfer to another node for an operation, which is open until it is complete. It doesn't wait: what can't
- * be begun yet is queued, and `begun`, where it isn't NULL, is set as soon as nothing of it is. Before that the near
- * side of a put that isn't direct has to stay as it is. */
+/* Asks the endpoint again about the pieces that seemed to be complete and weren't. Whether one of them is. */
+bool gasnetl_transfers_ask_again(struct gasnetl_job *job);
+
+/* Asks it about each piece, whatever is known of its chunks. Whether one of them is complete. */
+bool gasnetl_transfers_ask_all(struct gasnetl_job *job);
+
+/* Begins a transfer to another node for an operation, of which it is a part until it is complete. It doesn't wait: what
+ * can't be begun yet is queued, and `begun`, where it isn't NULL, is set as soon as nothing of it is. Before that the
+ * near side of a put that isn't direct has to stay as it is. */
 void gasnetl_transfer(struct gasnetl_job *job, struct gasnetl_op *op, const struct gasnetl_move *move, bool *begun);
 
 #endif

@@ -74,6 +74,23 @@ for build in out out/sanitized; do
     done
 done
 
+# Calls wait for what the endpoint answers, also where the layer is told of chunks twice, or never.
+for build in out out/sanitized; do
+    kind=${build#out}
+    kind=${kind:+ sanitized}
+    for loss in $losses; do
+        for way in answers hints; do
+            check "syncs $way loss=$loss$kind" 0 "" env GASNET_DROP="$loss" GASNET_TWICE="$loss" GASNET_SWAP="$loss" \
+                GASNET_RESEND=5 bin/gasnetrun -n 2 "$build/tests/syncs" "$way"
+        done
+    done
+    check "syncs in small packets$kind" 0 "" env GASNET_MTU=1500 bin/gasnetrun -n 2 $build/tests/syncs hints
+    check "syncs asleep$kind" 0 "" env GASNET_SPIN=1 bin/gasnetrun -n 3 $build/tests/syncs hints
+    for n in 3 8; do
+        check "shares n=$n$kind" 0 "" env GASNET_PROGRESS=poll bin/gasnetrun -n $n $build/tests/shares
+    done
+done
+
 # Three nodes, and a thousand mixed collectives among four over a lossy network.
 for build in out out/sanitized; do
     kind=${build#out}
