@@ -50,7 +50,7 @@ PUT = Way(
         Step(0, ("transfer_calls.c", "gasnet_put_nb", "judges the range, and makes an operation")),
         Step(0, ("transfers.c", "gasnetl_transfer", "cuts it into pieces of 16 KiB at most"), [
             ("transfers.c", "begin_piece", "copies its bytes behind the client's segment"),
-            ("gasnet_c", "gasnet_c_begin", "an export: an implicit put of the piece"),
+            ("gasnet_c", "gasnet_c_begin", "an export: an explicit put of the piece"),
             ("part_transfers", "begin", "its record, none of whose chunks was issued"),
         ]),
         Step(0, ("progress.c", "gasnetl_send_chunks", "while node 1 has a credit left, for each chunk:"), [
@@ -58,7 +58,7 @@ PUT = Way(
             ("part_transfers", "next", "the next chunk: 8,192 bytes at most"),
             ("node_core", "ask", "claims a slot; reads the segment; writes the datagram"),
             ("part_transfers", "note", "the chunk's slot and number"),
-            ("transfers.c", "gasnetl_chunk_out", "the piece whose chunk has that slot"),
+            ("transfers.c", "gasnetl_chunk_out", "a hint: whose chunk has that slot"),
         ]),
         Step(0, ("network.c", "gasnetl_network_send", "the socket")),
         Step(1, ("progress.c", "gasnetl_poll", "in any call of node 1 that polls"), [
@@ -68,12 +68,13 @@ PUT = Way(
             ("part_window", "seal", "the slot keeps the Ack"),
         ]),
         Step(1, ("network.c", "gasnetl_network_send", "the Ack goes")),
-        Step(0, ("syncs.c", "gasnet_wait_syncnb", "polls until no piece of the operation is open"), [
+        Step(0, ("syncs.c", "gasnet_wait_syncnb", "polls until each piece of the operation is complete"), [
             ("gasnet_c", "gasnet_c_deliver", "the Ack comes"),
             ("part_window", "take_back", "the slot and its credit are free"),
             ("part_transfers", "back", "the chunk is back: so it was written exactly once"),
-            ("transfers.c", "gasnetl_chunk_back", "with its last chunk the piece is complete"),
-            ("syncs.c", "sync_one", "with the last piece the operation is, and the call returns"),
+            ("transfers.c", "gasnetl_chunk_back", "with its last chunk the endpoint is asked"),
+            ("gasnet_c", "gasnet_c_sync", "an export: the put is complete, and answered Ok"),
+            ("syncs.c", "sync_one", "behind the last Ok the call returns"),
         ]),
     ],
     [
