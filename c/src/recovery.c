@@ -16,7 +16,8 @@ enum {
     UNHARMED = 128,      /* answers without a loss, behind which a chunk is doubled, at first */
     PUT_OFF = 8,         /* times as many, once a chunk that was doubled is lost; up to MOST_UNHARMED */
     MOST_UNHARMED = 1 << 16,
-    CHUNK_DOUBLINGS = 4 /* from 512 bytes to GASNET_C_PAYLOAD */
+    CHUNK_DOUBLINGS = 4, /* from 512 bytes to GASNET_C_PAYLOAD */
+    PARTS = 4            /* of a window, of which one may be an operation of the endpoint */
 };
 
 /* ---- Transmissions in order. */
@@ -151,6 +152,11 @@ bool gasnetl_recovery_may_send(const struct gasnetl_job *job, uint16_t to, enum 
                                unsigned waiting) {
     const struct gasnetl_path *path = &job->recovery.paths[to];
     return !path->lost.count && path->flights[server].sequence.count + waiting < path->window.size;
+}
+
+unsigned gasnetl_recovery_together(const struct gasnetl_job *job, uint16_t to) {
+    unsigned part = job->recovery.paths[to].window.size / PARTS;
+    return part ? part : 1;
 }
 
 /* The request in the slot goes, for the first time or again. */

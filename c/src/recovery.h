@@ -87,6 +87,10 @@ uint32_t gasnetl_recovery_chunk(const struct gasnetl_job *job, uint16_t to);
 bool gasnetl_recovery_may_send(const struct gasnetl_job *job, uint16_t to, enum gasnetl_server server,
                                unsigned waiting);
 
+/* How many chunks to a peer may be one operation of the endpoint: a part of the window, so that others are on the way
+ * while they wait for each other. */
+unsigned gasnetl_recovery_together(const struct gasnetl_job *job, uint16_t to);
+
 /* The request in this slot was sent for the first time. */
 void gasnetl_recovery_sent(struct gasnetl_job *job, uint16_t to, uint16_t slot, enum gasnetl_server server);
 

@@ -87,16 +87,23 @@ bool gasnetl_has_chunk(const struct gasnetl_transfers *transfers, uint16_t to) {
     return transfers->lanes[to].sending != GASNETL_NONE;
 }
 
-/* How many bytes the next piece to a node has at most: a chunk that fits the way, or two of the longest. */
-static uint32_t piece_to(const struct gasnetl_job *job, uint16_t to) {
-    uint32_t chunk = gasnetl_recovery_chunk(job, to);
-    return chunk < GASNET_C_PAYLOAD ? chunk : GASNETL_PIECE;
+static unsigned chunks_of(size_t nbytes) { return (unsigned)((nbytes + GASNET_C_PAYLOAD - 1) / GASNET_C_PAYLOAD); }
+
+/* How many bytes the next piece has: a chunk that fits the way, or several of the longest. */
+static size_t piece_of(const struct gasnetl_job *job, const struct gasnetl_move *rest) {
+    size_t most = gasnetl_recovery_chunk(job, rest->node);
+    if (most == GASNET_C_PAYLOAD && rest->nbytes > GASNET_C_PAYLOAD)
+        most *= gasnetl_recovery_together(job, rest->node);
+    if (most > GASNETL_PIECE)
+        most = GASNETL_PIECE;
+    return rest->nbytes < most ? rest->nbytes : most;
 }
 
-/* Whether the next piece to a node may begin: the one before is sent, and there is room in the window, and a place. */
-static bool may_begin(const struct gasnetl_job *job, uint16_t to) {
-    const struct gasnetl_lane *lane = &job->transfers.lanes[to];
-    return lane->sending == GASNETL_NONE && gasnetl_recovery_may_send(job, to, GASNETL_BY_LIBRARY, 0) &&
+/* Whether the next piece may begin: the one before is sent, and there is room in the window, and a place. */
+static bool may_begin(const struct gasnetl_job *job, const struct gasnetl_move *rest, size_t nbytes) {
+    const struct gasnetl_lane *lane = &job->transfers.lanes[rest->node];
+    return lane->sending == GASNETL_NONE &&
+           gasnetl_recovery_may_send(job, rest->node, GASNETL_BY_LIBRARY, chunks_of(nbytes) - 1) &&
            has_room(&job->transfers, lane);
 }
 
@@ -106,11 +113,11 @@ static uint64_t stage_of(const struct gasnetl_job *job, uint16_t index) {
 
 /* Begins the first piece of what is left of a transfer, which becomes shorter. It may begin. */
 static void begin_piece(struct gasnetl_job *job, struct gasnetl_move *rest, struct gasnetl_op *op) {
+    const size_t nbytes = piece_of(job, rest);
     struct gasnetl_transfers *all = &job->transfers;
     struct gasnetl_lane *lane = &all->lanes[rest->node];
     uint16_t index = take_place(all, lane);
     struct gasnetl_piece *piece = &all->pieces[index];
-    uint32_t most = piece_to(job, rest->node), nbytes = rest->nbytes < most ? (uint32_t)rest->nbytes : most;
     gasnet_c_move move = { .remote = rest->remote,
                            .local = rest->direct ? (uint64_t)(rest->near - job->segment.base) : stage_of(job, index),
                            .len = nbytes,
@@ -124,12 +131,12 @@ static void begin_piece(struct gasnetl_job *job, struct gasnetl_move *rest, stru
         gasnetl_stop(GASNETL_BROKEN, "a transfer was answered %u", told.code);
     piece->handle = told.value;
     piece->out = rest->kind == GASNETL_GET && !rest->direct ? rest->near : NULL;
-    piece->nbytes = nbytes;
+    piece->nbytes = (uint32_t)nbytes;
     piece->slots = 0;
     piece->to = rest->node;
     gasnetl_part_add(op, &piece->part);
     lane->sending = index;
-    lane->unsent = (uint16_t)((nbytes + GASNET_C_PAYLOAD - 1) / GASNET_C_PAYLOAD);
+    lane->unsent = (uint16_t)chunks_of(nbytes);
     rest->remote += nbytes;
     rest->nbytes -= nbytes;
     if (rest->near)
@@ -183,7 +190,13 @@ static void transfer_begun(struct gasnetl_transfers *all, struct gasnetl_transfe
     all->spare = transfer;
 }
 
-/* Begins a piece of the first transfer to a node. Then the next one has its turn. */
+/* Whether a piece of the first transfer to a node may begin. */
+static bool next_may_begin(const struct gasnetl_job *job, uint16_t to) {
+    const struct gasnetl_transfer *first = job->transfers.lanes[to].queue;
+    return first && may_begin(job, &first->rest, piece_of(job, &first->rest));
+}
+
+/* Begins it. Then the next transfer has its turn. */
 static void begin_next(struct gasnetl_job *job, uint16_t to) {
     struct gasnetl_lane *lane = &job->transfers.lanes[to];
     struct gasnetl_transfer *transfer = lane->queue;
@@ -197,7 +210,7 @@ static void begin_next(struct gasnetl_job *job, uint16_t to) {
 
 /* A lane that finds no place has pieces under way: it is fed again as one of them is complete. */
 void gasnetl_transfers_feed(struct gasnetl_job *job, uint16_t to) {
-    while (job->transfers.lanes[to].queue && may_begin(job, to)) {
+    while (next_may_begin(job, to)) {
         begin_next(job, to);
         gasnetl_send_chunks(job, to);
     }
@@ -291,15 +304,15 @@ bool gasnetl_transfers_ask_all(struct gasnetl_job *job) {
 
 /* Whether a transfer is one piece, which may go now. */
 static bool goes_at_once(const struct gasnetl_job *job, const struct gasnetl_move *move) {
-    return !job->transfers.lanes[move->node].queue && move->nbytes <= piece_to(job, move->node) &&
-           may_begin(job, move->node);
+    return !job->transfers.lanes[move->node].queue && piece_of(job, move) == move->nbytes &&
+           may_begin(job, move, move->nbytes);
 }
 
 void gasnetl_transfer(struct gasnetl_job *job, struct gasnetl_op *op, const struct gasnetl_move *move, bool *begun) {
     struct gasnetl_transfers *all = &job->transfers;
-    gasnetl_read_clock(job);
     if (goes_at_once(job, move)) {
         struct gasnetl_move rest = *move;
+        gasnetl_read_clock(job);
         begin_piece(job, &rest, op);
         if (begun)
             *begun = true;
@@ -310,7 +323,10 @@ void gasnetl_transfer(struct gasnetl_job *job, struct gasnetl_op *op, const stru
     *transfer = (struct gasnetl_transfer){ .rest = *move, .op = op, .begun = begun, .block = transfer->block };
     gasnetl_part_add(op, &transfer->part);
     enqueue(&all->lanes[move->node], transfer);
-    gasnetl_transfers_feed(job, move->node);
+    if (next_may_begin(job, move->node)) {
+        gasnetl_read_clock(job);
+        gasnetl_transfers_feed(job, move->node);
+    }
 }
 
 void gasnetl_transfers_start(struct gasnetl_transfers *transfers, gasnet_node_t nodes) {

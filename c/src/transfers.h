@@ -26,7 +26,7 @@
 struct gasnetl_job;
 
 enum {
-    GASNETL_PIECE = 2 * GASNET_C_PAYLOAD, /* the bytes of a piece at most */
+    GASNETL_PIECE = 4 * GASNET_C_PAYLOAD, /* the bytes of a piece at most */
     GASNETL_PIECES = GASNET_C_OPERATIONS,
     GASNETL_STAGE = GASNETL_PIECE * GASNETL_PIECES,
     GASNETL_NONE = 0xffff

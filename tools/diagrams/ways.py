@@ -48,7 +48,7 @@ PUT = Way(
     ("node 0: gasnet_put_nb, then gasnet_wait_syncnb", "node 1, the target"),
     [
         Step(0, ("transfer_calls.c", "gasnet_put_nb", "judges the range, and makes an operation")),
-        Step(0, ("transfers.c", "gasnetl_transfer", "cuts it into pieces of 16 KiB at most"), [
+        Step(0, ("transfers.c", "gasnetl_transfer", "cuts it into pieces of 32 KiB at most"), [
             ("transfers.c", "begin_piece", "copies its bytes behind the client's segment"),
             ("gasnet_c", "gasnet_c_begin", "an export: an explicit put of the piece"),
             ("part_transfers", "begin", "its record, none of whose chunks was issued"),
