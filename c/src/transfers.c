@@ -100,20 +100,18 @@ static size_t piece_of(const struct gasnetl_job *job, const struct gasnetl_move 
 }
 
 /* Whether the next piece may begin: the one before is sent, and there is room in the window, and a place. */
-static bool may_begin(const struct gasnetl_job *job, const struct gasnetl_move *rest, size_t nbytes) {
-    const struct gasnetl_lane *lane = &job->transfers.lanes[rest->node];
-    return lane->sending == GASNETL_NONE &&
-           gasnetl_recovery_may_send(job, rest->node, GASNETL_BY_LIBRARY, chunks_of(nbytes) - 1) &&
-           has_room(&job->transfers, lane);
+static bool may_begin(const struct gasnetl_job *job, uint16_t to, size_t nbytes) {
+    const struct gasnetl_lane *lane = &job->transfers.lanes[to];
+    return lane->sending == GASNETL_NONE && has_room(&job->transfers, lane) &&
+           gasnetl_recovery_may_send(job, to, GASNETL_BY_LIBRARY, chunks_of(nbytes) - 1);
 }
 
 static uint64_t stage_of(const struct gasnetl_job *job, uint16_t index) {
     return job->segment.stage + (uint64_t)index * GASNETL_PIECE;
 }
 
-/* Begins the first piece of what is left of a transfer, which becomes shorter. It may begin. */
-static void begin_piece(struct gasnetl_job *job, struct gasnetl_move *rest, struct gasnetl_op *op) {
-    const size_t nbytes = piece_of(job, rest);
+/* Begins the first so many bytes of what is left of a transfer, which becomes shorter. They may begin. */
+static void begin_piece(struct gasnetl_job *job, struct gasnetl_move *rest, struct gasnetl_op *op, size_t nbytes) {
     struct gasnetl_transfers *all = &job->transfers;
     struct gasnetl_lane *lane = &all->lanes[rest->node];
     uint16_t index = take_place(all, lane);
@@ -190,17 +188,20 @@ static void transfer_begun(struct gasnetl_transfers *all, struct gasnetl_transfe
     all->spare = transfer;
 }
 
-/* Whether a piece of the first transfer to a node may begin. */
-static bool next_may_begin(const struct gasnetl_job *job, uint16_t to) {
+/* How many bytes of the first transfer to a node may begin, as its next piece; 0 where none may. */
+static size_t next_piece(const struct gasnetl_job *job, uint16_t to) {
     const struct gasnetl_transfer *first = job->transfers.lanes[to].queue;
-    return first && may_begin(job, &first->rest, piece_of(job, &first->rest));
+    if (!first)
+        return 0;
+    size_t nbytes = piece_of(job, &first->rest);
+    return may_begin(job, to, nbytes) ? nbytes : 0;
 }
 
-/* Begins it. Then the next transfer has its turn. */
-static void begin_next(struct gasnetl_job *job, uint16_t to) {
+/* Begins that piece. Then the next transfer has its turn. */
+static void begin_next(struct gasnetl_job *job, uint16_t to, size_t nbytes) {
     struct gasnetl_lane *lane = &job->transfers.lanes[to];
     struct gasnetl_transfer *transfer = lane->queue;
-    begin_piece(job, &transfer->rest, transfer->op);
+    begin_piece(job, &transfer->rest, transfer->op, nbytes);
     lane->queue = transfer->next;
     if (transfer->rest.nbytes)
         enqueue(lane, transfer);
@@ -210,8 +211,8 @@ static void begin_next(struct gasnetl_job *job, uint16_t to) {
 
 /* A lane that finds no place has pieces under way: it is fed again as one of them is complete. */
 void gasnetl_transfers_feed(struct gasnetl_job *job, uint16_t to) {
-    while (next_may_begin(job, to)) {
-        begin_next(job, to);
+    for (size_t nbytes; (nbytes = next_piece(job, to));) {
+        begin_next(job, to, nbytes);
         gasnetl_send_chunks(job, to);
     }
 }
@@ -305,7 +306,7 @@ bool gasnetl_transfers_ask_all(struct gasnetl_job *job) {
 /* Whether a transfer is one piece, which may go now. */
 static bool goes_at_once(const struct gasnetl_job *job, const struct gasnetl_move *move) {
     return !job->transfers.lanes[move->node].queue && piece_of(job, move) == move->nbytes &&
-           may_begin(job, move, move->nbytes);
+           may_begin(job, move->node, move->nbytes);
 }
 
 void gasnetl_transfer(struct gasnetl_job *job, struct gasnetl_op *op, const struct gasnetl_move *move, bool *begun) {
@@ -313,7 +314,7 @@ void gasnetl_transfer(struct gasnetl_job *job, struct gasnetl_op *op, const stru
     if (goes_at_once(job, move)) {
         struct gasnetl_move rest = *move;
         gasnetl_read_clock(job);
-        begin_piece(job, &rest, op);
+        begin_piece(job, &rest, op, rest.nbytes);
         if (begun)
             *begun = true;
         gasnetl_send_chunks(job, move->node);
@@ -323,7 +324,7 @@ void gasnetl_transfer(struct gasnetl_job *job, struct gasnetl_op *op, const stru
     *transfer = (struct gasnetl_transfer){ .rest = *move, .op = op, .begun = begun, .block = transfer->block };
     gasnetl_part_add(op, &transfer->part);
     enqueue(&all->lanes[move->node], transfer);
-    if (next_may_begin(job, move->node)) {
+    if (next_piece(job, move->node)) {
         gasnetl_read_clock(job);
         gasnetl_transfers_feed(job, move->node);
     }
