@@ -243,7 +243,11 @@ static void take_hello(struct gasnetl_job *job, uint16_t from, const struct data
         send_hello(job, from, false, hello->at);
 }
 
-void gasnetl_control_ping(struct gasnetl_job *job, uint16_t node) { tell_hello(job, node, true); }
+uint64_t gasnetl_control_ping(struct gasnetl_job *job, uint16_t node) {
+    const uint64_t now = gasnetl_clock();
+    send_hello(job, node, true, now);
+    return now;
+}
 
 /* Tells all nodes, and asks those of which it isn't known, or to which the way isn't measured. */
 static void tell_all(struct gasnetl_job *job, const bool *known) {

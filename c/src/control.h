@@ -92,7 +92,7 @@ void gasnetl_meet(struct gasnetl_job *job);
 /* Tells the peers that haven't confirmed it that this node ends with its code, and, where it is forced, that all do. */
 void gasnetl_tell_end(struct gasnetl_job *job, bool forced);
 
-/* Asks a peer whether it is there. */
-void gasnetl_control_ping(struct gasnetl_job *job, uint16_t node);
+/* Asks a peer whether it is there. When it was asked. */
+uint64_t gasnetl_control_ping(struct gasnetl_job *job, uint16_t node);
 
 #endif

@@ -28,10 +28,11 @@ void gasnetl_peer_refused(struct gasnetl_job *job, uint16_t to, const uint8_t *b
     uint64_t asked = 0;
     if (!gasnetl_control_is_own(job, bytes, length, &asked) && !is_own_message(job, to, bytes, length))
         return;
+    const bool is_ping = asked && asked <= peer->pinged; /* who saw one pass may say that it went at any time */
     peer->is_refused = true;
-    if (asked > peer->refused)
+    if (is_ping && asked > peer->refused)
         peer->refused = asked;
-    else if (!asked && !peer->is_pinged)
+    else if (!is_ping && !peer->is_pinged)
         peer->is_doubted = job->peers.has_doubts = true;
 }
 
@@ -67,7 +68,7 @@ static void ping_peer(struct gasnetl_job *job, uint16_t node) {
     struct gasnetl_peer *peer = &job->peers.of[node];
     peer->is_pinged = true;
     peer->is_doubted = false;
-    gasnetl_control_ping(job, node);
+    peer->pinged = gasnetl_control_ping(job, node);
 }
 
 /* Asks the peers of which something was refused since the last look. */

@@ -26,7 +26,8 @@ struct gasnetl_peer {
     bool is_refused;   /* its host refused a datagram, and nothing was heard since */
     bool is_doubted;   /* it is to be asked at once, since its host refused one */
     unsigned refusals; /* of how many looks in a row its host refused the pings */
-    uint64_t refused;  /* when the last ping was sent that its host refused; 0 for none */
+    uint64_t pinged;   /* when the last ping was sent; 0 for none */
+    uint64_t refused;  /* the same of the last one that its host refused */
     uint64_t heard;    /* when it was last heard; by this and the one above it is known whether it is gone */
     uint64_t since;    /* the same, or when it was asked after it was heard */
     unsigned asking;   /* the threads that wait for a credit to it, for a request */

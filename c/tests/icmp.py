@@ -3,8 +3,9 @@
 
 NODE and PEER are HOST:PORT. HOW says what the message brings back as the datagram that was refused:
 
-  guess    what somebody makes up who is off the path: datagrams with the node's and the peer's addresses, and GASNET_JOB
-  DEVICE   what the node sent, as somebody on the path sees it pass at this device of a bridge
+  guess          what somebody makes up who is off the path: datagrams with the node's and the peer's addresses, and GASNET_JOB
+  DEVICE         what the node sent, as somebody on the path sees it pass at this device of a bridge
+  later:DEVICE   the same, where each control datagram is made a question that the node asks only in an hour
 """
 import os
 import random
@@ -69,7 +70,15 @@ def is_between(packet, node, peer):
         packet[34:38] == struct.pack("!HH", port, target_port)
 
 
-def watch(device, node, peer, end):
+def asked_later(packet):
+    """The same packet, but for the kind, the flags and the time of a control datagram (c/src/control.c)."""
+    front, rest = packet[:28], packet[28:]
+    if not rest.startswith(b"GNL"):
+        return packet
+    return front + rest[:4] + b"\1\1" + rest[6:32] + struct.pack("!Q", (time.monotonic_ns() // 1000) + 3_600_000_000) + rest[40:]
+
+
+def watch(device, node, peer, end, altered=lambda packet: packet):
     """Each datagram of the node to the peer is refused, by a frame that comes from the bridge's port to the node."""
     wire = socket.socket(socket.AF_PACKET, socket.SOCK_RAW, socket.htons(3))
     wire.bind((device, 0))
@@ -81,7 +90,7 @@ def watch(device, node, peer, end):
         except TimeoutError:
             continue
         if is_between(packet, node, peer):
-            wire.send(packet[6:12] + packet[:6] + b"\x08\0" + ip(peer[0], node[0], socket.IPPROTO_ICMP, refusal(packet[14:])))
+            wire.send(packet[6:12] + packet[:6] + b"\x08\0" + ip(peer[0], node[0], socket.IPPROTO_ICMP, refusal(altered(packet[14:]))))
             sent += 1
     return sent
 
@@ -89,7 +98,12 @@ def watch(device, node, peer, end):
 def main():
     how, node, peer, seconds = sys.argv[1], address(sys.argv[2]), address(sys.argv[3]), float(sys.argv[4])
     end = time.time() + seconds
-    sent = guess(node, peer, end) if how == "guess" else watch(how, node, peer, end)
+    if how == "guess":
+        sent = guess(node, peer, end)
+    elif how.startswith("later:"):
+        sent = watch(how.removeprefix("later:"), node, peer, end, asked_later)
+    else:
+        sent = watch(how, node, peer, end)
     print(f"sent {sent}")
     return 0 if sent else 1
 
