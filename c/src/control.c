@@ -203,6 +203,12 @@ static void tell_hello(struct gasnetl_job *job, uint16_t to, bool wants) {
     send_hello(job, to, wants, wants ? gasnetl_clock() : 0);
 }
 
+/* Whether a segment can have this size, and, where it is placed, this base: whoever is on the path may say any. */
+static bool is_segment(const struct datagram *hello) {
+    return hello->first <= GASNETL_MOST && hello->first % GASNET_PAGESIZE == 0 &&
+           hello->second <= UINTPTR_MAX - GASNETL_OWN - hello->first;
+}
+
 /* The first greeting of a node says these, and no later one changes them. */
 static void take_size(struct gasnetl_job *job, uint16_t from, const struct datagram *hello) {
     struct gasnetl_control *control = &job->control;
@@ -231,6 +237,8 @@ static void take_time(struct gasnetl_job *job, uint16_t from, const struct datag
 
 static void take_hello(struct gasnetl_job *job, uint16_t from, const struct datagram *hello) {
     struct gasnetl_control *control = &job->control;
+    if (!is_segment(hello))
+        return;
     take_time(job, from, hello);
     take_size(job, from, hello);
     if (hello->flags & IS_PLACED)

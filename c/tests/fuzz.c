@@ -3,6 +3,9 @@
  *
  *   mutate SEED         each datagram is followed by some that differ in a way for which they have to be refused, or
  *                       that came before: of control datagrams, of messages, and, with a key, of what is sealed
+ *   forge SEED          some datagrams go before each that differ in a way in which they may be believed, as whoever is
+ *                       on the path, and has no key to guess, can send them: from the first greeting on. Nothing is
+ *                       promised of what the job does then, but that it touches no memory beyond its own
  *   record FILE CODE    node 1 writes what it sends to a file, and ends the job with this code
  *   replay FILE         node 1 sends that again as it begins, in a job with the same addresses and number
  */
@@ -11,6 +14,7 @@
 #include <errno.h>
 #include <netinet/in.h>
 #include <netinet/udp.h>
+#include <signal.h>
 #include <stdarg.h>
 #include <sys/socket.h>
 #include <sys/syscall.h>
@@ -23,8 +27,20 @@ enum { RING = 512, MOST = 9000, EACH = 2, ALL = 6000, PAUSE = 16 };
 enum { ASK = 128, ANSWER = 129, ROUNDS = 20, ASKED = 20, PIECE = 8192, LENGTH = 40000 };
 
 /* Of a control datagram, and of a message: where fields stand (c/src/control.c, docs/FORMATS.md). */
-enum { KIND = 4, JOB = 8, ECHO = 24, WHEN = 32, CONTROL = 84 };
-enum { RESERVED = 7, SENDER = 16, RECEIVER = 18, SIZE = 22, NUMBER = 24 };
+enum {
+    KIND = 4,
+    FLAGS = 5,
+    JOB = 8,
+    ECHO = 24,
+    WHEN = 32,
+    FIRST = 40,
+    SECOND = 48,
+    BUFFER = 56,
+    MTU = 64,
+    CONTROL = 84
+};
+enum { HANDLER = 5, COUNT_AT = 6, RESERVED = 7, SENDER = 16, RECEIVER = 18, SLOT = 20, SIZE = 22, NUMBER = 24 };
+enum { PLACE = 32, ARGS = 40, ALL_ARGS = 16, LONGEST = 8192 };
 
 /* A datagram that was sent. */
 struct caught {
@@ -39,6 +55,7 @@ static unsigned caught, injected;
 static const char *way = "", *path = "";
 static FILE *file;
 static bool is_attached, is_replayed;
+static size_t seldom; /* how many datagrams of the layer come to each forged one */
 static uint64_t state;
 
 /* The next random number (xorshift64). */
@@ -174,7 +191,84 @@ static void mutate(struct caught *one) {
     }
 }
 
-/* ---- What is done as a datagram was sent. */
+/* ---- What may be believed. */
+
+static void put_number(unsigned char *bytes, unsigned count, uint64_t number) {
+    for (unsigned i = 0; i < count; i++)
+        bytes[i] = (unsigned char)(number >> 8 * (count - 1 - i));
+}
+
+/* A number by which sums and differences may go wrong, or any. */
+static uint64_t odd_number(void) {
+    static const uint64_t numbers[] = { 0,     1,        7,        8,          4095,       4096,       8192,
+                                        65536, 1u << 20, 1u << 31, UINT32_MAX, 1ull << 40, 1ull << 63, UINT64_MAX };
+    const uint64_t number = numbers[below(sizeof numbers / sizeof *numbers)];
+    switch (below(4)) {
+    case 0:
+        return random_number();
+    case 1:
+        return number - below(1 << 22) / 4096 * 4096;
+    default:
+        return number + below(3) - 1;
+    }
+}
+
+/* Greetings mostly: an end ends the job. The settings are those of all nodes, or it ends too. */
+static void forge_control(struct caught *one) {
+    if (!below(3000))
+        one->bytes[KIND] = (unsigned char)below(4);
+    else if (one->bytes[KIND] != 1)
+        return;
+    one->bytes[FLAGS] = (unsigned char)below(16);
+    for (unsigned at = WHEN; at <= BUFFER; at += 8)
+        if (below(2))
+            put_number(one->bytes + at, 8, odd_number());
+    put_number(one->bytes + MTU, 4, odd_number());
+}
+
+/* A message that is spelled as one has to be, for any handler, slot and place. */
+static void forge_message(struct caught *one) {
+    static const unsigned char handlers[] = { 64, 65, 66, 67, 68, 128, 129, 130, 131, 252, 253, 254 };
+    unsigned char *bytes = one->bytes;
+    const unsigned kind = (unsigned)below(7), args = kind == 6 ? 0 : (unsigned)below(ALL_ARGS + 1);
+    const size_t length = kind % 3 && kind < 6 ? below(2) ? below(64) : below(LONGEST + 1) : 0;
+    uint64_t number = 0;
+    for (int i = 0; i < 8; i++)
+        number = number << 8 | bytes[NUMBER + i];
+    bytes[KIND] = (unsigned char)kind;
+    bytes[HANDLER] = kind == 6 ? 0 : handlers[below(sizeof handlers)];
+    bytes[COUNT_AT] = (unsigned char)args;
+    if (below(2))
+        put_number(bytes + SLOT, 2, below(32));
+    put_number(bytes + SIZE, 2, length);
+    put_number(bytes + NUMBER, 8, number + below(3));
+    put_number(bytes + PLACE, 8, kind == 2 || kind == 5 ? below(2) ? below(1 << 22) : odd_number() : 0);
+    for (unsigned i = 0; i < args; i++)
+        put_number(bytes + ARGS + 4 * i, 4, below(2) ? below(64) : odd_number());
+    scatter(bytes + ARGS + 4 * args, length);
+    one->length = ARGS + 4 * args + length;
+}
+
+static void forge(struct caught *one) {
+    if (one->length >= CONTROL && !memcmp(one->bytes, "GNL", 3))
+        forge_control(one);
+    else if (one->length >= ARGS)
+        forge_message(one);
+}
+
+/* ---- What is done before, and as, a datagram is sent. */
+
+static void is_to_be_sent(int socket, const void *bytes, size_t length, const void *to, socklen_t to_length) {
+    static struct caught one;
+    if (strcmp(way, "forge") || below(seldom))
+        return;
+    one.length = length < MOST ? length : MOST;
+    memcpy(one.bytes, bytes, one.length);
+    memcpy(&one.to, to, to_length);
+    one.to_length = to_length;
+    forge(&one);
+    inject(socket, &one);
+}
 
 static void replay(int socket, const struct caught *like) {
     struct caught *one = malloc(sizeof *one);
@@ -227,11 +321,21 @@ static size_t group_size(const struct msghdr *message) {
     return size ? size : message->msg_iov->iov_len;
 }
 
-static void group_was_sent(int socket, const struct msghdr *message) {
+typedef void for_one(int socket, const void *bytes, size_t length, const void *to, socklen_t to_length);
+
+static void for_group(for_one *work, int socket, const struct msghdr *message) {
     const unsigned char *bytes = message->msg_iov->iov_base;
     size_t length = message->msg_iov->iov_len, each = group_size(message);
     for (size_t at = 0; at < length; at += each)
-        was_sent(socket, bytes + at, length - at < each ? length - at : each, message->msg_name, message->msg_namelen);
+        work(socket, bytes + at, length - at < each ? length - at : each, message->msg_name, message->msg_namelen);
+}
+
+/* For each datagram of a call that sends. */
+static void for_each(for_one *work, long number, const long *values) {
+    if (number == SYS_sendto)
+        work((int)values[0], (const void *)values[1], (size_t)values[2], (const void *)values[4], (socklen_t)values[5]);
+    if (number == SYS_sendmsg)
+        for_group(work, (int)values[0], (const struct msghdr *)values[1]);
 }
 
 /* The C library's, with a look at what is sent. */
@@ -242,13 +346,11 @@ long syscall(long number, ...) {
     for (int i = 0; i < 6; i++)
         values[i] = va_arg(list, long);
     va_end(list);
+    for_each(is_to_be_sent, number, values);
     const long result = next_call()(number, values[0], values[1], values[2], values[3], values[4], values[5]);
     const int why = errno;
-    if (result >= 0 && number == SYS_sendto)
-        was_sent((int)values[0], (const void *)values[1], (size_t)values[2], (const void *)values[4],
-                 (socklen_t)values[5]);
-    if (result >= 0 && number == SYS_sendmsg)
-        group_was_sent((int)values[0], (const struct msghdr *)values[1]);
+    if (result >= 0)
+        for_each(was_sent, number, values);
     errno = why;
     return result;
 }
@@ -321,6 +423,48 @@ static void work(void) {
     barrier();
 }
 
+/* ---- The workload beside forged datagrams: none of its results is right. */
+
+/* A client's handler takes what comes, whatever it is. */
+static void take_any(gasnet_token_t token) { (void)token; }
+
+static volatile sig_atomic_t rounds;
+
+static void is_over(int signal) {
+    static const char told[] = "still there, having worked\n";
+    (void)signal;
+    (void)!write(1, told, rounds ? sizeof told - 1 : 12);
+    _exit(0);
+}
+
+static _Noreturn void work_in_vain(void) {
+    static unsigned char bytes[LENGTH];
+    gex_AD_t words;
+    gex_AD_Create(&words, NULL, GEX_DT_U64, GEX_OP_FADD, 0);
+    for (;; rounds++) {
+        uint64_t own = 1, sum;
+        for (int i = 0; i < ASKED; i++)
+            GASNET_SAFE(gasnet_AMRequestLong1((gasnet_node_t)next(), ASK, bytes, (size_t)i * 40, at(next(), 0), i));
+        gasnet_put(next(), at(next(), 4096), bytes, LENGTH);
+        gasnet_get(bytes, next(), at(next(), 4096), LENGTH);
+        add(words, GEX_OP_FADD);
+        gasnet_coll_reduce_all(NULL, &sum, &own, GEX_DT_U64, 1, GEX_OP_ADD, 0);
+        gasnet_barrier_notify(0, GASNET_BARRIERFLAG_ANONYMOUS);
+        gasnet_barrier_wait(0, GASNET_BARRIERFLAG_ANONYMOUS);
+    }
+}
+
+static _Noreturn void be_forged(int *argc, char ***argv) {
+    enum { LAST = 2 };
+    gasnet_handlerentry_t table[] = {
+        { ASK, take_any }, { ANSWER, take_any }, { ANSWER + 1, take_any }, { ANSWER + 2, take_any }
+    };
+    signal(SIGALRM, is_over);
+    alarm(LAST);
+    start(argc, argv, table, COUNT(table), 1 << 20);
+    work_in_vain();
+}
+
 int main(int argc, char **argv) {
     gasnet_handlerentry_t table[] = { { ASK, ask }, { ANSWER, answer } };
     way = argc > 1 ? argv[1] : "";
@@ -328,6 +472,11 @@ int main(int argc, char **argv) {
     state = 88172645463325252u + strtoull(path, NULL, 10) * 1000003;
     if (!strcmp(way, "record") && is_node_1() && !(file = fopen(path, "w")))
         return 1;
+    if (is_node_1())
+        state += 1u << 31;
+    seldom = 2 + strtoull(path, NULL, 10) % 5 * 20;
+    if (!strcmp(way, "forge"))
+        be_forged(&argc, &argv);
     start(&argc, &argv, table, 2, !strcmp(way, "replay") ? 1 << 21 : 1 << 20);
     state += (uint64_t)me << 32;
     barrier();

@@ -130,6 +130,18 @@ for build in out out/sanitized; do
     done
     check "fuzz with a key$kind" 0 "" env GASNET_KEY_FILE=out/key bin/gasnetrun -n 3 $build/tests/fuzz mutate 4
 done
+# Datagrams that may be believed: whoever is on the path, and has no key to guess, ends the job or spoils its results, and no more.
+forged() { # SEED..: no node touches memory beyond its own, or finds the endpoint and the layer at odds
+    local seed log
+    for seed; do
+        log=$(GASNET_END_TIMEOUT=200 timeout 60 bin/gasnetrun -n 3 out/sanitized/tests/fuzz forge "$seed" 2>&1)
+        [ $? != 124 ] && ! grep -E "Sanitizer|runtime error|by signal (4|6|7|8|11)|was answered [0-9]" <<<"$log" && continue
+        echo "seed $seed: $log"
+        return 1
+    done
+}
+export -f forged
+check "fuzz forged sanitized" 0 "" bash -c "forged 1 2 3 20 35 40 45"
 alone() { # RANK COMMAND..: this process becomes a node that is started by hand
     exec env GASNET_NODES=2 GASNET_RANK=$1 GASNET_JOB=7 GASNET_ADDRESSES=127.0.0.1:$port,127.0.0.1:$((port + 1)) "${@:2}"
 }
