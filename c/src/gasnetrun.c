@@ -252,16 +252,37 @@ static void wait_once(struct run *run) {
         take_signal(run, (int)signal.ssi_signo);
 }
 
+/* Whether whoever started this process has it ignore the signal, as nohup does, or a shell where it is in the
+ * background. */
+static bool is_ignored(int signal) {
+    struct sigaction action;
+    return !sigaction(signal, NULL, &action) && action.sa_handler == SIG_IGN;
+}
+
+/* Those that end the nodes, but for what is ignored. That children end is told where it isn't ignored. */
 static void catch_signals(struct run *run) {
+    const int ends[] = { SIGTERM, SIGINT, SIGHUP };
     sigset_t set;
     sigemptyset(&set);
-    for (int i = 0; i < 4; i++)
-        sigaddset(&set, (const int[]){ SIGCHLD, SIGTERM, SIGINT, SIGHUP }[i]);
+    signal(SIGCHLD, SIG_DFL);
+    sigaddset(&set, SIGCHLD);
+    for (int i = 0; i < 3; i++)
+        if (!is_ignored(ends[i]))
+            sigaddset(&set, ends[i]);
     sigprocmask(SIG_BLOCK, &set, NULL);
     run->signals = signalfd(-1, &set, SFD_CLOEXEC);
     if (run->signals < 0 || pipe2(run->lifeline, O_CLOEXEC) || pipe2(run->reports, O_CLOEXEC) ||
         fcntl(run->reports[0], F_SETFL, O_NONBLOCK))
         fail("no signals can be had");
+}
+
+/* Has something at the descriptors of the standard streams, so that nothing of this process' own stands there. */
+static void fill_streams(void) {
+    int filled = 0;
+    while (filled >= 0 && filled <= STDERR_FILENO)
+        filled = open("/dev/null", O_RDWR);
+    if (filled >= 0)
+        close(filled);
 }
 
 /* Answers the milliseconds of GASNET_GRACE, or those that hold without it; where it is broken it says so, and ends. */
@@ -288,6 +309,7 @@ int main(int argc, char **argv) {
         return usage();
     run.nodes = (int)nodes;
     run.grace = read_grace();
+    fill_streams();
     catch_signals(&run);
     make_sockets(&run);
     set_job(&run);

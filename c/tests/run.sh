@@ -307,6 +307,7 @@ check "end signal" 137 "node 2 was ended by signal 9" bin/gasnetrun -n 3 out/tes
 nodes_of() { pgrep -f "tests/ends sleep $1\$" | wc -l; }
 ended() { # SIGNAL STATUS COMMAND..: 0 where all nodes are gone soon after
     local signal=$1 status=$2 mark=$RANDOM$RANDOM
+    set -m # else the shell has gasnetrun ignore INT
     bin/gasnetrun -n 3 "${@:3}" sleep "$mark" >"out/here-$mark" &
     local runner=$!
     until_here 3 "out/here-$mark"
@@ -323,6 +324,19 @@ until_here() { # COUNT FILE: waits until so many nodes wrote there that they beg
 export -f ended nodes_of until_here
 for signal in TERM:143 INT:130 KILL:137 HUP:129; do
     check "orphans ${signal%:*}" 0 "" bash -c "ended ${signal%:*} ${signal#*:} out/tests/ends"
+done
+# What gasnetrun ignores as it starts it ignores to the end, as under nohup; and that children end is told all the same.
+ignored() { # SIGNAL
+    python3 -c 'import os, signal, sys; signal.signal(getattr(signal, sys.argv[1]), signal.SIG_IGN); os.execv(sys.argv[2], sys.argv[2:])' \
+        "SIG$1" bin/gasnetrun -n 2 sleep 2 &
+    local runner=$!
+    sleep 1
+    kill "-$1" $runner
+    wait $runner
+}
+export -f ignored
+for signal in HUP INT CHLD; do
+    check "gasnetrun ignores $signal" 0 "" timeout 20 bash -c "ignored $signal"
 done
 # Nodes whose parent is gone: the pipe alone ends them, each of them.
 check "orphans KILL without parents" 0 "" bash -c \
