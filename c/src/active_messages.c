@@ -286,7 +286,7 @@ static void request_there(struct gasnetl_job *job, gasnet_c_ask *ask, const stru
 
 int gasnetl_request(gasnet_node_t node, const struct gasnetl_message *message) {
     if (is_out_of_turn(&gasnetl_job))
-        return gasnetl_refuse(GASNET_ERR_NOT_INIT, "gasnet_AMRequest is called before gasnet_attach");
+        return gasnetl_refuse(GASNET_ERR_NOT_INIT, "gasnet_AMRequest is called %s", gasnetl_out_of_turn());
     struct gasnetl_job *job = gasnetl_enter("gasnet_AMRequest");
     gasnet_c_ask ask = { .args = { message->args, message->count },
                          .payload = NOTHING,
@@ -309,7 +309,7 @@ int gasnetl_request(gasnet_node_t node, const struct gasnetl_message *message) {
 
 int gasnet_AMPoll(void) {
     if (is_out_of_turn(&gasnetl_job))
-        return gasnetl_refuse(GASNET_ERR_NOT_INIT, "gasnet_AMPoll is called before gasnet_attach");
+        return gasnetl_refuse(GASNET_ERR_NOT_INIT, "gasnet_AMPoll is called %s", gasnetl_out_of_turn());
     struct gasnetl_job *job = gasnetl_enter("gasnet_AMPoll");
     gasnetl_poll(job, POLL_MOST);
     gasnetl_leave(job);
@@ -320,4 +320,5 @@ void gasnetl_block(unsigned *turn) {
     struct gasnetl_job *job = gasnetl_enter("GASNET_BLOCKUNTIL");
     gasnetl_wait(job, turn);
     gasnetl_leave(job);
+    pthread_testcancel();
 }

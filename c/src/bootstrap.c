@@ -9,6 +9,7 @@
 #include <unistd.h>
 
 #include "config.h"
+#include "descriptors.h"
 #include "hosts.h"
 #include "runner.h"
 
@@ -17,7 +18,7 @@
 static int own_pipe(int inherited) {
     char name[40];
     snprintf(name, sizeof name, "/proc/self/fd/%d", inherited);
-    int own = open(name, O_RDONLY | O_NONBLOCK | O_CLOEXEC);
+    int own = gasnetl_above_streams(open(name, O_RDONLY | O_NONBLOCK | O_CLOEXEC));
     if (own < 0)
         return inherited;
     close(inherited);

@@ -1,7 +1,9 @@
 #include "errors.h"
 
+#include <errno.h>
 #include <stdarg.h>
 #include <stdio.h>
+#include <string.h>
 
 #include "exit.h"
 #include "job.h"
@@ -21,6 +23,12 @@ void gasnetl_stop(int status, const char *format, ...) {
     say(format, values);
     va_end(values);
     gasnetl_end_all(&gasnetl_job, status);
+}
+
+void gasnetl_stop_lost(void) {
+    gasnetl_stop(GASNETL_MISUSE,
+                 "a descriptor of this library is gone (%s): the program closed it, so have it close its own alone",
+                 strerror(errno));
 }
 
 void gasnetl_warn(const char *format, ...) {

@@ -17,6 +17,9 @@ enum { GASNETL_LINE = 8192 }; /* the bytes of a line at most: all nodes may be n
 /* Says one line on standard error, with this node's number, and ends the job with the status. */
 _Noreturn void gasnetl_stop(int status, const char *format, ...) __attribute__((format(printf, 2, 3)));
 
+/* The same where the system knows a descriptor of the layer's no more, by errno: the client closed it. */
+_Noreturn void gasnetl_stop_lost(void);
+
 /* Says one line on standard error, with this node's number. */
 void gasnetl_warn(const char *format, ...) __attribute__((format(printf, 1, 2)));
 

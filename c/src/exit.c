@@ -150,6 +150,7 @@ static void bound_end(const struct gasnetl_job *job, const struct leaving *leavi
 static bool leave(struct gasnetl_job *job, struct leaving *leaving) {
     if (job->ender == &gasnetl_thread || !job->initialised)
         return true;
+    pthread_setcancelstate(PTHREAD_CANCEL_DISABLE, NULL); /* nobody else would end the process */
     if (!begin_end(job, leaving))
         return false;
     if (leaving->is_signal)
@@ -162,7 +163,7 @@ static bool leave(struct gasnetl_job *job, struct leaving *leaving) {
         detach(job); /* its message is never delivered, or its call never ends, or the endpoint may want memory */
     if (!gasnetl_thread.is_own && !leaving->is_signal) /* exit flushes the others: a thread may hold one, as it reads */
         fflush(stdout);
-    if (job->nodes > 1)
+    if (job->nodes > 1 && !job->network.is_lost)
         end_with_others(job, leaving);
     if (job->config.tells_counts)
         tell_counts(job);
@@ -239,6 +240,8 @@ void gasnetl_end_all(struct gasnetl_job *job, int status) {
     gasnetl_thread.ends_itself = true;
     end_process(job, status, true);
 }
+
+void gasnetl_end_within(struct gasnetl_job *job, int status) { end_process(job, status, true); }
 
 /* Raises SIGQUIT on a thread of the client's, which may end the process meanwhile: the layer's own thread leaves it
  * the turn and the time for that. */

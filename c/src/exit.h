@@ -13,6 +13,9 @@ bool gasnetl_exit_start(struct gasnetl_job *job);
 /* Ends this process, and tells all peers to end with this status. */
 _Noreturn void gasnetl_end_all(struct gasnetl_job *job, int status);
 
+/* The same for a thread that is in a call already, which a signal's handler interrupted, or which a longjmp left. */
+_Noreturn void gasnetl_end_within(struct gasnetl_job *job, int status);
+
 /* Raises SIGQUIT once, where the client handles it: the job ends by another node's exit or death. It comes to a
  * thread of the client's. */
 void gasnetl_raise_quit(struct gasnetl_job *job);

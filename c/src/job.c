@@ -79,17 +79,16 @@ static int start(struct gasnetl_job *job, int threaded) {
 int gasnetl_init(int *argc, char ***argv, int threaded) {
     (void)argc;
     (void)argv;
-    if (gasnetl_job.initialised)
+    if (atomic_exchange(&gasnetl_job.starts, true))
         return gasnetl_refuse(GASNET_ERR_NOT_INIT, "gasnet_init is called a second time");
     int code = start(&gasnetl_job, threaded);
     gasnetl_job.initialised = code == GASNET_OK;
+    gasnetl_job.starts = code == GASNET_OK; /* a call that failed may be repeated */
     return code;
 }
 
 static int judge_attach(const struct gasnetl_job *job, uintptr_t segsize) {
-    if (!job->initialised)
-        return gasnetl_refuse(GASNET_ERR_NOT_INIT, "gasnet_attach is called before gasnet_init");
-    if (job->attached)
+    if (job->attached || job->attaches)
         return gasnetl_refuse(GASNET_ERR_NOT_INIT, "gasnet_attach is called a second time");
     if (segsize % PAGE)
         return gasnetl_refuse(GASNET_ERR_BAD_ARG,
@@ -157,28 +156,40 @@ static int open_endpoint(struct gasnetl_job *job, uintptr_t minheapoffset) {
     return code;
 }
 
-int gasnet_attach(gasnet_handlerentry_t *table, int numentries, uintptr_t segsize, uintptr_t minheapoffset) {
-    struct gasnetl_job *job = &gasnetl_job;
-    int code = judge_attach(job, segsize);
-    if (code == GASNET_OK)
-        code = gasnetl_register(&job->messages, table, numentries);
-    if (code != GASNET_OK)
-        return code;
+/* Has the turn, which it gives away while it waits for the others. */
+static int attach(struct gasnetl_job *job, uintptr_t segsize, uintptr_t minheapoffset) {
     tell_most(job, segsize);
     gasnetl_atomics_start(&job->atomics, &job->messages);
     gasnetl_collectives_start(job);
-    gasnetl_take_turn(&job->turns);
     job->segment.size = segsize;
     gasnetl_recovery_start(job);
     gasnetl_exchange_sizes(job);
     gasnetl_recovery_open(job);
-    code = open_endpoint(job, minheapoffset);
+    int code = open_endpoint(job, minheapoffset);
+    if (code != GASNET_OK)
+        return code;
+    gasnetl_exchange_bases(job);
+    gasnetl_meet(job);
+    job->attached = true;
+    if (job->config.has_thread)
+        gasnetl_progress_thread_start(job);
+    return GASNET_OK;
+}
+
+int gasnet_attach(gasnet_handlerentry_t *table, int numentries, uintptr_t segsize, uintptr_t minheapoffset) {
+    struct gasnetl_job *job = &gasnetl_job;
+    if (!job->initialised)
+        return gasnetl_refuse(GASNET_ERR_NOT_INIT, "gasnet_attach is called before gasnet_init");
+    if (job->attached) /* the calling thread may have the turn, in a handler */
+        return judge_attach(job, segsize);
+    gasnetl_take_turn(&job->turns);
+    int code = judge_attach(job, segsize);
     if (code == GASNET_OK) {
-        gasnetl_exchange_bases(job);
-        gasnetl_meet(job);
-        job->attached = true;
-        if (job->config.has_thread)
-            gasnetl_progress_thread_start(job);
+        job->attaches = true;
+        code = gasnetl_register(&job->messages, table, numentries);
+        if (code == GASNET_OK)
+            code = attach(job, segsize, minheapoffset);
+        job->attaches = false;
     }
     gasnetl_give_turn(&job->turns);
     return code;
@@ -199,7 +210,7 @@ uintptr_t gasnet_getMaxGlobalSegmentSize(void) { return gasnet_getMaxLocalSegmen
 int gasnet_getSegmentInfo(gasnet_seginfo_t *seginfo_table, int numentries) {
     const struct gasnetl_job *job = &gasnetl_job;
     if (!job->attached && !gasnetl_another_ends())
-        return gasnetl_refuse(GASNET_ERR_NOT_INIT, "gasnet_getSegmentInfo is called before gasnet_attach");
+        return gasnetl_refuse(GASNET_ERR_NOT_INIT, "gasnet_getSegmentInfo is called %s", gasnetl_out_of_turn());
     if (!seginfo_table || numentries < 0)
         return gasnetl_refuse(GASNET_ERR_BAD_ARG, "gasnet_getSegmentInfo: there is no table");
     for (int node = 0; node < numentries && node < job->nodes; node++)

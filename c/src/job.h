@@ -38,7 +38,9 @@ enum {
 
 struct gasnetl_job {
     gasnet_node_t me, nodes;
-    bool initialised;
+    atomic_bool starts;                   /* gasnet_init was called, and didn't fail */
+    atomic_bool initialised;              /* it came back */
+    bool attaches;                        /* a thread is in gasnet_attach */
     bool is_child;                        /* this process was forked by a node, and is none */
     pid_t process;                        /* the node's; 0 before */
     atomic_bool attached;                 /* false again from some moment of the end on */

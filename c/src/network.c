@@ -10,6 +10,8 @@
 #include <sys/syscall.h>
 #include <unistd.h>
 
+#include "descriptors.h"
+
 /* What the C library has of these is a point of cancellation: that costs where the process has a second thread. */
 static ssize_t send_message(int socket, const struct msghdr *message) {
     return syscall(SYS_sendmsg, socket, message, MSG_DONTWAIT);
@@ -38,7 +40,7 @@ static void widen_buffers(int socket) {
 }
 
 int gasnetl_network_bind(const struct sockaddr *address, socklen_t length) {
-    int made = socket(address->sa_family, SOCK_DGRAM | SOCK_CLOEXEC, 0);
+    int made = gasnetl_above_streams(socket(address->sa_family, SOCK_DGRAM | SOCK_CLOEXEC, 0));
     if (made < 0)
         return -1;
     widen_buffers(made);
@@ -374,6 +376,9 @@ static bool receive_more(struct gasnetl_network *network) {
     coming->next = 0;
     coming->count = got > 0 ? (unsigned)got : 0;
     if (got < 0 && errno == EAGAIN)
+        return false;
+    network->is_lost = got < 0 && (errno == EBADF || errno == ENOTSOCK);
+    if (network->is_lost)
         return false;
     if (got < 0)
         take_refusals(network);

@@ -52,6 +52,7 @@ typedef void gasnetl_came_back(struct gasnetl_job *job, uint16_t to, const uint8
 struct gasnetl_network {
     int socket; /* -1 where there is none */
     uint16_t me;
+    bool is_lost;      /* the system knows the socket no more: the client closed it */
     bool has_groups;   /* the system sends and receives groups */
     bool is_connected; /* to the only peer */
     struct gasnetl_places places;

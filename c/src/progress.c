@@ -253,6 +253,14 @@ static bool ask_about_transfers(struct gasnetl_job *job, bool came) {
     return !came && ++job->progress.idle % ASK_EACH == 0 && gasnetl_transfers_ask_all(job);
 }
 
+/* The client closed the socket. Or this process is a child that it forked in a handler, and that went back into the
+ * call which ran the handler. */
+static _Noreturn void stop_without_socket(struct gasnetl_job *job) {
+    if (!job->is_child)
+        gasnetl_stop_lost();
+    gasnetl_stop(GASNETL_MISUSE, "a child that was forked within a handler returns from it, but isn't a node");
+}
+
 bool gasnetl_poll(struct gasnetl_job *job, int most) {
     struct gasnetl_progress *progress = &job->progress;
     const uint8_t *bytes = NULL;
@@ -272,6 +280,8 @@ bool gasnetl_poll(struct gasnetl_job *job, int most) {
     }
     if (job->attached && !job->ender)
         gasnetl_collectives_advance(job);
+    if (job->network.is_lost && !job->ender)
+        stop_without_socket(job);
     /* What came is taken before anything goes again; but whoever sends without end doesn't hold that up. */
     if (!bytes)
         progress->last_empty = progress->elapsed;

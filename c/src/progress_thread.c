@@ -2,15 +2,14 @@
 
 #include <errno.h>
 #include <inttypes.h>
-#include <poll.h>
 #include <pthread.h>
 #include <signal.h>
 #include <stdio.h>
 #include <string.h>
-#include <sys/eventfd.h>
 #include <time.h>
 #include <unistd.h>
 
+#include "descriptors.h"
 #include "errors.h"
 #include "job.h"
 
@@ -26,22 +25,14 @@ enum {
 
 /* ---- Its sleep. */
 
-static void drain(const struct gasnetl_progress_thread *thread) {
-    uint64_t count;
-    if (read(thread->alarm, &count, sizeof count) < 0 && errno != EAGAIN)
-        gasnetl_stop(GASNETL_BROKEN, "an eventfd can't be read (%s)", strerror(errno));
-}
-
 /* Sleeps until the alarm, a datagram where there is a socket, or until the time is over. Whether the socket has
  * something. */
 static bool sleep_on(const struct gasnetl_progress_thread *thread, int socket, uint64_t microseconds) {
     struct pollfd ready[2] = { { .fd = thread->alarm, .events = POLLIN }, { .fd = socket, .events = POLLIN } };
-    const struct timespec time = { .tv_sec = (time_t)(microseconds / 1000000),
-                                   .tv_nsec = (long)(microseconds % 1000000) * 1000 };
-    if (ppoll(ready, 2, &time, NULL) <= 0)
+    if (gasnetl_sleep_on(ready, 2, microseconds) <= 0)
         return false;
-    if (ready[0].revents & POLLIN)
-        drain(thread);
+    if (ready[0].revents && !gasnetl_event_lower(thread->alarm))
+        gasnetl_stop_lost();
     return ready[1].revents != 0;
 }
 
@@ -106,10 +97,11 @@ static enum why watch(struct gasnetl_job *job, enum why why) {
     struct gasnetl_progress_thread *thread = &job->thread;
     bool came = (why == DUE || why == READY) && serve(job);
     bool is_deaf = why == READY && !came;
+    const int socket = is_deaf ? -1 : job->network.socket;
     uint64_t time = is_deaf ? LEAST_NAP : time_to_due(job);
     atomic_store_explicit(&thread->watches, true, memory_order_relaxed);
     gasnetl_leave(job);
-    bool is_ready = sleep_on(thread, is_deaf ? -1 : job->network.socket, time);
+    bool is_ready = sleep_on(thread, socket, time);
     count(&thread->wakes);
     if (!atomic_exchange(&thread->watches, false))
         return CALLED;
@@ -164,7 +156,7 @@ static int create(void *(*work)(void *), void *at) {
 void gasnetl_progress_thread_start(struct gasnetl_job *job) {
     struct gasnetl_progress_thread *thread = &job->thread;
     int error = 0;
-    thread->alarm = eventfd(0, EFD_CLOEXEC | EFD_NONBLOCK);
+    thread->alarm = gasnetl_event_new();
     if (thread->alarm < 0 || sem_init(&thread->out, 0, 0))
         error = errno;
     gasnetl_progress_thread_polled(thread, gasnetl_clock());
@@ -180,24 +172,22 @@ void gasnetl_progress_thread_start(struct gasnetl_job *job) {
 void gasnetl_progress_thread_out(struct gasnetl_job *job) { sem_post(&job->thread.out); }
 
 void gasnetl_progress_thread_wake(struct gasnetl_progress_thread *thread) {
-    const uint64_t one = 1;
-    if (atomic_exchange(&thread->watches, false) && write(thread->alarm, &one, sizeof one) < 0 && errno != EAGAIN)
-        gasnetl_stop(GASNETL_BROKEN, "an eventfd can't be written (%s)", strerror(errno));
+    if (atomic_exchange(&thread->watches, false) && !gasnetl_event_raise(thread->alarm))
+        gasnetl_stop_lost();
 }
 
 void gasnetl_progress_thread_end(struct gasnetl_job *job) {
     struct gasnetl_progress_thread *thread = &job->thread;
-    const uint64_t one = 1;
     struct timespec until;
     if (gasnetl_thread.is_own || thread->process != getpid())
         return;
     thread->process = 0;
     thread->ends = true;
-    if (write(thread->alarm, &one, sizeof one) < 0)
+    if (!gasnetl_event_raise(thread->alarm))
         return;
-    clock_gettime(CLOCK_REALTIME, &until);
+    clock_gettime(CLOCK_MONOTONIC, &until);
     until.tv_sec += LAST;
-    while (sem_timedwait(&thread->out, &until) && errno == EINTR)
+    while (sem_clockwait(&thread->out, CLOCK_MONOTONIC, &until) && errno == EINTR)
         continue;
 }
 

@@ -1,21 +1,15 @@
 #include "threads.h"
 
-#include <errno.h>
 #include <linux/membarrier.h>
-#include <poll.h>
-#include <string.h>
-#include <sys/eventfd.h>
 #include <sys/syscall.h>
-#include <time.h>
 #include <unistd.h>
 
+#include "descriptors.h"
 #include "errors.h"
+#include "exit.h"
 #include "job.h"
 
-enum {
-    LAST_TIME = 1000000,
-    LAST_TRIES = 1000
-}; /* microseconds that the end waits for a turn, and how often it tries */
+enum { LAST_TIME = 1000000, LAST_NAP = 1000 }; /* microseconds that the end waits for a turn, and between its tries */
 
 _Thread_local struct gasnetl_thread gasnetl_thread;
 
@@ -45,7 +39,7 @@ bool gasnetl_turns_start(struct gasnetl_turns *turns, bool threaded, bool has_ow
     turns->threaded = threaded;
     turns->is_biased = !threaded && has_own && make_barrier(MEMBARRIER_CMD_REGISTER_PRIVATE_EXPEDITED);
     turns->is_locked = (threaded || has_own) && !turns->is_biased;
-    turns->alarm = threaded ? eventfd(0, EFD_CLOEXEC | EFD_NONBLOCK) : -1;
+    turns->alarm = threaded ? gasnetl_event_new() : -1;
     atomic_init(&turns->queued, 0);
     atomic_init(&turns->sleepers, 0);
     if (threaded && (turns->alarm < 0 || pthread_key_create(&turns->ends, end_thread)))
@@ -109,27 +103,21 @@ void gasnetl_stay_out(struct gasnetl_turns *turns) {
         pause();
 }
 
-/* The same of two threads: the calling one may have interrupted itself. */
-static bool take_last_of_two(struct gasnetl_turns *turns) {
-    for (int i = 0; i < LAST_TRIES; i++) {
-        if (gasnetl_thread.is_own ? take_from_client(turns) : !turns->is_inside && go_inside(turns))
-            return true;
-        usleep(LAST_TIME / LAST_TRIES);
-    }
-    return false;
+/* Takes the turn, if nobody has it: the calling thread may have it itself, where it is in a signal's handler. */
+static bool try_last_turn(struct gasnetl_turns *turns) {
+    if (turns->is_biased)
+        return gasnetl_thread.is_own ? take_from_client(turns) : !turns->is_inside && go_inside(turns);
+    return !turns->is_locked || !pthread_mutex_trylock(&turns->mutex);
 }
 
 bool gasnetl_take_last_turn(struct gasnetl_turns *turns) {
-    struct timespec until;
-    clock_gettime(CLOCK_REALTIME, &until);
-    until.tv_sec++;
+    const bool may_have = gasnetl_may_call(turns) || gasnetl_thread.is_own;
+    const uint64_t begun = gasnetl_clock();
     atomic_fetch_add(&turns->queued, 1);
-    if (!gasnetl_may_call(turns) && !gasnetl_thread.is_own)
-        gasnetl_thread.has_turn = false;
-    else if (turns->is_biased)
-        gasnetl_thread.has_turn = take_last_of_two(turns);
-    else
-        gasnetl_thread.has_turn = !turns->is_locked || !pthread_mutex_timedlock(&turns->mutex, &until);
+    gasnetl_thread.has_turn = false;
+    while (may_have && !gasnetl_thread.has_turn && gasnetl_clock() - begun < LAST_TIME)
+        if (!(gasnetl_thread.has_turn = try_last_turn(turns)))
+            usleep(LAST_NAP);
     atomic_fetch_sub(&turns->queued, 1);
     return gasnetl_thread.has_turn;
 }
@@ -178,22 +166,39 @@ bool gasnetl_is_wanted(struct gasnetl_turns *turns) {
     return turns->threaded && atomic_load_explicit(&turns->queued, memory_order_relaxed) > 0;
 }
 
-static _Noreturn void stop_misuse(const char *call) {
-    if (gasnetl_thread.token)
-        gasnetl_stop(GASNETL_MISUSE, "%s is called within a handler, where only a reply is allowed", call);
-    if (gasnetl_thread.locks)
-        gasnetl_stop(GASNETL_MISUSE, "%s is called while the thread holds a handler-safe lock", call);
-    if (gasnetl_thread.sections)
-        gasnetl_stop(GASNETL_MISUSE, "%s is called in a section without interrupts", call);
+const char *gasnetl_out_of_turn(void) {
     if (gasnetl_job.is_child)
-        gasnetl_stop(GASNETL_MISUSE, "%s is called in a child that the node forked, which is no node", call);
-    gasnetl_stop(GASNETL_MISUSE, "%s is called before gasnet_attach", call);
+        return "in a child that the node forked, which is no node";
+    return gasnetl_job.ender ? "after gasnet_exit" : "before gasnet_attach";
+}
+
+/* Ends the job, since the thread is in a call already. What that one has in hand isn't touched. */
+static _Noreturn void stop_within(const char *call) {
+    gasnetl_refuse(GASNETL_MISUSE,
+                   "%s is called while the thread is in another call of GASNet: by a signal's handler that "
+                   "interrupted that, or behind a longjmp out of it",
+                   call);
+    gasnetl_end_within(&gasnetl_job, GASNETL_MISUSE);
+}
+
+static _Noreturn void stop_misuse(const char *call) {
+    const bool has_ended = gasnetl_job.ender == &gasnetl_thread;
+    if (gasnetl_thread.token && !has_ended)
+        gasnetl_stop(GASNETL_MISUSE, "%s is called within a handler, where only a reply is allowed", call);
+    if (gasnetl_thread.locks && !has_ended)
+        gasnetl_stop(GASNETL_MISUSE, "%s is called while the thread holds a handler-safe lock", call);
+    if (gasnetl_thread.sections && !has_ended)
+        gasnetl_stop(GASNETL_MISUSE, "%s is called in a section without interrupts", call);
+    gasnetl_stop(GASNETL_MISUSE, "%s is called %s", call, gasnetl_out_of_turn());
 }
 
 struct gasnetl_job *gasnetl_enter(const char *call) {
-    const struct gasnetl_thread *self = &gasnetl_thread;
+    struct gasnetl_thread *self = &gasnetl_thread;
     if (self->token || self->locks || self->sections)
         stop_misuse(call);
+    if (self->is_calling && gasnetl_job.ender != self)
+        stop_within(call);
+    self->is_calling = true;
     if (!gasnetl_may_call(&gasnetl_job.turns) && gasnetl_job.initialised)
         gasnetl_stop(GASNETL_MISUSE,
                      "%s is called by another thread than the one that called gasnet_init: define GASNET_PAR before "
@@ -208,18 +213,17 @@ struct gasnetl_job *gasnetl_enter(const char *call) {
 void gasnetl_leave(struct gasnetl_job *job) {
     gasnetl_network_flush(&job->network);
     gasnetl_give_turn(&job->turns);
+    gasnetl_thread.is_calling = false;
 }
 
 void gasnetl_sleep(struct gasnetl_turns *turns, int socket, uint64_t microseconds) {
     struct pollfd ready[2] = { { .fd = socket, .events = POLLIN }, { .fd = turns->alarm, .events = POLLIN } };
-    const struct timespec time = { (time_t)(microseconds / 1000000), (long)(microseconds % 1000000 * 1000) };
     bool had_turn = gasnetl_thread.has_turn;
-    uint64_t count;
     atomic_fetch_add(&turns->sleepers, 1);
     gasnetl_give_turn(turns);
-    ppoll(ready, 2, &time, NULL);
-    if (ready[1].revents & POLLIN && read(turns->alarm, &count, sizeof count) < 0 && errno != EAGAIN)
-        gasnetl_stop(GASNETL_BROKEN, "an eventfd can't be read (%s)", strerror(errno));
+    gasnetl_sleep_on(ready, 2, microseconds);
+    if (ready[1].revents && !gasnetl_event_lower(turns->alarm))
+        gasnetl_stop_lost();
     if (had_turn && gasnetl_job.ender == &gasnetl_thread)
         gasnetl_take_last_turn(turns);
     else if (had_turn)
@@ -228,9 +232,7 @@ void gasnetl_sleep(struct gasnetl_turns *turns, int socket, uint64_t microsecond
 }
 
 void gasnetl_wake(struct gasnetl_turns *turns) {
-    const uint64_t one = 1;
-    if (!turns->threaded || !atomic_load_explicit(&turns->sleepers, memory_order_relaxed))
-        return;
-    if (write(turns->alarm, &one, sizeof one) < 0 && errno != EAGAIN)
-        gasnetl_stop(GASNETL_BROKEN, "an eventfd can't be written (%s)", strerror(errno));
+    if (turns->threaded && atomic_load_explicit(&turns->sleepers, memory_order_relaxed) &&
+        !gasnetl_event_raise(turns->alarm))
+        gasnetl_stop_lost();
 }

@@ -39,6 +39,7 @@ struct gasnetl_thread {
     gasnet_hsl_t *locks;  /* the lock that it took last, and still holds */
     unsigned sections;    /* 1 inside a section without interrupts */
     bool has_turn;
+    bool is_calling;                /* it is in a call of the layer's, from gasnetl_enter to gasnetl_leave */
     bool is_own;                    /* it is the layer's (progress_thread.h) */
     bool ends_itself;               /* the layer ends the job: no signal of the client's interrupted a call */
     struct gasnetl_op *puts, *gets; /* its implicit operations, or NULL; pieces may lead to them still as it ends */
@@ -56,8 +57,8 @@ bool gasnetl_turns_start(struct gasnetl_turns *turns, bool threaded, bool has_ow
 void gasnetl_thread_has_ops(const struct gasnetl_turns *turns);
 
 /* A call that polls or may wait begins: it has the turn until gasnetl_leave. The job is attached, and the thread is in
- * no handler, no section without interrupts, and holds no handler-safe lock; else the job is ended with a line that
- * names the call. */
+ * no other call, no handler, no section without interrupts, and holds no handler-safe lock; else the job is ended with
+ * a line that names the call. */
 struct gasnetl_job *gasnetl_enter(const char *call);
 void gasnetl_leave(struct gasnetl_job *job);
 
@@ -70,6 +71,9 @@ bool gasnetl_try_turn(struct gasnetl_turns *turns);
 
 /* Takes the turn for the end of the process. False where it isn't had in a second: whoever has it never gives it. */
 bool gasnetl_take_last_turn(struct gasnetl_turns *turns);
+
+/* When a call comes that finds the job not attached, as a line says it. */
+const char *gasnetl_out_of_turn(void);
 
 /* Whether the calling thread may make the layer's calls: in GASNET_SEQ the one that called gasnet_init alone. */
 bool gasnetl_may_call(const struct gasnetl_turns *turns);

@@ -2,6 +2,7 @@
 #define GASNET_PAR 1
 #include <pthread.h>
 #include <signal.h>
+#include <sys/syscall.h>
 #include <sys/time.h>
 #include <time.h>
 #include <unistd.h>
@@ -17,6 +18,15 @@ enum {
 }; /* one in microseconds, two in milliseconds */
 
 static gasnet_hsl_t lock = GASNET_HSL_INITIALIZER;
+
+/* The wall clock as it stands before it is set back by an hour: nothing waits for a time of it. */
+int clock_gettime(clockid_t clock, struct timespec *time) {
+    enum { HOUR = 3600 };
+    int code = (int)syscall(SYS_clock_gettime, clock, time);
+    if (!code && clock == CLOCK_REALTIME)
+        time->tv_sec += HOUR;
+    return code;
+}
 
 static void exit_handler(gasnet_token_t token) {
     (void)token;

@@ -1,6 +1,10 @@
 /* Breaks the rule of the specification that its argument names. Each ends the job with status 70 and a line. */
 #define GASNET_SEQ 1
 #include <pthread.h>
+#include <setjmp.h>
+#include <signal.h>
+#include <sys/time.h>
+#include <unistd.h>
 
 #include "check.h"
 
@@ -9,6 +13,8 @@ enum { RUN = 128, RUN_REPLY = 129, NOBODY = 222 };
 static const char *rule;
 static gex_AD_t domain;
 static gasnet_hsl_t first = GASNET_HSL_INITIALIZER, second = GASNET_HSL_INITIALIZER;
+
+static sigjmp_buf out;
 
 static bool is(const char *name) { return !strcmp(rule, name); }
 
@@ -161,6 +167,42 @@ static void break_threads(void) {
     gasnet_exit(0);
 }
 
+/* ---- Calls in a signal's handler, and behind a longjmp out of a call; a client that closes what it didn't open. */
+
+static void alarmed(int signal) {
+    (void)signal;
+    if (is("poll-in-signal"))
+        gasnet_AMPoll();
+    else
+        siglongjmp(out, 1);
+}
+
+static void alarm_often(int microseconds) {
+    const struct itimerval often = { { 0, microseconds }, { 0, microseconds } };
+    signal(SIGALRM, alarmed);
+    setitimer(ITIMER_REAL, &often, NULL);
+}
+
+static void break_calls(void) {
+    enum { OFTEN = 500, SETTLED = 200000, DESCRIPTORS = 1024 };
+    if (is("poll-in-signal"))
+        alarm_often(OFTEN);
+    if (is("wait-behind-jump") && !me) {
+        gasnet_barrier_notify(0, 0);
+        if (!sigsetjmp(out, 1))
+            alarm_often(SETTLED);
+        for (;;) /* the others don't notify */
+            gasnet_barrier_wait(0, 0);
+    }
+    for (int i = 3; is("close-all") && !me && i < DESCRIPTORS; i++)
+        close(i);
+}
+
+static void put_at_end(void) {
+    if (is("put-behind-exit"))
+        gasnet_put_val(0, at(0, 0), 1, 1);
+}
+
 /* How many entries the table has. Of those without an index, 126 with the two that have one, the last one gets 254. */
 static int entries(gasnet_handlerentry_t *table) {
     for (int i = 2; i < 128 && is("collective-given-254"); i++)
@@ -177,7 +219,12 @@ int main(int argc, char **argv) {
     rule = argv[1];
     if (is("put-before-attach"))
         gasnet_put_val(0, table, 1, 1);
+    if (is("put-behind-exit"))
+        CHECK(!atexit(put_at_end));
     start(&argc, &argv, table, entries(table), GASNET_PAGESIZE);
+    if (is("put-behind-exit"))
+        gasnet_exit(0);
+    break_calls();
     break_lock();
     break_transfer();
     break_atomic();

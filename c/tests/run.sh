@@ -258,6 +258,27 @@ for n in 2 125; do
     check "indexes, $n of any" 0 "" bin/gasnetrun -n 2 out/sanitized/tests/indexes $n
 done
 
+# A call in a signal's handler that interrupted one, or behind a longjmp out of one, and descriptors that the client closed.
+for rule in poll-in-signal:"gasnet_AMPoll is called while the thread is in another call" \
+    wait-behind-jump:"gasnet_barrier_wait is called while the thread is in another call" \
+    put-behind-exit:"gasnet_put_val is called after gasnet_exit" close-all:"a descriptor of this library is gone"; do
+    check "rule ${rule%%:*}" 70 "${rule#*:}" bin/gasnetrun -n 2 out/sanitized/tests/rules "${rule%%:*}"
+done
+check "careless signal" 70 "gasnet_AMPoll is called while the thread is in another call" bin/gasnetrun -n 2 out/tests/careless signal
+for way in begin fork cancel-wait cancel-get; do # (AddressSanitizer leaves marks on the stack of a cancelled thread)
+    build=out/sanitized
+    [[ $way == cancel-* ]] && build=out
+    check "careless $way" 0 "" env ASAN_OPTIONS=detect_leaks=0 bin/gasnetrun -n 2 $build/tests/careless $way
+done
+careless_streams() { # two nodes without gasnetrun, whose sockets are their own
+    local port=$((20000 + RANDOM % 10000)) first
+    (alone 0 out/tests/careless streams) &
+    first=$!
+    (alone 1 out/tests/careless streams) && wait $first
+}
+export -f careless_streams
+check "careless streams" 0 "" bash -c careless_streams
+
 check "rule another-thread" 70 "gasnet_AMPoll is called by another thread than the one .*: define GASNET_PAR" \
     bin/gasnetrun -n 2 out/sanitized/tests/rules another-thread
 
