@@ -1,10 +1,12 @@
 #include "progress_thread.h"
 
 #include <errno.h>
+#include <fcntl.h>
 #include <inttypes.h>
 #include <pthread.h>
 #include <signal.h>
 #include <stdio.h>
+#include <stdlib.h>
 #include <string.h>
 #include <time.h>
 #include <unistd.h>
@@ -108,14 +110,39 @@ static enum why watch(struct gasnetl_job *job, enum why why) {
     return is_ready ? READY : DUE;
 }
 
+/* ---- Its look at the client's threads. */
+
+/* Whether none is left, by what Linux says of the process: the first one is a zombie, and this one is the other. */
+static bool is_left_alone(const struct gasnetl_progress_thread *thread) {
+    char text[1024], state = 0;
+    int threads = 0;
+    ssize_t length = pread(thread->stat, text, sizeof text - 1, 0);
+    text[length > 0 ? length : 0] = 0;
+    const char *behind_name = strrchr(text, ')');
+    return behind_name &&
+           sscanf(behind_name, ") %c%*d%*d%*d%*d%*d%*u%*u%*u%*u%*u%*u%*u%*d%*d%*d%*d%d", &state, &threads) == 2 &&
+           state == 'Z' && threads == 2;
+}
+
+/* Each half second: where none of the client's is left the process ends, as it would have without this one. */
+static void end_where_left(struct gasnetl_progress_thread *thread, uint64_t *next) {
+    uint64_t now = gasnetl_clock();
+    if (now < *next)
+        return;
+    *next = now + MOST_SLEEP;
+    if (is_left_alone(thread))
+        exit(0);
+}
+
 static bool is_over(const struct gasnetl_job *job) { return job->thread.ends || job->ender; }
 
 static void *run(void *at) {
     struct gasnetl_job *job = at;
-    uint64_t time = LEAST_NAP;
+    uint64_t time = LEAST_NAP, next_look = 0;
     enum why why = BEGINS;
     gasnetl_thread.is_own = true;
     while (!is_over(job)) {
+        end_where_left(&job->thread, &next_look);
         if (why != CALLED && take_turn(job)) {
             why = watch(job, why);
             time = LEAST_NAP;
@@ -157,6 +184,7 @@ void gasnetl_progress_thread_start(struct gasnetl_job *job) {
     struct gasnetl_progress_thread *thread = &job->thread;
     int error = 0;
     thread->alarm = gasnetl_event_new();
+    thread->stat = gasnetl_above_streams(open("/proc/self/stat", O_RDONLY | O_CLOEXEC));
     if (thread->alarm < 0 || sem_init(&thread->out, 0, 0))
         error = errno;
     gasnetl_progress_thread_polled(thread, gasnetl_clock());

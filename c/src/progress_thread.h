@@ -3,8 +3,8 @@
  * While the client polls, or sleeps in a call that waits, the thread has nothing to do: it looks at a clock each few
  * milliseconds. Where the client didn't poll for a millisecond it sleeps on the socket, until a datagram comes or
  * something is due; then it takes the turn and polls. No handler of the client's runs in that: datagrams that run one
- * are kept for the client's next poll. As the client comes back its first call wakes the thread once, so that the
- * socket does no more. */
+ * are kept for the client's next poll. Where all threads of the client's ended it ends the process. As the client comes
+ * back its first call wakes the thread once, so that the socket does no more. */
 #ifndef GASNETL_PROGRESS_THREAD_H
 #define GASNETL_PROGRESS_THREAD_H
 
@@ -19,6 +19,7 @@ struct gasnetl_job;
 struct gasnetl_progress_thread {
     pid_t process;           /* whose thread it is; 0 where there is none. A child that the client forks has none */
     int alarm;               /* an eventfd that wakes it */
+    int stat;                /* what Linux says of the process; -1 where it has no /proc */
     atomic_bool ends;        /* it is to end */
     atomic_bool watches;     /* it sleeps on the socket */
     _Atomic uint64_t polled; /* when a thread of the client last polled, in microseconds */

@@ -123,6 +123,17 @@ static _Noreturn void exit_beside_reader(void) {
     abort();
 }
 
+static void *end_later(void *nothing) {
+    usleep(SOON);
+    return nothing;
+}
+
+/* No thread of the client's is left, and nobody called exit. */
+static _Noreturn void end_threads(void) {
+    begin(end_later, 0);
+    pthread_exit(NULL);
+}
+
 int main(int argc, char **argv) {
     gasnet_handlerentry_t table[] = { { EXIT, exit_handler }, { LOCK, lock_handler } };
     const char *way = argc > 1 ? argv[1] : "";
@@ -135,6 +146,8 @@ int main(int argc, char **argv) {
     if (!strcmp(way, "malloc"))
         allocate_until_signal(atoi(argv[2]));
     barrier();
+    if (!strcmp(way, "threads"))
+        end_threads();
     serve(SETTLED); /* what the others lack of the barrier goes again */
     if (me) {       /* the others go on longer than it takes to find a peer gone, and then end too */
         serve(!strcmp(way, "two") ? LATER : 5 * SETTLED);

@@ -303,6 +303,7 @@ for build in out out/sanitized; do
     for way in two:0 return:0 handler:0 lock:3; do
         check "end of threads, ${way%:*}$kind" "${way#*:}" "" bin/gasnetrun -n 2 $build/tests/exits "${way%:*}"
     done
+    check "end of threads, all of them$kind" 0 "" timeout 30 bin/gasnetrun -n 2 $build/tests/exits threads
     check "end of threads, signals$kind" 0 "" bash -c \
         "for i in {1..30}; do timeout 20 $build/tests/exits signal \$((1000 + 7 * i)) || exit; done"
     check "end of threads, one reads$kind" 0 "" timeout 20 bin/gasnetrun -n 2 $build/tests/exits reader
