@@ -21,9 +21,11 @@ taken [] = 0
 taken (None ∷ later) = taken later
 taken (Some item ∷ later) = suc (taken later)
 
--- a record stands in the place
-abbrev pub HasRecordAt : List (Option OperationRecord) → (place : ℕ) → Type 0
-HasRecordAt places place = (there : OperationRecord) × (slice_get places place ≡ Some (Some there))
+-- the record of an operation of that number, in that region if it is in one, stands in the place
+abbrev pub IsRecordOf : List (Option OperationRecord) → (place number : ℕ) → (region : Option ℕ) → Type 0
+IsRecordOf places place number region =
+    (there : OperationRecord) × (slice_get places place ≡ Some (Some there)) × (there.number ≡ number)
+    × (there.region ≡ region)
 
 -- a test of a place: of what stands there
 abbrev pub on_place : (OperationRecord → Bool) → Option OperationRecord → Bool

@@ -6,8 +6,8 @@ ghost use Rattle.part_transfers.specs.declared.queue.Queued.{Queued};
 ghost use Rattle.part_transfers.specs.declared.table.Pick.TheVariants as pick;
 ghost use Rattle.part_transfers.specs.Syncs.{is_kind, flag_at};
 ghost use Rattle.part_transfers.specs.Table.{taken, is_unissued, waits_by, passes, picked, on_place, picks, ready, IsLeast};
-ghost use Rattle.part_transfers.specs.Table.{also, has_passing, AreMarks, IsPlaceOf, AreDropped, HasRecordAt};
-ghost use Rattle.part_transfers.specs.Table.{stands_by, regions_of};
+ghost use Rattle.part_transfers.specs.Table.{also, has_passing, AreMarks, IsPlaceOf, AreDropped, IsRecordOf};
+ghost use Rattle.part_transfers.specs.Table.{regions_of};
 ghost use Rattle.part_transfers.specs.Places.{record_places, IsIndexed};
 ghost use Rattle.std.specs.List.{list_any};
 
@@ -153,16 +153,6 @@ fn waits_by(place: Option<OperationRecord>) -> Option<u64>
     }
 }
 
-/// The number by which a place stands in the list of all: its operation's, if a record stands there.
-fn stands_by(place: Option<OperationRecord>) -> Option<u64>
-    ensures { result ≡ stands_by place }
-{
-    match place {
-        Some(operation) => Some(operation.number),
-        None => None,
-    }
-}
-
 /// 1 if a record stands there that is in a region, or else 0.
 fn regions_of(place: Option<OperationRecord>) -> usize
     ensures { result ≡ regions_of place }
@@ -298,16 +288,14 @@ impl Table {
         Some(place)
     }
 
-    /// Another record stands in a place that is taken.
+    /// The record of an operation becomes another one: of the same number, in the same region.
     pub fn change(&mut self, place: usize, operation: OperationRecord)
-        requires { HasRecordAt self.old place }
+        requires { IsRecordOf self.old place operation.number operation.region }
         ensures { self.new ≡ slice_set self.old place (Some operation) }
     {
         let was = self.at(place);
-        let now = Some(operation);
-        self.queue.change(place, waits_by(was), waits_by(now));
-        self.standing.change(place, stands_by(was), stands_by(now));
-        self.in_regions = self.in_regions - regions_of(was) + regions_of(now);
+        self.queue
+            .change(place, waits_by(was), waits_by(Some(operation)));
         self.records[place] = operation;
     }
 

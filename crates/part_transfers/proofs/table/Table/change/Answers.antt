@@ -1,11 +1,11 @@
-use Rattle.std.proofs.Common.{◌≡◌, true, ◌<◌, ◌+◌, ◌-◌, Some, set, is_some, refl, sym, ap, ◌∙◌, arith, subst}
+use Rattle.std.proofs.Common.{◌≡◌, true, inl, if◌then◌else◌, ◌<◌, ◌+◌, Some, set, is_some, refl, sym, ap, ◌∙◌, arith, subst}
 use Rattle.std.specs.List.{slice_get}
 use Rattle.std.proofs.lemmas.Option.{same_Some, slice_get_within}
 use Rattle.slab.specs.Slab.{get, with_value, Updates}
 use Rattle.slab.proofs.SlabLemmas.{Updates-with_value}
 use Rattle.part_transfers.specs.Queue.{Changes}
-use Rattle.part_transfers.specs.Table.{waits_by, stands_by}
-use Rattle.part_transfers.proofs.Places.{many_places, place_at, places_set, listed_here, counted, region_one, few, indexed_set}
+use Rattle.part_transfers.specs.Table.{waits_by, stands_by, regions_of}
+use Rattle.part_transfers.proofs.Places.{many_places, place_at, places_set, listed_here, indexed_set}
 use Rattle.part_transfers.proofs.table.Table.change.Goals as goal
 use Rattle.part_transfers.proofs.table.Table.change.Goals.{After-at-was}
 
@@ -48,30 +48,6 @@ change-requires-clause-waited c =
     listed_here waits_by c.self.inside.records c.self.inside.queue c.args.place c.waits_by.result (less before)
     c.self.invariant.waiting (ap waits_by (was before) ∙ sym c.waits_by.ensures)
 
-pub change-requires-2-clause-inside : goal.change-requires-2-clause-inside
-change-requires-2-clause-inside c = inside (goal.at.change-requires-2-clause-inside c).After-at-was
-
-pub change-requires-2-clause-waited : goal.change-requires-2-clause-waited
-change-requires-2-clause-waited c =
-    let before = (goal.at.change-requires-2-clause-waited c).After-at-was in
-    listed_here stands_by c.self.inside.records c.self.inside.standing c.args.place c.stands_by.result (less before)
-    c.self.invariant.listed (ap stands_by (was before) ∙ sym c.stands_by.ensures)
-
-pub overflow_sub-self : goal.overflow_sub-self
-overflow_sub-self c =
-    let fields = c.self.inside in
-    let before = (goal.at.overflow_sub-self c).After-at-was in
-    let one = counted fields.records fields.queue fields.standing fields.in_regions c.args.place c.at-was.result
-    c.self.invariant (inside before) (was before) in
-    omega (arith, one, c.regions_of.ensures)
-
-pub overflow_add-self : goal.overflow_add-self
-overflow_add-self c =
-    let fields = c.self.inside in
-    let most = few fields.records fields.queue fields.standing fields.in_regions c.self.invariant in
-    let one = region_one (Some c.args.operation) in
-    omega (arith, most, one, c.regions_of-2.ensures)
-
 pub index_mut-requires : goal.index_mut-requires
 index_mut-requires c = taken (goal.at.index_mut-requires c).After-at-was
 
@@ -79,21 +55,19 @@ pub invariant_of-self : goal.invariant_of-self
 invariant_of-self c =
     let fields = c.self.inside in
     let place = c.args.place in
+    let now = Some c.args.operation in
     let before = (goal.at.invariant_of-self c).After-at-was in
-    let one = counted fields.records fields.queue fields.standing fields.in_regions place c.at-was.result
-    c.self.invariant (inside before) (was before) in
+    let is : c.at-was.result ≡ Some c.requires.0 = same_Some _ _ (sym c.at-was.ensures ∙ c.requires.1) in
+    let number : stands_by c.at-was.result ≡ stands_by now = ap stands_by is ∙ ap Some c.requires.2 in
+    let region : regions_of c.at-was.result ≡ regions_of now =
+    ap regions_of is ∙ ap (λ name. if is_some name then 1 else 0) c.requires.3 in
     indexed_set fields.records (with_value fields.records place c.args.operation) fields.queue c.change.new.self
-    fields.standing c.change-2.new.self fields.in_regions
-    (fields.in_regions - c.regions_of.result + c.regions_of-2.result) place c.at-was.result (Some c.args.operation)
-    c.self.invariant (updates before) refl (inside before) (was before)
-    (subst (λ old. Changes place old (waits_by (Some c.args.operation)) fields.queue c.change.new.self) c.waits_by.ensures
-    (subst (λ now. Changes place c.waits_by.result now fields.queue c.change.new.self) c.waits_by-2.ensures
+    fields.standing fields.standing fields.in_regions fields.in_regions place c.at-was.result now c.self.invariant
+    (updates before) refl (inside before) (was before)
+    (subst (λ old. Changes place old (waits_by now) fields.queue c.change.new.self) c.waits_by.ensures
+    (subst (λ later. Changes place c.waits_by.result later fields.queue c.change.new.self) c.waits_by-2.ensures
     c.change.ensures))
-    (subst (λ old. Changes place old (stands_by (Some c.args.operation)) fields.standing c.change-2.new.self)
-    c.stands_by.ensures
-    (subst (λ now. Changes place c.stands_by.result now fields.standing c.change-2.new.self) c.stands_by-2.ensures
-    c.change-2.ensures))
-    (omega (arith, one, c.regions_of.ensures, c.regions_of-2.ensures))
+    (inl (number, refl)) (ap (λ r. fields.in_regions + r) region)
 
 pub returns : goal.returns
 returns c =
