@@ -8,10 +8,12 @@ use Rattle.std.proofs.lemmas.Option.{same_Some}
 use Rattle.part_transfers.specs.declared.table.OperationRecord.{OperationRecord}
 use Rattle.part_transfers.specs.declared.table.Pick.TheVariants as pick
 use Rattle.part_transfers.specs.declared.table.Check.{Check}
-use Rattle.part_transfers.specs.declared.table.Check.TheVariants.{Any, Others, Unissued, UnissuedTo, Unfinished}
+use Rattle.part_transfers.specs.declared.table.Check.TheVariants.{Any, Others, Unissued, UnissuedTo, Unfinished, Open}
 use Rattle.part_transfers.specs.declared.operation.ImplicitKinds.{ImplicitKinds}
+use Rattle.part_transfers.specs.declared.operation.Synced.TheVariants.{Ok}
 use Rattle.part_transfers.specs.Operation.{Operation, Sent, returned_of, has_next, is_complete, target}
 use Rattle.part_transfers.specs.Syncs.{Choice, chosen, members, in_region, is_name, is_empty, is_other, implicit_of}
+use Rattle.part_transfers.specs.Syncs.{members_answer}
 use Rattle.part_transfers.specs.Table.{on_place, picked, passes, has_passing}
 use Rattle.part_transfers.specs.Stands.{kept, Keeps, Agrees, member_in}
 use Rattle.part_transfers.proofs.Tests.{same_test, any_at, any_from}
@@ -99,6 +101,10 @@ region_agrees handle = record {
       (and_parts (not operation.synced) (is_name handle operation.region) is).0;
 }
 
+or_parts : (one other : Bool) → (one || other) ≡ false → (one ≡ false) × (other ≡ false)
+or_parts true other is = absurd (true≢false is)
+or_parts false other is = (refl, is)
+
 flipped : (operations : List Operation)
     → list_any (λ (operation : Operation). true) operations ≡ not (is_empty operations)
 flipped [] = refl
@@ -113,7 +119,7 @@ any_there places operations choice test K A =
     any_is places operations choice test (λ operation. true) (passes Any) K A (λ number operation. refl)
     ∙ flipped (chosen choice 1 operations)
 
-and_true : (test : Bool) → (test && true) ≡ test
+pub and_true : (test : Bool) → (test && true) ≡ test
 and_true true = refl
 and_true false = refl
 
@@ -166,6 +172,43 @@ implicit_agree thread which = record {
   chosen = λ number operation stands. rw stands refl;
   open_only = λ number operation goes. not-true operation.synced (and_parts (not operation.synced) _ goes).0;
 }
+
+-- what is settled is all the thread's own, and complete
+others_open : (thread : ℕ) (there : OperationRecord) → passes (Open thread) there ≡ false
+    → passes (Others thread) there ≡ false
+others_open thread there is = elim (cases_Bool (passes (Others thread) there)) [
+  | inl other ↦ absurd (true≢false (sym (rw other refl) ∙ is))
+  | inr own ↦ own
+]
+
+unfinished_open : (thread : ℕ) (there : OperationRecord) → passes (Open thread) there ≡ false
+    → passes Unfinished there ≡ false
+unfinished_open thread there is = elim (cases_Bool (passes (Others thread) there)) [
+  | inl other ↦ absurd (true≢false (sym (rw other refl) ∙ is))
+  | inr own ↦ rw own at is
+]
+
+-- where none passes that asks less, none passes
+none_weaker : (test : OperationRecord → Bool) (check weaker : Check) (places : List (Option OperationRecord))
+    → ((there : OperationRecord) → passes weaker there ≡ false → passes check there ≡ false)
+    → has_passing test weaker places ≡ false → has_passing test check places ≡ false
+none_weaker test check weaker [] less none = refl
+none_weaker test check weaker (None ∷ places) less none = none_weaker test check weaker places less none
+none_weaker test check weaker (Some there ∷ places) less none =
+    let parts = or_parts (test there && passes weaker there) (has_passing test weaker places) none in
+    let later = none_weaker test check weaker places less parts.1 in
+    elim (cases_Bool (test there)) [
+      | inr isnt ↦ rw isnt later
+      | inl is ↦ (let fails = less there (rw is at parts.0) in rw (is, fails) later)
+    ]
+
+pub no_others : (test : OperationRecord → Bool) (thread : ℕ) (places : List (Option OperationRecord))
+    → has_passing test (Open thread) places ≡ false → has_passing test (Others thread) places ≡ false
+no_others test thread places none = none_weaker test (Others thread) (Open thread) places (others_open thread) none
+
+pub none_unfinished : (test : OperationRecord → Bool) (thread : ℕ) (places : List (Option OperationRecord))
+    → has_passing test (Open thread) places ≡ false → has_passing test Unfinished places ≡ false
+none_unfinished test thread places none = none_weaker test Unfinished (Open thread) places (unfinished_open thread) none
 
 -- ---- complete
 
@@ -235,3 +278,30 @@ pub to_is : (places : List (Option OperationRecord)) (operations : List Operatio
 to_is places operations choice test node K A =
     any_is places operations choice test (λ operation. has_next operation && (target operation.transfer == node))
     (passes (UnissuedTo node)) K A (λ number operation. refl)
+
+-- ---- a sync of what is settled
+
+pub settled_complete : (places : List (Option OperationRecord)) (operations : List Operation) (choice : Choice)
+    (test : OperationRecord → Bool) (thread : ℕ)
+    → Keeps places operations → Agrees choice test
+    → (has_passing test Any places && not (has_passing test (Open thread) places)) ≡ true
+    → list_all is_complete (chosen choice 1 operations) ≡ true
+settled_complete places operations choice test thread K A settled =
+    let parts = and_parts (has_passing test Any places) (not (has_passing test (Open thread) places)) settled in
+    complete_is places operations choice test K A
+    ∙ ap not (none_unfinished test thread places (not-true (has_passing test (Open thread) places) parts.1))
+
+pub settled_answer : (places : List (Option OperationRecord)) (operations : List Operation) (choice : Choice)
+    (test : OperationRecord → Bool) (exhausted : ℕ → Bool) (thread : ℕ)
+    → Keeps places operations → Agrees choice test
+    → (has_passing test Any places && not (has_passing test (Open thread) places)) ≡ true
+    → Ok ≡ members_answer exhausted thread (chosen choice 1 operations)
+settled_answer places operations choice test exhausted thread K A settled =
+    let parts = and_parts (has_passing test Any places) (not (has_passing test (Open thread) places)) settled in
+    let there = any_there places operations choice test K A in
+    let others = others_is places operations choice test thread K A in
+    rw (
+      not-true (is_empty (chosen choice 1 operations)) (sym there ∙ parts.0),
+      sym others ∙ no_others test thread places (not-true (has_passing test (Open thread) places) parts.1),
+      settled_complete places operations choice test thread K A settled,
+    ) refl

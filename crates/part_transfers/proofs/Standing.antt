@@ -1,5 +1,5 @@
 -- What the list of all says of the records.
-use Rattle.std.proofs.Common.{◌≡◌, ◌⊎◌, inl, inr, ℕ, ◌+◌, ◌<◌, ◌≤◌, Bool, true, false, ◌||◌, List, Option, Some, None}
+use Rattle.std.proofs.Common.{◌≡◌, ◌⊎◌, inl, inr, ℕ, ◌+◌, ◌<◌, ◌≤◌, Bool, true, false, true≢false, ◌||◌, List, Option, Some, None}
 use Rattle.std.proofs.Common.{length, set, refl, sym, ap, ◌∙◌, arith}
 use Rattle.std.specs.List.{slice_get, list_any}
 use Rattle.std.proofs.lemmas.Bool.{cases_Bool, cases_eq}
@@ -10,7 +10,7 @@ use Rattle.part_transfers.specs.declared.table.OperationRecord.{OperationRecord}
 use Rattle.part_transfers.specs.declared.queue.Queued.{Queued}
 use Rattle.part_transfers.specs.Queue.{Queues}
 use Rattle.part_transfers.specs.Table.{flat, on_place, stands_by, stands_at, also, AreMarks}
-use Rattle.part_transfers.proofs.Tests.{none_picked}
+use Rattle.part_transfers.proofs.Tests.{any_from, none_picked}
 
 -- the entry of a record
 pub entry_of : (places : List (Option OperationRecord)) (standing : List Queued) (place : ℕ) (there : OperationRecord)
@@ -83,6 +83,43 @@ none_stands test by_place places standing from end Q inside same none = none_pic
           let spot = inside found.0 entry there found.1 refl holds in
           sym (same place there at) ∙ none found.0 entry there spot.0 spot.1 found.1 at)
     ]
+
+-- whether one of the entries from one up to another has a record of which the test holds
+pub record Tells (test : OperationRecord → Bool) (places : List (Option OperationRecord)) (standing : List Queued)
+    (from end : ℕ) (flag : Bool) : Type 0 where
+  pub some : flag ≡ true → list_any (on_place test) places ≡ true
+  pub none : flag ≡ false → NoneOf (λ place. test) places standing from end
+
+pub tells_none : (test : OperationRecord → Bool) (places : List (Option OperationRecord)) (standing : List Queued)
+    (from : ℕ) → Tells test places standing from from false
+tells_none test places standing from = record {
+  some = λ is. absurd (true≢false (sym is));
+  none = λ is index entry there low high at here. absurd (omega (arith, low, high));
+}
+
+pub tells_more : (test : OperationRecord → Bool) (places : List (Option OperationRecord)) (standing : List Queued)
+    (from end : ℕ) (flag : Bool) (entry : Queued) (place : Option OperationRecord)
+    → Tells test places standing from end flag → slice_get standing end ≡ Some entry
+    → slice_get places entry.place ≡ Some place
+    → Tells test places standing from (end + 1) (flag || on_place test place)
+tells_more test places standing from end true entry place T at here = record {
+  some = λ is. T.some refl;
+  none = λ is. absurd (true≢false is);
+}
+tells_more test places standing from end false entry place T at here = record {
+  some = λ is. any_from (on_place test) places entry.place place here is;
+  none = λ is. none_more (λ spot. test) places standing from end entry place at here is (T.none refl);
+}
+
+pub tells_all : (test : OperationRecord → Bool) (places : List (Option OperationRecord)) (standing : List Queued)
+    (from end : ℕ) (flag : Bool)
+    → Queues (stands_at places) standing
+    → ((index : ℕ) (entry : Queued) (there : OperationRecord) → slice_get standing index ≡ Some entry
+    → there.number ≡ entry.number → test there ≡ true → (from ≤ index) × (index < end))
+    → Tells test places standing from end flag → flag ≡ list_any (on_place test) places
+tells_all test places standing from end true Q inside T = sym (T.some refl)
+tells_all test places standing from end false Q inside T =
+    sym (none_stands test (λ place. test) places standing from end Q inside (λ place there at. refl) (T.none refl))
 
 -- ---- marks
 

@@ -6,7 +6,7 @@ use Rattle.part_transfers.specs.declared.table.OperationRecord.{OperationRecord}
 use Rattle.part_transfers.specs.declared.table.Pick.{Pick}
 use Rattle.part_transfers.specs.declared.table.Pick.TheVariants as pick
 use Rattle.part_transfers.specs.declared.table.Check.{Check}
-use Rattle.part_transfers.specs.declared.table.Check.TheVariants.{Any, Others, Unissued, UnissuedTo, Unfinished}
+use Rattle.part_transfers.specs.declared.table.Check.TheVariants.{Any, Others, Unissued, UnissuedTo, Unfinished, Open}
 use Rattle.part_transfers.specs.Operation.{target, size, chunks}
 use Rattle.part_transfers.specs.Syncs.{is_name, is_kind}
 
@@ -67,6 +67,8 @@ passes (Others thread) there = not (there.thread == thread)
 passes Unissued there = is_unissued there
 passes (UnissuedTo node) there = is_unissued there && (target there.transfer == node)
 passes Unfinished there = is_unissued there || nat_lt there.returned there.issued
+passes (Open thread) there =
+    not (there.thread == thread) || (is_unissued there || nat_lt there.returned there.issued)
 
 -- a record stands in the place, is marked, and passes
 abbrev pub picks : (mark : Bool) → Check → Option OperationRecord → Bool

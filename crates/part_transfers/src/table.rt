@@ -4,6 +4,7 @@ ghost use Rattle.std.specs.Prelude.{◌≡◌, ◌<◌, ◌≤◌, ℕ, List, Op
 ghost use Rattle.std.specs.Prelude.{slice_set, remove, IfOk, IfSome, IfNone, Bool, true, not, ◌||◌, ◌&&◌};
 ghost use Rattle.part_transfers.specs.declared.queue.Queued.{Queued};
 ghost use Rattle.part_transfers.specs.declared.table.Pick.TheVariants as pick;
+ghost use Rattle.part_transfers.specs.declared.table.Check.TheVariants.{Any, Open};
 ghost use Rattle.part_transfers.specs.Syncs.{is_kind, flag_at};
 ghost use Rattle.part_transfers.specs.Table.{taken, is_unissued, waits_by, passes, picked, on_place, picks, ready, IsLeast};
 ghost use Rattle.part_transfers.specs.Table.{also, has_passing, AreMarks, IsPlaceOf, AreDropped, IsRecordOf};
@@ -48,6 +49,8 @@ pub(crate) enum Check {
     Unissued,
     UnissuedTo(u16),
     Unfinished,
+    /// Another thread's, or unfinished.
+    Open(u16),
 }
 
 fn is_kind(which: ImplicitKinds, transfer: Transfer) -> bool
@@ -78,6 +81,9 @@ impl OperationRecord {
             Check::Unissued => self.is_unissued(),
             Check::UnissuedTo(node) => self.is_unissued() && self.transfer.target() == node,
             Check::Unfinished => self.is_unissued() || self.returned < self.issued,
+            Check::Open(thread) => {
+                self.thread != thread || (self.is_unissued() || self.returned < self.issued)
+            }
         }
     }
 
@@ -347,6 +353,24 @@ impl Table {
             }
         }
         false
+    }
+
+    /// Whether some record is meant, and all that are meant are the thread's own and complete. It goes through them once,
+    /// up to the first one that isn't.
+    pub fn is_settled(&self, pick: Pick, thread: u16) -> bool
+        ensures { result ≡ has_passing (picked pick) Any self.now
+            && not (has_passing (picked pick) (Open thread) self.now) }
+    {
+        let (from, end) = run(&self.standing, pick);
+        let mut any = false;
+        for index in from..end {
+            let operation = self.at(self.standing.at(index).place);
+            if is_match(operation, pick, Check::Open(thread)) {
+                return false;
+            }
+            any = either(any, is_picked(operation, pick));
+        }
+        any
     }
 
     /// Marks the places of the records that are meant.

@@ -338,6 +338,10 @@ impl Transfers {
             return Synced::Ok;
         }
         let pick = self.members(handle.serial);
+        if self.table.is_settled(pick, thread) {
+            self.table.drop_picked(pick);
+            return Synced::Ok;
+        }
         match self.fault(thread, pick) {
             Some(fault) => fault,
             None => self.sync_picked(exhausted, pick),

@@ -2,9 +2,34 @@ use Rattle.std.proofs.Common.{sym, ap, ◌∙◌, ne_eqb}
 use Rattle.part_transfers.specs.Syncs.{members, flag_at, sync_answer, chosen, unless_fault}
 use Rattle.part_transfers.specs.Stands.{member_in}
 use Rattle.part_transfers.specs.Table.{picked}
-use Rattle.part_transfers.proofs.Members.{members_agree, agrees_by}
+use Rattle.part_transfers.proofs.Members.{members_agree, agrees_by, settled_answer, settled_complete}
+use Rattle.part_transfers.proofs.Gone.{stands_gone}
 use Rattle.part_transfers.proofs.Lists.{here_stays}
 use Rattle.part_transfers.proofs.transfers.Transfers.try_sync.Goals as goal
+
+pub returns-then-is_settled-clause-answer : goal.returns-then-is_settled-clause-answer
+returns-then-is_settled-clause-answer c operations S =
+    let table = c.args.self.now.table in
+    let handle = c.args.handle.serial in
+    let test = picked c.members-pick.result in
+    let A = agrees_by (members handle operations) (member_in table handle) test c.members-pick.ensures
+    (members_agree table operations handle S.keeps) in
+    rw (ne_eqb handle 0 c.if-handle-eq0.false)
+    (settled_answer table operations (members handle operations) test (flag_at c.args.exhausted.now) c.args.thread S.keeps
+    A (sym c.is_settled.ensures ∙ c.if-is_settled.true))
+
+pub returns-then-is_settled-clause-stands : goal.returns-then-is_settled-clause-stands
+returns-then-is_settled-clause-stands c operations S =
+    let table = c.args.self.now.table in
+    let handle = c.args.handle.serial in
+    let test = picked c.members-pick.result in
+    let A = agrees_by (members handle operations) (member_in table handle) test c.members-pick.ensures
+    (members_agree table operations handle S.keeps) in
+    rw (ne_eqb handle 0 c.if-handle-eq0.false)
+    (stands_gone c.args.self.now c.drop_picked.new.self operations (members handle operations) test S A
+    c.drop_picked.ensures
+    (settled_complete table operations (members handle operations) test c.args.thread S.keeps A
+    (sym c.is_settled.ensures ∙ c.if-is_settled.true)))
 
 pub returns-in-Some-clause-answer : goal.returns-in-Some-clause-answer
 returns-in-Some-clause-answer c operations S =
