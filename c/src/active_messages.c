@@ -125,7 +125,7 @@ static void read_args(gasnet_handlerarg_t *args, const uint8_t *bytes, uint32_t 
 }
 
 /* The payload as the handler sees it: a Long's at its place, a Medium's in a buffer. Both are copies, since the handler
- * may change them, and the datagram is delivered as it came. The delivery stores nothing at a Long's place any more. */
+ * may change them, and the datagram is delivered as it came. The delivery stores nothing at a Long's place. */
 static uint8_t *payload_for(struct gasnetl_job *job, const gasnet_c_coming *coming, const uint8_t *payload) {
     uint8_t *seen = coming->category == LONG ? job->segment.base + coming->place : job->messages.medium;
     memcpy(seen, payload, coming->payload_len);

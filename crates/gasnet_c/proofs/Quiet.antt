@@ -8,19 +8,19 @@ use Rattle.node_core.specs.InPlace.{IsQuiet}
 use Rattle.gasnet_c.specs.Replayed.{asking}
 use Rattle.gasnet_c.specs.declared.replay.Reply.{Reply}
 
-quiet-either : {one other : Outcome} (test : Bool) → one.writes ≡ [] → other.writes ≡ []
+quiet-either : (one other : Outcome) (test : Bool) → one.writes ≡ [] → other.writes ≡ []
     → (if test then one else other).writes ≡ []
-quiet-either true one other = one
-quiet-either false one other = other
+quiet-either one other true first second = first
+quiet-either one other false first second = second
 
 asking_writes : (reply : Reply) (frame : Frame) (start : Start) → (asking reply frame start).writes ≡ []
 asking_writes reply frame start =
     let args = reply.args.now in
     let payload = reply.payload.now in
-    quiet-either (reply.category == 0) (writes-replying frame (short_reply reply.handler args) (untouched start))
-    (quiet-either (reply.category == 1)
+    quiet-either _ _ (reply.category == 0) (writes-replying frame (short_reply reply.handler args) (untouched start))
+    (quiet-either _ _ (reply.category == 1)
     (writes-replying frame (medium_reply reply.handler args payload) (untouched start))
-    (quiet-either (reply.category == 2)
+    (quiet-either _ _ (reply.category == 2)
     (writes-replying frame (long_reply reply.handler args reply.offset payload) (untouched start)) refl))
 
 pub asking_quiet : (reply : Reply) → IsQuiet (λ handler frame start. asking reply frame start)
