@@ -1,37 +1,34 @@
 -- A trace that isn't read, line by line.
 use Rattle.std.proofs.Common.{◌≡◌, ◌⊎◌, inl, inr, ℕ, zero, suc, ◌+◌, ◌<◌, ◌^◌, List, [], ◌∷◌, ◌++◌, length, map, Option}
 use Rattle.std.proofs.Common.{Some, None, Bool, true, false, ltb, cond, Result, Ok, Err, is_none, option_to_list}
-use Rattle.std.proofs.Common.{refl, sym, ap, subst, ◌∙◌, append-nil, append_assoc, arith, codes, ◌-◌, decimal, drop, length-append}
+use Rattle.std.proofs.Common.{refl, sym, ap, subst, ◌∙◌, append_assoc, arith, codes, ◌-◌, decimal, drop, length-append}
 use Rattle.std.specs.List.{AllByRecursion}
 use Rattle.std.proofs.lemmas.List.{map-append}
 use Rattle.base_turns.specs.declared.entry.Entry.{Entry}
-use Rattle.text_trace.specs.declared.fault.TraceFault.{TraceFault}
-use Rattle.text_trace.specs.declared.fault.TraceFault.TheVariants as faults
 use Rattle.base_text.specs.declared.why.LineWhy.{LineWhy}
 use Rattle.base_text.specs.declared.why.LineWhy.TheVariants.{Form, Value}
 use Rattle.text_trace.specs.declared.trace.Trace.{Trace}
 use Rattle.base_text.specs.Lines.{Word}
 use Rattle.base_text.specs.LineTexts.{Line, IsLine, line_text}
 use Rattle.text_trace.specs.TraceText.{IsEntry, IsTrace, end_line, entry_line, entry_lines, line_of_number, trace_lines}
-use Rattle.text_trace.specs.TraceText.{got_word, trace_text}
+use Rattle.text_trace.specs.TraceText.{got_word}
 use Rattle.base_text.specs.Chains.{◌>>=◌}
 use Rattle.text_trace.specs.TraceReading.{BadLine, decoded_bytes, entries_at, entry_of, got_of, is_end, entry_or_end}
 use Rattle.text_trace.specs.TraceReading.{number_between, read_line, second_of, few_got, setting_of, thread_of}
 use Rattle.base_text.specs.HexBytes.{pairs_of}
 use Rattle.base_text.specs.Words.{number_of}
-use Rattle.text_trace.specs.TraceReading.{trace_at, turn_of, TurnWords, with_front, within}
-use Rattle.text_trace.specs.TraceRead.{FailsAt}
-use Rattle.text_trace.specs.LineRefusals.{IsMeant, Means, TextKind}
+use Rattle.text_trace.specs.TraceReading.{turn_of, TurnWords, with_front, within}
+use Rattle.text_trace.specs.LineRefusals.{Means, TextKind}
 use Rattle.text_trace.specs.TraceRefusals.{AtVersion, AtJob, AtRank, AtEntries, HasForm, IsNamed, MayStand, TracePlace}
-use Rattle.text_trace.specs.TraceRefusals.{place_behind, trace_kind}
-use Rattle.text_trace.proofs.LineLaws.{ok_is, read_takes}
+use Rattle.text_trace.specs.TraceRefusals.{place_behind}
+use Rattle.text_trace.proofs.LineLaws.{read_takes}
 use Rattle.text_trace.proofs.LineRefused.{HasLines, NoForm, NoValue, Reached, Refuses, Walked, Wrongly}
 use Rattle.text_trace.proofs.LineRefused.{bind_err, err_is, fails_behind, line_err, ok_err, reach_on}
-use Rattle.text_trace.proofs.WordLaws.{IsIn, IsNext, end_is_line, entry_is_line, narrow, next_again, next_end}
+use Rattle.text_trace.proofs.WordLaws.{IsIn, IsNext, end_is_line, entry_is_line, next_again, next_end}
 use Rattle.text_trace.proofs.WordLaws.{next_takes, number_is_line, second_again, second_takes, setting_again}
-use Rattle.text_trace.proofs.WordLaws.{turn_again, turn_takes, wide}
-use Rattle.text_trace.proofs.TraceLaws.{after_job, after_rank, after_version, job_word, line_long, rank_word}
-use Rattle.text_trace.proofs.TraceLaws.{setting_line, trace_again, trace_word}
+use Rattle.text_trace.proofs.WordLaws.{turn_again, turn_takes}
+use Rattle.text_trace.proofs.TraceLaws.{job_word, line_long, rank_word}
+use Rattle.text_trace.proofs.TraceLaws.{trace_word}
 use Rattle.base_lists.proofs.Members.{all_append}
 
 -- ---- words that are refused
@@ -150,24 +147,6 @@ one_number name n fits words why h = wrong (setting_wrong name n n words why h)
       most = omega arith;
       fits = fits;
     }) e)
-
-job_wrong : (version threads : ℕ)
-    → Refuses (HasForm AtJob) (MayStand version threads AtJob) (setting_of (codes "job") 0 (2 ^ 64 - 1))
-job_wrong version threads words why h = wrong (setting_wrong (codes "job") 0 (2 ^ 64 - 1) words why h)
-  where
-    wrong : SettingWrong (codes "job") 0 (2 ^ 64 - 1) words why
-        → Wrongly (HasForm AtJob) (MayStand version threads AtJob) words why
-    wrong (OtherForm is none) = NoForm is none
-    wrong (OtherNumber is named none) = NoValue is named (λ may. none may.0 (wide may.0 may.1.0) may.1.1)
-
-rank_wrong : (version threads : ℕ)
-    → Refuses (HasForm AtRank) (MayStand version threads AtRank) (setting_of (codes "rank") 0 65535)
-rank_wrong version threads words why h = wrong (setting_wrong (codes "rank") 0 65535 words why h)
-  where
-    wrong : SettingWrong (codes "rank") 0 65535 words why
-        → Wrongly (HasForm AtRank) (MayStand version threads AtRank) words why
-    wrong (OtherForm is none) = NoForm is none
-    wrong (OtherNumber is named none) = NoValue is named (λ may. none may.0 (narrow may.0 may.1.0) may.1.1)
 
 -- an entry, or the line `end`
 not_end : (threads : ℕ) (words : Line) (why : LineWhy) → entry_or_end threads words ≡ Err why → words ≡ end_line → ⊥
@@ -369,33 +348,6 @@ module _ {A : Type 0} (kind : TextKind A) (has : HasLines kind) (threads : ℕ) 
 
 -- ---- the lines of a trace
 
--- no trace's text begins with another's
-pub traces_alone : (version threads : ℕ) (one other : Trace) (more : List ℕ) → version < 2 ^ 64 → IsTrace threads one
-    → IsTrace threads other → trace_text version other ≡ trace_text version one ++ more → more ≡ []
-traces_alone version threads one other more fits is is_other e =
-    let found = trace_again version threads one more fits is in
-    let whole = ap (trace_at version threads) (append-nil (trace_text version other))
-    ∙ ap (trace_at version threads) e ∙ found in
-    let read = trace_again version threads other [] fits is_other in
-    ap (λ (x : Trace × List ℕ). x.1) (sym (ok_is (other, []) (one, more) (sym read ∙ whole)))
-
-abbrev pub trace_has : (version threads : ℕ) → version < 2 ^ 64 → HasLines (trace_kind version threads)
-trace_has version threads fits = record {
-  lines_of = trace_lines version;
-  text_is = λ one. refl;
-  are = λ one is. lines_are version threads one fits is;
-  stands = stands version threads;
-  form_of = λ lines words may. form_of version threads (place_behind lines) words may;
-  alone = λ one other more is is_other e. traces_alone version threads one other more fits is is_other e;
-}
-
-abbrev least_trace : (job rank : ℕ) → List Entry → Trace
-least_trace job rank entries = record { job = job; rank = rank; entries = entries }
-
-is_least : (threads job rank : ℕ) (entries : List Entry) → job < 2 ^ 64 → rank < 2 ^ 16
-    → AllByRecursion (IsEntry threads) entries → IsTrace threads (least_trace job rank entries)
-is_least threads job rank entries few small is = record { job = few; rank = small; entries = is }
-
 -- the first lines of a trace
 abbrev pub head_of : (version job rank : ℕ) → List Line
 head_of version job rank =
@@ -410,136 +362,3 @@ head_are version job rank fits few small = (
     (number_is_line (codes "rank") rank rank_word (omega arith), tt),
   ),
 )
-
-module _ (version threads : ℕ) (fits : version < 2 ^ 64) (bytes : List ℕ) (bad : BadLine) where
-  abbrev kind : TextKind Trace
-  kind = trace_kind version threads
-
-  abbrev has : HasLines kind
-  has = trace_has version threads fits
-
-  entered : (job rank : ℕ) → job < 2 ^ 64 → rank < 2 ^ 16 → HasEntries kind has threads (head_of version job rank)
-  entered job rank few small = record {
-    walked = λ entries is. record {
-      one = least_trace job rank entries;
-      is = is_least threads job rank entries few small is;
-      next = end_line;
-      others = [];
-      all = refl;
-      are = all_append IsLine (head_of version job rank) (map entry_line entries)
-          (head_are version job rank fits few small) (mapped_lines threads entries is);
-    };
-    refuses = λ entries. entry_wrong version threads;
-  }
-
-  -- the line of the rank, and the entries
-  entries_by : (job rank : ℕ) (rest : List ℕ) → job < 2 ^ 64 → rank < 2 ^ 16
-      → Reached kind has (head_of version job rank) bytes rest
-      → (entries_at (length rest + 1) threads 4 rest ≡ Err bad) ⊎ ((y : List Entry × List ℕ)
-      × ((entries_at (length rest + 1) threads 4 rest ≡ Ok y) × (◌≡◌ {A = Result (Trace × List ℕ) BadLine}
-      (Ok (record { job = job; rank = rank; entries = y.0 }, y.1)) (Err bad))))
-      → Means kind bytes bad.line bad.why
-  entries_by job rank rest few small reached (inl e) =
-      entries_mean kind has threads (head_of version job rank) (entered job rank few small) bytes (length rest + 1) 4 []
-      rest bad (omega arith) tt reached refl e
-  entries_by job rank rest few small reached (inr y) = absurd (ok_err refl y.1.1)
-
-  third_by : (job : ℕ) (rest : List ℕ) → job < 2 ^ 64
-      → Reached kind has (line_of_number (codes "trace") version ∷ line_of_number (codes "job") job ∷ []) bytes rest
-      → (read_line 3 (setting_of (codes "rank") 0 65535) rest ≡ Err bad) ⊎ ((x : ℕ × List ℕ)
-      × ((read_line 3 (setting_of (codes "rank") 0 65535) rest ≡ Ok x) × (after_rank threads job x ≡ Err bad)))
-      → Means kind bytes bad.line bad.why
-  third_by job rest few reached (inl e) =
-      fails_behind kind has (line_of_number (codes "trace") version ∷ line_of_number (codes "job") job ∷ []) bytes rest
-      3 (setting_of (codes "rank") 0 65535) bad reached refl (rank_wrong version threads)
-      (line_err 3 (setting_of (codes "rank") 0 65535) rest bad e)
-  third_by job rest few reached (inr x) =
-      let s = setting_line 3 (codes "rank") 0 65535 rest x.0 x.1.0 in
-      let rank = (x.0).0 in
-      let small : rank < 2 ^ 16 = let m = s.1.most in omega arith in
-      let on = reach_on kind has (line_of_number (codes "trace") version ∷ line_of_number (codes "job") job ∷ [])
-      (line_of_number (codes "rank") rank) bytes rest (x.0).1 reached s.0 ((entered job rank few small).walked [] tt) in
-      entries_by job rank (x.0).1 few small on
-      (bind_err (entries_at (length (x.0).1 + 1) threads 4 (x.0).1) (λ es. Ok (
-        record {
-          job = job;
-          rank = rank;
-          entries = es.0;
-        },
-        es.1,
-      )) bad x.1.1)
-
-  -- the line of the job
-  second_by : (rest : List ℕ) → Reached kind has (line_of_number (codes "trace") version ∷ []) bytes rest
-      → (read_line 2 (setting_of (codes "job") 0 (2 ^ 64 - 1)) rest ≡ Err bad) ⊎ ((x : ℕ × List ℕ)
-      × ((read_line 2 (setting_of (codes "job") 0 (2 ^ 64 - 1)) rest ≡ Ok x) × (after_job threads x ≡ Err bad)))
-      → Means kind bytes bad.line bad.why
-  second_by rest reached (inl e) =
-      fails_behind kind has (line_of_number (codes "trace") version ∷ []) bytes rest 2
-      (setting_of (codes "job") 0 (2 ^ 64 - 1)) bad reached refl (job_wrong version threads)
-      (line_err 2 (setting_of (codes "job") 0 (2 ^ 64 - 1)) rest bad e)
-  second_by rest reached (inr x) =
-      let s = setting_line 2 (codes "job") 0 (2 ^ 64 - 1) rest x.0 x.1.0 in
-      let job = (x.0).0 in
-      let walked : Walked kind has (line_of_number (codes "trace") version ∷ line_of_number (codes "job") job ∷ []) = record {
-        one = least_trace job 0 [];
-        is = is_least threads job 0 [] s.1.fits (omega arith) tt;
-        next = line_of_number (codes "rank") 0;
-        others = end_line ∷ [];
-        all = refl;
-        are = (
-          number_is_line (codes "trace") version trace_word fits,
-          (number_is_line (codes "job") job job_word s.1.fits, tt),
-        );
-      } in
-      third_by job (x.0).1 s.1.fits
-      (reach_on kind has (line_of_number (codes "trace") version ∷ []) (line_of_number (codes "job") job) bytes rest
-      (x.0).1 reached s.0 walked) (bind_err (read_line 3 (setting_of (codes "rank") 0 65535) (x.0).1)
-      (after_rank threads job) bad x.1.1)
-
-  -- the line of the version
-  first_by : (read_line 1 (setting_of (codes "trace") version version) bytes ≡ Err bad) ⊎ ((x : ℕ × List ℕ)
-      × ((read_line 1 (setting_of (codes "trace") version version) bytes ≡ Ok x)
-      × (after_version threads x ≡ Err bad)))
-      → Means kind bytes bad.line bad.why
-  first_by (inl e) =
-      fails_behind kind has [] bytes bytes 1 (setting_of (codes "trace") version version) bad (record {
-        walked = record {
-          one = least_trace 0 0 [];
-          is = is_least threads 0 0 [] (omega arith) (omega arith) tt;
-          next = line_of_number (codes "trace") version;
-          others = line_of_number (codes "job") 0 ∷ line_of_number (codes "rank") 0 ∷ end_line ∷ [];
-          all = refl;
-          are = tt;
-        };
-        text = refl;
-      }) refl (one_number (codes "trace") version fits)
-      (line_err 1 (setting_of (codes "trace") version version) bytes bad e)
-  first_by (inr x) =
-      let s = setting_line 1 (codes "trace") version version bytes x.0 x.1.0 in
-      let same : (x.0).0 ≡ version = let a = s.1.least in let b = s.1.most in omega arith in
-      let text = s.0 ∙ ap (λ (n : ℕ). line_text (line_of_number (codes "trace") n) ++ (x.0).1) same
-      ∙ ap (λ (t : List ℕ). t ++ (x.0).1) (sym (append-nil (line_text (line_of_number (codes "trace") version)))) in
-      second_by (x.0).1 (record {
-        walked = record {
-          one = least_trace 0 0 [];
-          is = is_least threads 0 0 [] (omega arith) (omega arith) tt;
-          next = line_of_number (codes "job") 0;
-          others = line_of_number (codes "rank") 0 ∷ end_line ∷ [];
-          all = refl;
-          are = (number_is_line (codes "trace") version trace_word fits, tt);
-        };
-        text = text;
-      }) (bind_err (read_line 2 (setting_of (codes "job") 0 (2 ^ 64 - 1)) (x.0).1) (after_job threads) bad x.1.1)
-
-  trace_means : trace_at version threads bytes ≡ Err bad → Means kind bytes bad.line bad.why
-  unfolding trace_at
-  trace_means h =
-      first_by (bind_err (read_line 1 (setting_of (codes "trace") version version) bytes) (after_version threads) bad h)
-
--- what a reader told
-pub fault_means : (version threads : ℕ) (bytes : List ℕ) (fault : TraceFault) → version < 2 ^ 64
-    → FailsAt fault (trace_at version threads bytes) → IsMeant (trace_kind version threads) bytes fault
-fault_means version threads bytes faults.NoMemory fits h = tt
-fault_means version threads bytes (faults.Bad line why) fits h =
-    trace_means version threads fits bytes (record { line = line; why = why }) h

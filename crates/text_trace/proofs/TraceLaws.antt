@@ -1,6 +1,6 @@
 -- Reading a trace is the inverse of its text.
-use Rattle.std.proofs.Common.{◌≡◌, ℕ, zero, suc, ◌+◌, ◌-◌, ◌^◌, ◌<◌, List, [], ◌∷◌, ◌++◌, length, Option, Some, None}
-use Rattle.std.proofs.Common.{cond, Result, Ok, is_none, option_to_list, All, refl, sym, ap, subst, ◌∙◌, append_assoc}
+use Rattle.std.proofs.Common.{◌≡◌, ℕ, zero, suc, ◌+◌, ◌<◌, List, [], ◌∷◌, ◌++◌, length, Option, Some, None}
+use Rattle.std.proofs.Common.{cond, Ok, is_none, option_to_list, All, refl, sym, ap, subst, ◌∙◌, append_assoc}
 use Rattle.std.proofs.Common.{append-nil, arith, codes, length-append}
 use Rattle.std.specs.List.{AllByRecursion}
 use Rattle.std.proofs.lemmas.List.Elements.{All-from_recursion}
@@ -8,12 +8,10 @@ use Rattle.base_turns.specs.declared.entry.Entry.{Entry}
 use Rattle.text_trace.specs.declared.trace.Trace.{Trace}
 use Rattle.base_text.specs.Lines.{Word}
 use Rattle.base_text.specs.LineTexts.{Line, line_text, spell, IsWord}
-use Rattle.text_trace.specs.TraceText.{entry_line, end_line, line_of_number, entry_lines, trace_text, IsEntry, IsTrace}
-use Rattle.base_text.specs.Chains.{◌>>=◌}
-use Rattle.text_trace.specs.TraceReading.{BadLine, with_front, read_line, setting_of, entry_or_end, entries_at}
-use Rattle.text_trace.specs.TraceReading.{trace_at}
+use Rattle.text_trace.specs.TraceText.{entry_line, end_line, line_of_number, entry_lines, trace_text, IsEntry}
+use Rattle.text_trace.specs.TraceReading.{with_front, read_line, setting_of, entry_or_end, entries_at}
 use Rattle.text_trace.proofs.LineLaws.{ok_is, bind_ok, read_takes, read_again}
-use Rattle.text_trace.proofs.WordLaws.{IsIn, setting_takes, setting_again, wide, narrow, IsNext, next_takes}
+use Rattle.text_trace.proofs.WordLaws.{IsIn, setting_takes, setting_again, IsNext, next_takes}
 use Rattle.text_trace.proofs.WordLaws.{next_again, next_end, end_is_line, entry_is_line, number_is_line}
 
 -- ---- entries
@@ -124,49 +122,6 @@ parts version t rest = four (line_text (line_of_number (codes "trace") version))
     (line_text (line_of_number (codes "job") t.job)) (line_text (line_of_number (codes "rank") t.rank))
     (entries_text t.entries) rest
 
--- a trace and the bytes after it
-pub record TraceReadAs (version threads : ℕ) (bytes : List ℕ) (x : Trace × List ℕ) : Type 0 where
-  pub is_trace : IsTrace threads x.0
-  pub text : bytes ≡ trace_text version x.0 ++ x.1
-
--- reading goes on after each line
-abbrev pub after_rank : (threads job : ℕ) → ℕ × List ℕ → Result (Trace × List ℕ) BadLine
-after_rank threads job r = entries_at (length r.1 + 1) threads 4 r.1
-    >>= λ es. Ok (record { job = job; rank = r.0; entries = es.0 }, es.1)
-
-abbrev pub after_job : (threads : ℕ) → ℕ × List ℕ → Result (Trace × List ℕ) BadLine
-after_job threads j = read_line 3 (setting_of (codes "rank") 0 65535) j.1 >>= λ r. after_rank threads j.0 r
-
-abbrev pub after_version : (threads : ℕ) → ℕ × List ℕ → Result (Trace × List ℕ) BadLine
-after_version threads v = read_line 2 (setting_of (codes "job") 0 (2 ^ 64 - 1)) v.1 >>= λ j. after_job threads j
-
-pub trace_takes : (version threads : ℕ) (bytes : List ℕ) (x : Trace × List ℕ) → trace_at version threads bytes ≡ Ok x
-    → TraceReadAs version threads bytes x
-unfolding trace_at
-trace_takes version threads bytes x e =
-    let v = bind_ok (read_line 1 (setting_of (codes "trace") version version) bytes) (λ y. after_version threads y) x e
-    in
-    let j = bind_ok (read_line 2 (setting_of (codes "job") 0 (2 ^ 64 - 1)) v.0.1) (λ y. after_job threads y) x v.2 in
-    let r = bind_ok (read_line 3 (setting_of (codes "rank") 0 65535) j.0.1) (λ y. after_rank threads j.0.0 y) x j.2 in
-    let es = bind_ok (entries_at (length r.0.1 + 1) threads 4 r.0.1)
-    (λ y. Ok (record { job = j.0.0; rank = r.0.0; entries = y.0 }, y.1)) x r.2 in
-    let t : Trace = record { job = j.0.0; rank = r.0.0; entries = es.0.0 } in
-    let made : Trace × List ℕ = (t, es.0.1) in
-    let v1 = setting_line 1 (codes "trace") version version bytes v.0 v.1 in
-    let j1 = setting_line 2 (codes "job") 0 (2 ^ 64 - 1) v.0.1 j.0 j.1 in
-    let r1 = setting_line 3 (codes "rank") 0 65535 j.0.1 r.0 r.1 in
-    let e1 = entries_take (length r.0.1 + 1) threads 4 r.0.1 es.0 es.1 in
-    let same : v.0.0 ≡ version = let a = v1.1.least in let b = v1.1.most in omega arith in
-    let rank_fits : r.0.0 < 2 ^ 16 = let m = r1.1.most in omega arith in
-    let t3 = r1.0 ∙ ap (λ (z : List ℕ). line_text (line_of_number (codes "rank") r.0.0) ++ z) e1.text in
-    let t2 = j1.0 ∙ ap (λ (z : List ℕ). line_text (line_of_number (codes "job") j.0.0) ++ z) t3 in
-    let t1 = v1.0 ∙ ap (λ (n : ℕ). line_text (line_of_number (codes "trace") n) ++ v.0.1) same
-    ∙ ap (λ (z : List ℕ). line_text (line_of_number (codes "trace") version) ++ z) t2 in
-    subst (TraceReadAs version threads bytes) (ok_is made x es.2) (record {
-      is_trace = record { job = j1.1.fits; rank = rank_fits; entries = e1.entries };
-      text = t1 ∙ sym (parts version t es.0.1);
-    })
-
 pub trace_word : IsWord (codes "trace")
 trace_word = record {
   some = omega arith;
@@ -194,24 +149,6 @@ rank_word = record {
     ((omega arith, omega arith), ((omega arith, omega arith), ((omega arith, omega arith), tt))),
   );
 }
-
-pub trace_again : (version threads : ℕ) (t : Trace) (rest : List ℕ) → version < 2 ^ 64 → IsTrace threads t
-    → trace_at version threads (trace_text version t ++ rest) ≡ Ok (t, rest)
-unfolding trace_at
-trace_again version threads t rest fits h =
-    let es = entries_text t.entries ++ rest in
-    let r = line_text (line_of_number (codes "rank") t.rank) ++ es in
-    let j = line_text (line_of_number (codes "job") t.job) ++ r in
-    let version_in : IsIn version version version = record { least = omega arith; most = omega arith; fits = fits } in
-    let r0 : read_line 1 (setting_of (codes "trace") version version) (trace_text version t ++ rest) ≡ Ok (version, j) =
-    ap (read_line 1 (setting_of (codes "trace") version version)) (parts version t rest) ∙ setting_line_again 1
-    (codes "trace") version version version j trace_word version_in in
-    let r1 = setting_line_again 2 (codes "job") 0 (2 ^ 64 - 1) t.job r job_word (wide t.job h.job) in
-    let r2 = setting_line_again 3 (codes "rank") 0 65535 t.rank es rank_word (narrow t.rank h.rank) in
-    let short = entries_short t.entries in
-    let room : length t.entries < length es + 1 = simp length-append (omega arith) in
-    let r3 = entries_again (length es + 1) threads 4 t.entries rest room h.entries in
-    rw (r0, r1, r2, r3) refl
 
 -- ---- what a caller of a merge needs
 

@@ -3,13 +3,11 @@ use Rattle.std.proofs.Common.{◌≡◌, ℕ, ◌+◌, ◌<◌, List, [], ◌∷
 use Rattle.std.proofs.Common.{refl, sym, ap, subst, ◌∙◌, append_assoc, append-nil, decimal}
 use Rattle.std.proofs.Common.{codes}
 use Rattle.std.proofs.lemmas.List.{drop_more}
-use Rattle.std.proofs.lemmas.List.Concat.{flat_map-append}
 use Rattle.base_io.specs.Buffered.{Gathers, GathersUpTo, Outbox}
 use Rattle.base_io.proofs.Outboxes.{nothing_yet, past_done}
 use Rattle.base_turns.specs.declared.entry.Entry.{Entry}
-use Rattle.text_trace.specs.declared.trace.Trace.{Trace}
 use Rattle.base_text.specs.LineTexts.{spaced_word, line_text, spell}
-use Rattle.text_trace.specs.TraceText.{got_word, entry_line, end_line, entry_lines, head_lines, head_text, trace_text}
+use Rattle.text_trace.specs.TraceText.{got_word, entry_line}
 
 apart : (name thread now got space end : List ℕ)
     → (name ++ ((space ++ thread) ++ ((space ++ now) ++ ((space ++ got) ++ [])))) ++ end
@@ -42,12 +40,3 @@ pub next_line : (es : List Entry) (i : ℕ) (e : Entry) → i < length es → e 
 next_line es i e lt is =
     ap (λ xs. spell (map entry_line xs)) (drop_more es i e lt) ∙ ap (λ x. line_text (entry_line x)
     ++ spell (map entry_line (drop (i + 1) es))) (sym is)
-
--- a trace, as it is written
-pub trace_parts : (version : ℕ) (t : Trace) (es : List Entry) → es ≡ t.entries → trace_text version t
-    ≡ head_text version t.job t.rank ++ (spell (map entry_line es) ++ line_text end_line)
-trace_parts version t es same =
-    flat_map-append line_text (head_lines version t.job t.rank) (entry_lines t.entries)
-    ∙ ap (λ z. head_text version t.job t.rank ++ z) (flat_map-append line_text (map entry_line t.entries) (end_line ∷ [])
-    ∙ ap (λ z. spell (map entry_line t.entries) ++ z) (append-nil (line_text end_line))
-    ∙ ap (λ xs. spell (map entry_line xs) ++ line_text end_line) (sym same))

@@ -1,6 +1,5 @@
 -- What the readers of a trace return, beside what reading is.
-use Rattle.std.specs.Prelude.{◌≡◌, ℕ, ◌+◌, List, length, Result, Ok, Err}
-use Rattle.text_trace.specs.declared.trace.Trace.{Trace}
+use Rattle.std.specs.Prelude.{◌≡◌, Result, Ok, Err}
 use Rattle.base_text.specs.declared.why.LineWhy.{LineWhy}
 use Rattle.text_trace.specs.declared.fault.LineFault.{LineFault}
 use Rattle.text_trace.specs.declared.fault.LineFault.TheVariants as faults
@@ -32,18 +31,3 @@ FailsAt (Bad line why) read = read ≡ Err (record { line = line; why = why })
 abbrev pub GivesAt : {X Y : Type 0} → (X → Y) → Result X TraceFault → Result Y BadLine → Type 0
 GivesAt view (Ok found) read = read ≡ Ok (view found)
 GivesAt view (Err fault) read = FailsAt fault read
-
--- a trace was read, of this length: the bytes after it are left
-abbrev pub ReadsTo : Trace → (len size : ℕ) → Result (Trace × List ℕ) BadLine → Type 0
-ReadsTo trace len size read = (rest : List ℕ) × (read ≡ Ok (trace, rest)) × (len + length rest ≡ size)
-
--- what was read of so many bytes is what reading gives, unless memory ran out
-abbrev pub ReadsTrace : (size : ℕ) → Result (Trace × ℕ) TraceFault → Result (Trace × List ℕ) BadLine → Type 0
-ReadsTrace size (Ok found) read = ReadsTo found.0 found.1 size read
-ReadsTrace size (Err fault) read = FailsAt fault read
-
--- this trace was read, of this length, unless memory ran out
-abbrev pub GivesTrace : Trace → (len : ℕ) → Result (Trace × ℕ) TraceFault → Type 0
-GivesTrace trace len (Ok found) = (found.0 ≡ trace) × (found.1 ≡ len)
-GivesTrace trace len (Err NoMemory) = Unit {0}
-GivesTrace trace len (Err (Bad line why)) = ⊥

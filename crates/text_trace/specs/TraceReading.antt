@@ -7,7 +7,6 @@ use Rattle.std.specs.Str.{bytes_eq}
 use Rattle.base_turns.specs.declared.entry.Entry.{Entry}
 use Rattle.base_text.specs.declared.why.LineWhy.{LineWhy}
 use Rattle.base_text.specs.declared.why.LineWhy.TheVariants.{Text, Form, Value, Early}
-use Rattle.text_trace.specs.declared.trace.Trace.{Trace}
 use Rattle.base_text.specs.Chains.{◌>>=◌}
 use Rattle.base_text.specs.HexBytes.{pairs_of}
 use Rattle.base_text.specs.Lines.{Word}
@@ -140,12 +139,3 @@ entries_at (suc room) threads line bytes =
     read_line line (entry_or_end threads) bytes >>= λ next.
     if is_none next.0 then Ok ([], next.1) else with_front (option_to_list next.0) (entries_at room threads (line + 1)
     next.1)
-
--- a trace in this version of the text, and the bytes after it
-unfoldable pub trace_at : (version threads : ℕ) → List ℕ → Result (Trace × List ℕ) BadLine
-trace_at version threads bytes =
-    read_line 1 (setting_of (codes "trace") version version) bytes >>= λ first.
-    read_line 2 (setting_of (codes "job") 0 (2 ^ 64 - 1)) first.1 >>= λ job.
-    read_line 3 (setting_of (codes "rank") 0 65535) job.1 >>= λ rank.
-    entries_at (length rank.1 + 1) threads 4 rank.1 >>= λ entries.
-    Ok (record { job = job.0; rank = rank.0; entries = entries.0 }, entries.1)

@@ -1,11 +1,9 @@
 -- Which lines may stand where in a trace, so that a refusal of one has its meaning.
 use Rattle.std.specs.Prelude.{◌≡◌, ◌⊎◌, ℕ, ◌<◌, ◌^◌, List, [], ◌∷◌, codes}
 use Rattle.base_turns.specs.declared.entry.Entry.{Entry}
-use Rattle.text_trace.specs.declared.trace.Trace.{Trace}
-use Rattle.text_trace.specs.LineRefusals.{TextKind}
 use Rattle.base_text.specs.Lines.{Word}
 use Rattle.base_text.specs.LineTexts.{Line}
-use Rattle.text_trace.specs.TraceText.{IsEntry, IsTrace, end_line, entry_line, line_of_number, trace_text}
+use Rattle.text_trace.specs.TraceText.{IsEntry, end_line, entry_line, line_of_number}
 
 -- what line comes next
 pub data TracePlace : Type 0 where
@@ -46,12 +44,3 @@ MayStand version threads AtJob words = (job : ℕ) × ((job < 2 ^ 64) × (words 
 MayStand version threads AtRank words = (rank : ℕ) × ((rank < 2 ^ 16) × (words ≡ line_of_number (codes "rank") rank))
 MayStand version threads AtEntries words =
     (words ≡ end_line) ⊎ ((entry : Entry) × (IsEntry threads entry × (words ≡ entry_line entry)))
-
--- the texts of traces of this version, and of so many threads
-abbrev pub trace_kind : (version threads : ℕ) → TextKind Trace
-trace_kind version threads = record {
-  IsOne = IsTrace threads;
-  text_of = trace_text version;
-  HasForm = λ before words. HasForm (place_behind before) words;
-  MayStand = λ before words. MayStand version threads (place_behind before) words;
-}

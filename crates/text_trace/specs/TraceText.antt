@@ -1,5 +1,5 @@
 -- The one text of a trace.
-use Rattle.std.specs.Prelude.{◌≡◌, ℕ, ◌<◌, ◌≤◌, ◌^◌, List, [], ◌∷◌, ◌++◌, length, map, Option, Some, None}
+use Rattle.std.specs.Prelude.{ℕ, ◌<◌, ◌≤◌, ◌^◌, List, [], ◌∷◌, ◌++◌, length, map, Option, Some, None}
 use Rattle.std.specs.Prelude.{codes, decimal}
 use Rattle.std.specs.List.{AllByRecursion}
 use Rattle.std.specs.Option.{ForSome}
@@ -64,10 +64,3 @@ pub record IsTrace (threads : ℕ) (trace : Trace) : Type 0 where
   pub job : trace.job < 2 ^ 64
   pub rank : trace.rank < 2 ^ 16
   pub entries : AllByRecursion (IsEntry threads) trace.entries
-
--- the bytes begin with the text of the trace, which has this length
-pub record BeginsWith (version threads : ℕ) (bytes : List ℕ) (trace : Trace) (len : ℕ) : Type 0 where
-  pub is_trace : IsTrace threads trace
-  pub rest : List ℕ
-  pub text : bytes ≡ trace_text version trace ++ rest
-  pub size : len ≡ length (trace_text version trace)

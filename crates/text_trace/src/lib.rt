@@ -2,18 +2,16 @@
 //!
 //! What is proved, by the names of clauses (in `src/`) and definitions (in `specs/`, and in `base_turns`'s `Fronts`):
 //!
-//! - `print_trace` writes the one text of a trace (`trace_text`) into a sink that gathers, or at a fault of the sink a
-//!   prefix of it.
-//! - `read_trace` [`found`, `only`, `exact`] reads a trace exactly where the bytes begin with its text (`BeginsWith`),
-//!   as that trace; else the fault names the first bad line and the first reason that applies to it, as the reading
-//!   function on lines says (`trace_at`); or memory ran out. So what was printed is read again. What a merge asks of
-//!   traces is told too [`threads`, `few`]. What a refusal means apart from that function [`meant`: `Means` of
-//!   `LineRefusals`, for `trace_kind`]: some trace's text begins with the lines before the bad one, and goes on, and none
-//!   begins with these and the bad one, whose form or value no trace has there (`IsAtFault`); or the bytes end there, or
-//!   the line is none of words. A line and a reason of which that holds are told, unless memory ran out [`told`]. So no
-//!   text has two of them.
-//! - `read_output` [`found`, `only`, `exact`, `meant`, `told`, `near`] reads what a node writes, its trace with a status
-//!   line, in the same way, and its refusals mean the same (`output_kind`).
+//! - `print_head` and `print_entry` write the lines of a trace (`trace_text`) into a sink that gathers, or at a fault of
+//!   the sink a prefix of them.
+//! - `read_output` [`found`, `only`, `exact`] reads what a node writes, its trace with a status line, exactly where the
+//!   bytes begin with such a text (`OutputBegins`), as that output; else the fault names the first bad line and the first
+//!   reason that applies to it, as the reading function on lines says (`output_at`); or memory ran out. So what was
+//!   printed is read again. What a merge asks of traces is told too [`threads`, `few`]. What a refusal means apart from
+//!   that function [`meant`: `Means` of `LineRefusals`, for `output_kind`]: some output's text begins with the lines
+//!   before the bad one, and goes on, and none begins with these and the bad one, whose form or value no output has there
+//!   (`IsAtFault`); or the bytes end there, or the line is none of words. A line and a reason of which that holds are
+//!   told, unless memory ran out [`told`]. So no text has two of them. The line is no further than the bytes [`near`].
 //! - `merge` [`front`, `run`, `no_run`] answers an order of all entries in which each can go in its turn only where
 //!   some order is a run, and the smallest node with an entry left at the one stuck front only where none is
 //!   (`Answers`); or memory ran out. Afterwards each machine stands for the replay of its entries that have gone
@@ -44,7 +42,6 @@ pub use fault::TraceFault;
 pub use laws::front_law;
 pub use merging::{MergeFault, merge};
 pub use output::{NodeStatus, Output, Wanted, read_output};
-pub use printing::{print_entry, print_head, print_trace};
-pub use reading::read_trace;
+pub use printing::{print_entry, print_head};
 pub use trace::{Placed, Trace};
 pub use words::MAX_GOT;

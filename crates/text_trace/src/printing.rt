@@ -1,13 +1,11 @@
-//! Printing a trace.
+//! Printing the lines of a trace.
 
-ghost use Rattle.std.specs.Prelude.{map};
 ghost use Rattle.base_io.specs.Buffered.{GathersAll, outbox};
-ghost use Rattle.base_text.specs.LineTexts.{line_text, spell};
+ghost use Rattle.base_text.specs.LineTexts.{line_text};
 ghost use Rattle.text_trace.specs.LineNames.{line_name};
-ghost use Rattle.text_trace.specs.TraceText.{entry_line, got_word, head_text, line_of_number, trace_text};
+ghost use Rattle.text_trace.specs.TraceText.{entry_line, got_word, head_text, line_of_number};
 
 use crate::line_name::LineName;
-use crate::trace::Trace;
 use base_io::{BufferedSink, Sink, Wrote};
 use base_text::{put_number, write_bytes, write_line};
 use base_turns::{Bytes, Entry};
@@ -57,19 +55,6 @@ pub fn print_entry<K: Sink>(sink: &mut BufferedSink<K>, entry: &Entry) -> Wrote
     sink.write_all(b"\n")
 }
 
-/// Writes the lines of entries.
-fn write_entries<K: Sink>(sink: &mut BufferedSink<K>, entries: &[Entry]) -> Wrote
-    ensures { GathersAll (outbox K.taken K.faults sink.old) (outbox K.taken K.faults sink.new)
-        (spell (map entry_line entries.now)) result }
-{
-    for entry in entries {
-        if let Wrote::Fault = print_entry(sink, entry) {
-            return Wrote::Fault;
-        }
-    }
-    Wrote::Done
-}
-
 /// Writes the lines of a trace before its entries, in this version of the text, into a sink that gathers.
 ///
 /// `Fault` comes only where the sink behind failed; a prefix of the lines went in then.
@@ -84,22 +69,4 @@ pub fn print_head<K: Sink>(version: u8, job: u64, rank: u16, sink: &mut Buffered
         return Wrote::Fault;
     }
     write_setting(sink, LineName::Rank, u64::from(rank))
-}
-
-/// Writes the text of a trace, in this version of the text, into a sink that gathers.
-///
-/// `Fault` comes only where the sink behind failed; a prefix of the text went in then. It takes no memory. Reading what
-/// was written gives the trace, where each entry's thread is one of the job's and each datagram got has at most
-/// `MAX_GOT` bytes (`read_trace`'s clause `only`).
-pub fn print_trace<K: Sink>(trace: &Trace, version: u8, sink: &mut BufferedSink<K>) -> Wrote
-    ensures { GathersAll (outbox K.taken K.faults sink.old) (outbox K.taken K.faults sink.new)
-        (trace_text version trace.now) result }
-{
-    if let Wrote::Fault = print_head(version, trace.job, trace.rank, sink) {
-        return Wrote::Fault;
-    }
-    if let Wrote::Fault = write_entries(sink, trace.entries.as_slice()) {
-        return Wrote::Fault;
-    }
-    write_line(sink, LineName::End.word(), &[])
 }

@@ -1,27 +1,21 @@
-//! Reading a trace.
+//! Reading the lines of a trace.
 
-ghost use Rattle.std.specs.Prelude.{◌≡◌, ℕ, ◌+◌, ◌≤◌, ◌<◌, ◌^◌, length};
-ghost use Rattle.std.specs.Prelude.{All, IfOk, IfErr};
-ghost use Rattle.text_trace.specs.declared.trace.Trace.{Trace as TraceState};
+ghost use Rattle.std.specs.Prelude.{◌≡◌, ◌+◌, ◌≤◌, ◌<◌, ◌^◌, length};
+ghost use Rattle.std.specs.Prelude.{IfOk};
 ghost use Rattle.text_trace.specs.TraceReading.{entries_at, entry_of, is_end, entry_or_end};
-ghost use Rattle.text_trace.specs.TraceReading.{read_line, second_of, setting_of, trace_at};
+ghost use Rattle.text_trace.specs.TraceReading.{read_line, second_of, setting_of};
 ghost use Rattle.text_trace.specs.TraceReading.{turn_of, words_of, TurnWords};
-ghost use Rattle.text_trace.specs.TraceText.{BeginsWith};
 ghost use Rattle.base_text.specs.declared.why.LineWhy.{LineWhy as Why};
 ghost use Rattle.text_trace.specs.LineNames.{line_name};
-ghost use Rattle.text_trace.specs.LineRefusals.{IsMeant, IsTold, Means};
-ghost use Rattle.text_trace.specs.TraceRefusals.{trace_kind};
-ghost use Rattle.text_trace.specs.TraceRead.{Gives, GivesAt, GivesTrace, ReadsTrace, Tells};
-ghost use Rattle.base_io.specs.declared.spawner.TheConstants.{MAX_OUTPUT};
+ghost use Rattle.text_trace.specs.TraceRead.{Gives, GivesAt, Tells};
 
 use crate::fault::{LineFault, TraceFault};
 use crate::line_name::LineName;
-use crate::trace::Trace;
 use crate::words::{
     cut_line, cut_word, got_of, is_one, line_of, number_between, refusal_of, thread_of,
 };
 use base_text::LineWhy;
-use base_turns::{Entry, Journal};
+use base_turns::Entry;
 use std::alloc::Global;
 
 /// The second word of a line of a name and another word.
@@ -196,76 +190,5 @@ pub(crate) fn entries_at(
         entries.push(entry)?;
         number += 1;
         rest = after;
-    }
-}
-
-/// The trace, and the bytes after it.
-#[tactic(auto, unfolding(crate::specs::TraceReading::trace_at))]
-fn trace_at(
-    alloc: Global,
-    version: u8,
-    threads: u16,
-    bytes: &[u8],
-) -> Result<(Trace, &[u8]), TraceFault>
-    requires { length bytes.now ≤ MAX_OUTPUT }
-    ensures value { GivesAt (λ x. (x.0, x.1.now)) result (trace_at version threads bytes.now) }
-    ensures within { IfOk result (λ x. length x.1.now ≤ length bytes.now) }
-{
-    let version = u64::from(version);
-    let rest = match setting_at(1, LineName::Trace, version, version, bytes) {
-        Ok((_, rest)) => rest,
-        Err(fault) => return Err(fault),
-    };
-    let (job, rest) = match setting_at(2, LineName::Job, 0, u64::MAX, rest) {
-        Ok(read) => read,
-        Err(fault) => return Err(fault),
-    };
-    let (rank, rest) = match setting_at(3, LineName::Rank, 0, 65_535, rest) {
-        Ok(read) => read,
-        Err(fault) => return Err(fault),
-    };
-    let (entries, rest) = match entries_at(alloc, threads, 4, rest) {
-        Ok(read) => read,
-        Err(fault) => return Err(fault),
-    };
-    let rank = rank as u16;
-    let entries = Journal::of(entries);
-    Ok((Trace { job, rank, entries }, rest))
-}
-
-/// The trace with whose text the bytes begin, and how many bytes the text has.
-///
-/// `version` is that of the first line, and `threads` the number of threads of the job.
-///
-/// # Errors
-///
-/// `Bad` exactly where the bytes begin with no trace's text, with the first bad line and the first reason that applies
-/// to it; `NoMemory` where memory ran out.
-pub fn read_trace(
-    alloc: Global,
-    bytes: &[u8],
-    threads: u16,
-    version: u8,
-) -> Result<(Trace, usize), TraceFault>
-    requires { length bytes.now ≤ MAX_OUTPUT }
-    // What is read is a trace with whose text the bytes begin,
-    ensures found { IfOk result (λ x. BeginsWith version threads bytes.now x.0 x.1) }
-    // and it is the only one: unless memory runs out, it is read.
-    ensures only { (t : TraceState) (len : ℕ)
-        → BeginsWith version threads bytes.now t len → GivesTrace t len result }
-    // Its entries' threads are the job's, and there are fewer entries than bytes.
-    ensures threads { IfOk result (λ x. All (λ e. e.thread < threads) x.0.entries) }
-    ensures few { IfOk result (λ x. length x.0.entries < length bytes.now) }
-    // What is told is the first bad line, and the first reason that applies to it.
-    ensures exact { ReadsTrace (length bytes.now) result (trace_at version threads bytes.now) }
-    // What that means, apart from the reader.
-    ensures meant { IfErr result (λ fault. IsMeant (trace_kind version threads) bytes.now fault) }
-    // What is so meant of a line is told: no text has two bad lines, and no line two reasons.
-    ensures told { (line : ℕ) (why : Why) → Means (trace_kind version threads) bytes.now line why
-        → IsTold result line why }
-{
-    match trace_at(alloc, version, threads, bytes) {
-        Ok((trace, rest)) => Ok((trace, bytes.len() - rest.len())),
-        Err(fault) => Err(fault),
     }
 }
