@@ -31,8 +31,7 @@ struct Rest {
 fn add_ranges(runs: &mut Runs, remote: &[(u64, u64)], local: &[(u64, u64)]) -> Result<(), PlanFault>
     ensures { Added runs.old (range_pairs remote.now local.now) result runs.new }
 {
-    let mut remotes = remote;
-    let mut locals = local;
+    let (mut remotes, mut locals) = (remote, local);
     let mut far = Rest { first: 0, len: 0 };
     let mut near = Rest { first: 0, len: 0 };
     loop {
