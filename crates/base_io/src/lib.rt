@@ -57,7 +57,6 @@ pub use reading::{ReadAll, read_all};
 pub use sieve::Sieve;
 pub use sink::{Put, Sink};
 pub use source::{Got, Source};
-pub use spawn_call::SpawnCall;
 pub use spawner::{Finished, MAX_OUTPUT, Spawner, Started};
 pub use waiter::{ReadyWaiter, Waiter};
 pub use writing::{Wrote, write_all};

@@ -87,13 +87,6 @@ impl MemorySpawner {
         })
     }
 
-    /// The starts and finishes that it tells, in order.
-    pub fn calls(&self) -> &[SpawnCall]
-        ensures { told_calls result.now ≡ self.now.told.calls }
-    {
-        &self.told
-    }
-
     /// Tells a start, and makes the room for the finishes that may follow.
     fn tell_start(&mut self, rank: u16, port: u16, input: &[u8]) -> Result<(), AllocError>
         requires child { rank < length self.old.children }
