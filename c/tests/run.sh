@@ -84,6 +84,7 @@ for build in out out/sanitized; do
                 GASNET_RESEND=5 bin/gasnetrun -n 2 "$build/tests/syncs" "$way"
         done
     done
+    check "syncs bad$kind" 71 "the sync of a transfer with node . was answered 5" bin/gasnetrun -n 2 $build/tests/syncs bad
     check "syncs in small packets$kind" 0 "" env GASNET_MTU=1500 bin/gasnetrun -n 2 $build/tests/syncs hints
     check "syncs asleep$kind" 0 "" env GASNET_SPIN=1 bin/gasnetrun -n 3 $build/tests/syncs hints
     for n in 3 8; do

@@ -1,7 +1,8 @@
 /* What C's syncs wait for: that the endpoint's own sync answers GASNET_C_OK for each transfer of the endpoint that the
  * client's became. The test stands between the two. It answers NOT_READY at random in place of the endpoint, and notes
  * of which bytes the endpoint answered OK: no call of C's may go on before. "hints" has the layer told of some chunks
- * twice, and of others never: that may cost time, and changes nothing else. */
+ * twice, and of others never: that may cost time, and changes nothing else. "bad" has the endpoint answer neither OK
+ * nor NOT_READY once: that ends the job. */
 #define GASNET_SEQ 1
 #include <gasnet_c.h>
 
@@ -21,7 +22,7 @@ static struct record {
 
 static unsigned char is_answered[SEGMENT]; /* the bytes of the far segment of which it did */
 static unsigned refused;                   /* how often the test answered in its place */
-static bool spoils_hints;
+static bool spoils_hints, answers_bad;
 static uint64_t state;
 
 static unsigned draw(unsigned below) {
@@ -47,6 +48,8 @@ gasnet_c_told __wrap_gasnet_c_begin(gasnet_c_node *node, uint64_t now, const gas
 
 gasnet_c_told __real_gasnet_c_sync(gasnet_c_node *node, uint64_t now, uint64_t handle);
 gasnet_c_told __wrap_gasnet_c_sync(gasnet_c_node *node, uint64_t now, uint64_t handle) {
+    if (answers_bad)
+        return (gasnet_c_told){ .code = GASNET_C_BAD };
     if (draw(3)) {
         refused++;
         return (gasnet_c_told){ .code = GASNET_C_NOT_READY };
@@ -206,6 +209,7 @@ static void test_some(void) {
 int main(int argc, char **argv) {
     int when = 0;
     spoils_hints = argc > 1 && !strcmp(argv[1], "hints");
+    answers_bad = argc > 1 && !strcmp(argv[1], "bad");
     start(NULL, NULL, NULL, 0, SEGMENT);
     state = (uint64_t)me + 1;
     for (int i = 0; i < COUNT(sizes); i++) {
