@@ -196,14 +196,16 @@ static ssize_t send_once(struct gasnetl_network *network, uint16_t to, const voi
 
 /* The same; whether the system took them. */
 static bool send_bytes(struct gasnetl_network *network, uint16_t to, const void *bytes, size_t length, size_t each) {
-    ssize_t sent = send_once(network, to, bytes, length, each);
-    if (sent < 0 && errno != EAGAIN) { /* it may be of an earlier datagram */
-        int why = errno;
-        take_refusals(network);
-        sent = send_once(network, to, bytes, length, each);
-        errno = sent < 0 ? errno : why;
-    }
-    return sent >= 0;
+    if (send_once(network, to, bytes, length, each) >= 0)
+        return true;
+    if (errno == EAGAIN)
+        return false;
+    /* The error may be of an earlier datagram. It is told once; another one waits for each refusal that isn't taken. */
+    const bool is_sent = send_once(network, to, bytes, length, each) >= 0;
+    const int why = errno;
+    take_refusals(network);
+    errno = why;
+    return is_sent;
 }
 
 /* Sends the datagrams that wait one by one. */
@@ -368,21 +370,27 @@ static int next_most(const struct gasnetl_coming *coming, int most, int got) {
     return 2 * most < GASNETL_ARRIVALS ? 2 * most : GASNETL_ARRIVALS;
 }
 
-/* Asks the system for datagrams: false where there are none. */
+static int receive_up_to(struct gasnetl_network *network, int most) {
+    return most > 1 ? receive_many(network, most) : receive_one(network);
+}
+
+/* Asks the system for datagrams: false where there are none. An error is of a datagram that was sent, and hides what
+ * came; whoever can send ICMP makes as many as he likes. So it asks once more before it takes the refusals. */
 static bool receive_more(struct gasnetl_network *network) {
     struct gasnetl_coming *coming = &network->coming;
-    int most = coming->most, got = most <= 1 ? receive_one(network) : receive_many(network, most);
-    coming->most = next_most(coming, most > 1 ? most : 1, got);
+    int most = coming->most > 1 ? coming->most : 1, got = receive_up_to(network, most);
+    const bool is_error = got < 0 && errno != EAGAIN;
+    if (is_error)
+        got = receive_up_to(network, most);
+    coming->most = next_most(coming, most, got);
     coming->next = 0;
     coming->count = got > 0 ? (unsigned)got : 0;
-    if (got < 0 && errno == EAGAIN)
-        return false;
     network->is_lost = got < 0 && (errno == EBADF || errno == ENOTSOCK);
     if (network->is_lost)
         return false;
-    if (got < 0)
+    if (is_error)
         take_refusals(network);
-    return true;
+    return is_error || got >= 0;
 }
 
 /* How many bytes a datagram has without its tag, where a key is set; 0 where the key didn't seal it. */

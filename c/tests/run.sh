@@ -167,6 +167,17 @@ for code in 0 3; do
     check "former run with a key that ended with $code" 0 "" env GASNET_KEY_FILE=out/key bash -c "former $code"
 done
 
+# Refusals by ICMP that wait on a node's socket, whoever made them, keep back nothing that it sends.
+refused() {
+    local log
+    log=$(GASNET_COUNTS=1 GASNET_PROGRESS=poll bin/gasnetrun -n 2 "$1/tests/refusals" 2>&1) && ! grep "unsent [1-9]" <<<"$log" && return
+    echo "$log"
+    return 1
+}
+export -f refused
+check "refusals that wait" 0 "" bash -c "refused out"
+check "refusals that wait sanitized" 0 "" bash -c "refused out/sanitized"
+
 # On networks of namespaces, where they can be had: queues, packets of 1,500 bytes, loss, and nodes that compute.
 if why=$(tests/network can 2>&1); then
     for test in incast loss phases stall icmp complete; do
