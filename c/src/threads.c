@@ -15,24 +15,24 @@ _Thread_local struct gasnetl_thread gasnetl_thread;
 
 static bool make_barrier(int command) { return !syscall(SYS_membarrier, command, 0, 0); }
 
-/* A thread of the client's ends. Its operations are given back, unless it was cancelled within a call, or the job
- * ends. */
+/* A thread of the client's ends. Its operations are given back, unless the job ends. A function of the client's for its
+ * end may call the layer later. */
 static void end_thread(void *at) {
     struct gasnetl_job *job = &gasnetl_job;
     struct gasnetl_thread *self = at;
-    if (self->has_turn || !job->attached || gasnetl_another_ends())
+    self->is_known = false;
+    if (!job->attached || job->ender)
         return;
+    if (self->is_calling)
+        gasnetl_stop(GASNETL_MISUSE,
+                     "a thread ended within a call of GASNet: by pthread_exit in a handler, or since it "
+                     "was cancelled there");
     gasnetl_take_turn(&job->turns);
     gasnetl_op_leave(&job->transfers.ops, self->puts);
     gasnetl_op_leave(&job->transfers.ops, self->gets);
     gasnetl_op_leave(&job->transfers.ops, self->region);
     self->puts = self->gets = self->region = NULL;
     gasnetl_give_turn(&job->turns);
-}
-
-void gasnetl_thread_has_ops(const struct gasnetl_turns *turns) {
-    if (turns->threaded)
-        pthread_setspecific(turns->ends, &gasnetl_thread);
 }
 
 bool gasnetl_turns_start(struct gasnetl_turns *turns, bool threaded, bool has_own) {
@@ -192,6 +192,13 @@ static _Noreturn void stop_misuse(const char *call) {
     gasnetl_stop(GASNETL_MISUSE, "%s is called %s", call, gasnetl_out_of_turn());
 }
 
+/* Where there are several threads the layer is told as this one ends. */
+static void know_thread(struct gasnetl_thread *self) {
+    if (gasnetl_job.turns.threaded)
+        pthread_setspecific(gasnetl_job.turns.ends, self);
+    self->is_known = true;
+}
+
 struct gasnetl_job *gasnetl_enter(const char *call) {
     struct gasnetl_thread *self = &gasnetl_thread;
     if (self->token || self->locks || self->sections)
@@ -199,6 +206,8 @@ struct gasnetl_job *gasnetl_enter(const char *call) {
     if (self->is_calling && gasnetl_job.ender != self)
         stop_within(call);
     self->is_calling = true;
+    if (!self->is_known)
+        know_thread(self);
     if (!gasnetl_may_call(&gasnetl_job.turns) && gasnetl_job.initialised)
         gasnetl_stop(GASNETL_MISUSE,
                      "%s is called by another thread than the one that called gasnet_init: define GASNET_PAR before "

@@ -40,6 +40,7 @@ struct gasnetl_thread {
     unsigned sections;    /* 1 inside a section without interrupts */
     bool has_turn;
     bool is_calling;                /* it is in a call of the layer's, from gasnetl_enter to gasnetl_leave */
+    bool is_known;                  /* the layer is told as it ends, where there are several */
     bool is_own;                    /* it is the layer's (progress_thread.h) */
     bool ends_itself;               /* the layer ends the job: no signal of the client's interrupted a call */
     struct gasnetl_op *puts, *gets; /* its implicit operations, or NULL; pieces may lead to them still as it ends */
@@ -52,9 +53,6 @@ extern _Thread_local struct gasnetl_thread gasnetl_thread;
 /* Makes ready for one thread of the client's, or for many, and for one of the layer's where it has one. False where the
  * system refuses. */
 bool gasnetl_turns_start(struct gasnetl_turns *turns, bool threaded, bool has_own);
-
-/* The calling thread has operations of its own, which are given back as it ends. */
-void gasnetl_thread_has_ops(const struct gasnetl_turns *turns);
 
 /* A call that polls or may wait begins: it has the turn until gasnetl_leave. The job is attached, and the thread is in
  * no other call, no handler, no section without interrupts, and holds no handler-safe lock; else the job is ended with

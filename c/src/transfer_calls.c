@@ -84,10 +84,8 @@ struct gasnetl_op *gasnetl_implicit_op(struct gasnetl_job *job, enum gasnetl_kin
     struct gasnetl_op **op = kind == GASNETL_GET ? &self->gets : &self->puts;
     if (self->region)
         return self->region;
-    if (!*op) {
+    if (!*op)
         *op = gasnetl_op_new(&job->transfers.ops);
-        gasnetl_thread_has_ops(&job->turns);
-    }
     return *op;
 }
 
@@ -153,7 +151,6 @@ void gasnet_begin_nbi_accessregion(void) {
     if (gasnetl_thread.region)
         gasnetl_stop(GASNETL_MISUSE, "gasnet_begin_nbi_accessregion: the thread has begun one already");
     gasnetl_thread.region = gasnetl_op_new(&job->transfers.ops);
-    gasnetl_thread_has_ops(&job->turns);
     gasnetl_leave(job);
 }
 

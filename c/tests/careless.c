@@ -10,7 +10,7 @@
 
 #include "check.h"
 
-enum { FORK = 128, MISUSE = 70, THREADS = 4, ROUNDS = 30, SOON = 3000, COMPUTES = 3, LATE = 20 };
+enum { FORK = 128, EXIT = 129, MISUSE = 70, THREADS = 4, ROUNDS = 30, SOON = 3000, COMPUTES = 3, LATE = 20 };
 
 static int64_t now(void) {
     struct timespec time;
@@ -69,6 +69,25 @@ static void compute_and_put(void) {
         CHECK(now() - begun < COMPUTES * 700);
     }
     barrier();
+}
+
+/* ---- A thread that ends in a handler ends the job. */
+
+static void exit_handler(gasnet_token_t token) {
+    (void)token;
+    pthread_exit(NULL);
+}
+
+static void *ask_own(void *nothing) {
+    gasnet_AMRequestShort0((gasnet_node_t)me, EXIT);
+    return nothing;
+}
+
+static _Noreturn void end_in_handler(void) {
+    pthread_t thread;
+    CHECK(!pthread_create(&thread, NULL, ask_own, NULL) && !pthread_join(thread, NULL));
+    for (;;)
+        gasnet_AMPoll();
 }
 
 /* ---- Threads that begin at once. */
@@ -165,7 +184,7 @@ static void open_streams(void) {
 }
 
 int main(int argc, char **argv) {
-    gasnet_handlerentry_t table[] = { { FORK, fork_handler } };
+    gasnet_handlerentry_t table[] = { { FORK, fork_handler }, { EXIT, exit_handler } };
     const char *way = argc > 1 ? argv[1] : "";
     if (!strcmp(way, "streams"))
         start_without_streams(argv);
@@ -173,7 +192,7 @@ int main(int argc, char **argv) {
         begin_at_once();
         gasnet_exit(0);
     }
-    start(&argc, &argv, table, 1, GASNET_PAGESIZE);
+    start(&argc, &argv, table, COUNT(table), GASNET_PAGESIZE);
     if (!strcmp(way, "open-streams"))
         open_streams();
     else if (!strcmp(way, "cancel-wait"))
@@ -182,6 +201,8 @@ int main(int argc, char **argv) {
         cancel_threads(get_forever);
     else if (!strcmp(way, "signal"))
         poll_until_signal();
+    else if (!strcmp(way, "end-in-handler"))
+        end_in_handler();
     else if (!strcmp(way, "fork"))
         fork_in_handler();
     else

@@ -277,6 +277,7 @@ for rule in poll-in-signal:"gasnet_AMPoll is called while the thread is in anoth
     check "rule ${rule%%:*}" 70 "${rule#*:}" bin/gasnetrun -n 2 out/sanitized/tests/rules "${rule%%:*}"
 done
 check "careless signal" 70 "gasnet_AMPoll is called while the thread is in another call" bin/gasnetrun -n 2 out/tests/careless signal
+check "careless end in a handler" 70 "a thread ended within a call of GASNet" bin/gasnetrun -n 2 out/tests/careless end-in-handler
 for way in begin fork cancel-wait cancel-get; do # (AddressSanitizer leaves marks on the stack of a cancelled thread)
     build=out/sanitized
     [[ $way == cancel-* ]] && build=out
