@@ -338,8 +338,8 @@ static void for_each(for_one *work, long number, const long *values) {
         for_group(work, (int)values[0], (const struct msghdr *)values[1]);
 }
 
-/* The C library's, with a look at what is sent. */
-long syscall(long number, ...) {
+/* The C library's, with a look at what is sent. It reads six values where the call has fewer, as that does. */
+__attribute__((no_sanitize("address"))) long syscall(long number, ...) {
     long values[6];
     va_list list;
     va_start(list, number);
