@@ -26,10 +26,12 @@ size_t gasnet_AMMaxLongReply(void) { return gasnet_AMMaxMedium(); }
 
 /* ---- The table. */
 
-/* Whether the endpoint serves this index itself, as long as no handler of the client's has it. */
-static bool is_served(int index) { return gasnetl_is_atomic(index) || index == GASNET_C_COLLECTIVE_HANDLER; }
+/* Whether the library serves this index itself, as long as no handler of the client's has it. */
+static bool is_served(int index) {
+    return gasnetl_is_atomic(index) || index == GASNET_C_COLLECTIVE_HANDLER || index == GASNETL_PACK_HANDLER;
+}
 
-/* The index of an entry that takes any: the highest free one, those that the endpoint serves last. 0 where none is
+/* The index of an entry that takes any: the highest free one, those that the library serves last. 0 where none is
  * free. */
 static gasnet_handler_t free_index(const struct gasnetl_messages *messages) {
     for (int served = 0; served < 2; served++)

@@ -17,8 +17,9 @@ enum {
     WANTS = 1,
     IS_PLACED = 2,
     IS_READY = 4,
-    HAS_HEARD = 8
-};                                             /* flags of a HELLO; the last: that the other is ready */
+    HAS_HEARD = 8,
+    SERVES_PACKS = 16
+};                                             /* flags of a HELLO; the fourth: that the other is ready */
 enum { FORCED = 1, HEARD = 2, IS_ANSWER = 4 }; /* flags of an END */
 /* Microseconds; the first between two hellos. */
 enum { AGAIN = 10000, SETTLED = 100000, NAP = 2000, LATE = 5000000, MILLISECOND = 1000 };
@@ -193,8 +194,9 @@ static void send_hello(struct gasnetl_job *job, uint16_t to, bool wants, uint64_
     struct datagram hello = {
         .kind = HELLO, .first = job->segment.size, .buffer = control->buffer, .mtu = control->mtu[to], .at = at
     };
-    hello.flags = (uint8_t)((wants ? WANTS : 0) | (control->has_base ? IS_PLACED : 0) |
-                            (control->is_ready ? IS_READY : 0) | (control->knows_ready[to] ? HAS_HEARD : 0));
+    hello.flags =
+        (uint8_t)((wants ? WANTS : 0) | (control->has_base ? IS_PLACED : 0) | (control->is_ready ? IS_READY : 0) |
+                  (control->knows_ready[to] ? HAS_HEARD : 0) | (job->packs.served ? SERVES_PACKS : 0));
     hello.second = (uint64_t)(uintptr_t)job->segment.base;
     send_datagram(job, to, &hello);
 }
@@ -225,6 +227,7 @@ static void take_base(struct gasnetl_job *job, uint16_t from, const struct datag
     if (job->control.knows_base[from])
         return;
     job->segment.bases[from] = (uint8_t *)(uintptr_t)hello->second;
+    job->packs.serves[from] = hello->flags & SERVES_PACKS;
     job->control.knows_base[from] = true;
 }
 

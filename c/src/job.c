@@ -160,6 +160,7 @@ static int open_endpoint(struct gasnetl_job *job, uintptr_t minheapoffset) {
 static int attach(struct gasnetl_job *job, uintptr_t segsize, uintptr_t minheapoffset) {
     tell_most(job, segsize);
     gasnetl_atomics_start(&job->atomics, &job->messages);
+    gasnetl_packs_start(&job->packs, &job->messages);
     gasnetl_collectives_start(job);
     job->segment.size = segsize;
     gasnetl_recovery_start(job);

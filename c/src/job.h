@@ -18,6 +18,7 @@
 #include "kept.h"
 #include "messages.h"
 #include "network.h"
+#include "packs.h"
 #include "peers.h"
 #include "progress.h"
 #include "progress_thread.h"
@@ -58,6 +59,7 @@ struct gasnetl_job {
     struct gasnetl_recovery recovery;
     struct gasnetl_messages messages;
     struct gasnetl_transfers transfers;
+    struct gasnetl_packs packs;
     struct gasnetl_atomics atomics;
     struct gasnetl_collectives collectives;
     struct gasnetl_control control;

@@ -31,7 +31,7 @@ struct gasnetl_peer {
     uint64_t heard;    /* when it was last heard; by this and the one above it is known whether it is gone */
     uint64_t since;    /* the same, or when it was asked after it was heard */
     unsigned asking;   /* the threads that wait for a credit to it, for a request */
-    bool chunk_goes;   /* whose turn it is where a request and a chunk want the same credit */
+    bool library_goes; /* whose turn it is where the client and the library want the same credit for a request */
 };
 
 struct gasnetl_peers {

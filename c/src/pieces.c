@@ -1,131 +1,101 @@
 /* Puts and gets of many pieces: vector, indexed and strided. */
 #include "errors.h"
 #include "job.h"
+#include "sides.h"
 #include "transfer_calls.h"
-
-/* ---- A side of a transfer: ranges, one after the other. */
-
-struct side {
-    size_t ranges; /* how many it has */
-    const gasnet_memvec_t *list;
-    void *const *places;
-    size_t each; /* the bytes at each place, and in each range of a strided side */
-    char *base;
-    const size_t *strides, *counts; /* of the levels from the first on */
-    size_t levels;
-};
-
-static struct side of_list(size_t count, const gasnet_memvec_t *list) {
-    return (struct side){ .ranges = count, .list = list };
-}
-
-static struct side of_places(size_t count, void *const *places, size_t each) {
-    return (struct side){ .ranges = count, .places = places, .each = each };
-}
-
-static struct side of_strides(void *base, const size_t *strides, const size_t *count, size_t levels) {
-    struct side side = {
-        .ranges = 1, .each = count[0], .base = base, .strides = strides, .counts = count + 1, .levels = levels
-    };
-    for (size_t level = 0; level < levels; level++)
-        side.ranges *= side.counts[level];
-    return side;
-}
-
-static size_t length_of(const struct side *side, size_t range) {
-    return side->list ? side->list[range].len : side->each;
-}
-
-static char *place_of(const struct side *side, size_t range) {
-    if (side->list)
-        return side->list[range].addr;
-    if (side->places)
-        return side->places[range];
-    char *place = side->base;
-    for (size_t level = 0; level < side->levels; level++) {
-        place += side->strides[level] * (range % side->counts[level]);
-        range /= side->counts[level];
-    }
-    return place;
-}
-
-static size_t total_of(const struct side *side) {
-    if (!side->list)
-        return side->ranges * side->each;
-    size_t total = 0;
-    for (size_t range = 0; range < side->ranges; range++)
-        total += side->list[range].len;
-    return total;
-}
-
-/* ---- A walk along a side. */
-
-struct walk {
-    const struct side *side;
-    size_t range, gone; /* the present range, and how many of its bytes are behind the walk */
-};
-
-static size_t ahead(const struct walk *walk) { return length_of(walk->side, walk->range) - walk->gone; }
-
-static char *place(const struct walk *walk) { return place_of(walk->side, walk->range) + walk->gone; }
-
-/* Goes on by so many bytes of the present range, and past ranges that have none left. */
-static void go_on(struct walk *walk, size_t nbytes) {
-    walk->gone += nbytes;
-    while (walk->range < walk->side->ranges && ahead(walk) == 0) {
-        walk->range++;
-        walk->gone = 0;
-    }
-}
-
-/* ---- A transfer. */
 
 struct pieces {
     const char *call;
     enum gasnetl_kind kind;
     gasnet_node_t node;
-    struct side far, near;
+    struct gasnetl_side far, near;
 };
 
-/* Begins a piece for an operation. */
-static void begin_piece(struct gasnetl_job *job, struct gasnetl_op *op, const struct pieces *all, char *far, char *near,
-                        size_t nbytes) {
-    gasnetl_begin(job, op, &(struct gasnetl_asked){ all->call, all->kind, all->node, far, near, nbytes, 0, true });
+static struct gasnetl_asked asked_of(const struct pieces *all, const struct gasnetl_row *piece) {
+    return (struct gasnetl_asked){ all->call, all->kind, all->node, piece->far, piece->near, piece->nbytes, 0, true };
 }
 
-/* Begins all pieces for an operation. Two that continue each other on both sides are one. */
-static void begin_all(struct gasnetl_job *job, struct gasnetl_op *op, const struct pieces *all) {
-    struct walk far = { &all->far, 0, 0 }, near = { &all->near, 0, 0 };
-    char *far_at = NULL, *near_at = NULL;
-    size_t held = 0, total = total_of(&all->far);
-    if (total != total_of(&all->near))
-        gasnetl_stop(GASNETL_MISUSE, "%s: one side has %zu bytes, the other %zu", all->call, total,
-                     total_of(&all->near));
-    go_on(&far, 0);
-    go_on(&near, 0);
-    for (size_t nbytes; total; total -= nbytes) {
-        nbytes = ahead(&far) < ahead(&near) ? ahead(&far) : ahead(&near);
-        if (held && (place(&far) != far_at + held || place(&near) != near_at + held)) {
-            begin_piece(job, op, all, far_at, near_at, held);
-            held = 0;
-        }
-        if (!held) {
-            far_at = place(&far);
-            near_at = place(&near);
-        }
-        held += nbytes;
-        go_on(&far, nbytes);
-        go_on(&near, nbytes);
+/* Begins each piece of a row for an operation, as a transfer of its own. */
+static void begin_row(struct gasnetl_job *job, struct gasnetl_op *op, const struct pieces *all,
+                      const struct gasnetl_row *row) {
+    for (size_t i = 0; i < row->count; i++) {
+        const struct gasnetl_row piece = gasnetl_piece_of(row, i);
+        const struct gasnetl_asked asked = asked_of(all, &piece);
+        gasnetl_begin(job, op, &asked);
     }
-    if (held)
-        begin_piece(job, op, all, far_at, near_at, held);
+}
+
+/* Whether the first piece of a row and its last one are in the node's segment, and so all of them. */
+static bool is_inside(const struct gasnetl_job *job, gasnet_node_t node, const struct gasnetl_row *row) {
+    const struct gasnetl_row last = gasnetl_piece_of(row, row->count - 1);
+    int64_t length;
+    uint64_t remote;
+    return !__builtin_mul_overflow(row->far_step, row->count - 1, &length) &&
+           gasnetl_far(job, node, row->far, row->nbytes, &remote) &&
+           gasnetl_far(job, node, last.far, row->nbytes, &remote);
+}
+
+/* Ends the job where a piece isn't in the node's segment. */
+static void judge_row(const struct gasnetl_job *job, const struct pieces *all, const struct gasnetl_row *row) {
+    uint64_t remote;
+    if (is_inside(job, all->node, row))
+        return;
+    for (size_t i = 0; i < row->count; i++) {
+        const struct gasnetl_row piece = gasnetl_piece_of(row, i);
+        const struct gasnetl_asked asked = asked_of(all, &piece);
+        gasnetl_judge(job, &asked, &remote);
+    }
+}
+
+static void judge_totals(const struct pieces *all) {
+    const size_t far = gasnetl_side_total(&all->far), near = gasnetl_side_total(&all->near);
+    if (far != near)
+        gasnetl_stop(GASNETL_MISUSE, "%s: one side has %zu bytes, the other %zu", all->call, far, near);
+}
+
+/* The pieces that are to be packed. */
+struct small {
+    size_t count, nbytes;
+    struct gasnetl_row last;
+};
+
+/* Begins the long pieces for an operation, and judges the small ones, which it answers. */
+static struct small begin_long(struct gasnetl_job *job, struct gasnetl_op *op, const struct pieces *all,
+                               size_t longest) {
+    struct gasnetl_pairs pairs = gasnetl_pairs_of(&all->far, &all->near);
+    struct small small = { 0 };
+    struct gasnetl_row row;
+    while (gasnetl_pairs_next(&pairs, &row)) {
+        if (row.nbytes > longest) {
+            begin_row(job, op, all, &row);
+            continue;
+        }
+        judge_row(job, all, &row);
+        small.count += row.count;
+        small.nbytes += row.nbytes * row.count;
+        small.last = row;
+    }
+    return small;
+}
+
+/* Begins all pieces for an operation: two small ones or more are packed. The lists may stay until it is complete. */
+static void begin_all(struct gasnetl_job *job, struct gasnetl_op *op, const struct pieces *all, bool lists_stay) {
+    const size_t longest = gasnetl_pack_longest(job, all->node);
+    judge_totals(all);
+    const struct small small = begin_long(job, op, all, longest);
+    const struct gasnetl_to_pack packed = { all->kind, all->node,    &all->far, &all->near,
+                                            longest,   small.nbytes, lists_stay };
+    if (small.count == 1)
+        begin_row(job, op, all, &small.last);
+    else if (small.count)
+        gasnetl_pack(job, op, &packed);
 }
 
 static void blocking(const struct pieces *all) {
     struct gasnetl_job *job = gasnetl_enter(all->call);
     struct gasnetl_op op = { 0 };
     unsigned turn = 0;
-    begin_all(job, &op, all);
+    begin_all(job, &op, all, true);
     while (!gasnetl_op_is_complete(&op))
         gasnetl_wait(job, &turn);
     gasnetl_leave(job);
@@ -134,7 +104,7 @@ static void blocking(const struct pieces *all) {
 static gasnet_handle_t explicit(const struct pieces *all) {
     struct gasnetl_job *job = gasnetl_enter(all->call);
     struct gasnetl_op *op = gasnetl_op_new(&job->transfers.ops);
-    begin_all(job, op, all);
+    begin_all(job, op, all, false);
     op = gasnetl_settled(job, op);
     gasnetl_leave(job);
     return op;
@@ -142,7 +112,7 @@ static gasnet_handle_t explicit(const struct pieces *all) {
 
 static void implicit(const struct pieces *all) {
     struct gasnetl_job *job = gasnetl_enter(all->call);
-    begin_all(job, gasnetl_implicit_op(job, all->kind), all);
+    begin_all(job, gasnetl_implicit_op(job, all->kind), all, false);
     gasnetl_leave(job);
 }
 
@@ -170,9 +140,9 @@ static void implicit(const struct pieces *all) {
     void *dstaddr, const size_t dststrides[], gasnet_node_t srcnode, void *srcaddr, const size_t srcstrides[],         \
         const size_t count[], size_t stridelevels
 
-#define LIST(side) of_list(side##count, side##list)
-#define PLACES(side) of_places(side##count, side##list, side##len)
-#define STRIDES(side) of_strides(side##addr, side##strides, count, stridelevels)
+#define LIST(side) gasnetl_side_of_list(side##count, side##list)
+#define PLACES(side) gasnetl_side_of_places(side##count, side##list, side##len)
+#define STRIDES(side) gasnetl_side_of_strides(side##addr, side##strides, count, stridelevels)
 
 void gasnet_putv_bulk(PUTV) { blocking(PUT("gasnet_putv_bulk", LIST(dst), LIST(src))); }
 void gasnet_getv_bulk(GETV) { blocking(GET("gasnet_getv_bulk", LIST(src), LIST(dst))); }

@@ -78,12 +78,11 @@ void gasnetl_client_asked(struct gasnetl_job *job, const gasnet_c_told *told) {
     request_went_out(job, told, GASNETL_BY_CLIENT);
 }
 
-/* Of a request and a chunk that want the same credit, each gets every other one. */
-static bool chunk_may_go(struct gasnetl_peer *peer) {
+bool gasnetl_library_goes(struct gasnetl_peer *peer) {
     if (!peer->asking)
         return true;
-    peer->chunk_goes = !peer->chunk_goes;
-    return peer->chunk_goes;
+    peer->library_goes = !peer->library_goes;
+    return peer->library_goes;
 }
 
 static bool tick_once(struct gasnetl_job *job) {
@@ -93,6 +92,16 @@ static bool tick_once(struct gasnetl_job *job) {
     return told.code != GASNET_C_NOTHING;
 }
 
+/* Sends what waits to be sent to a node. Of the two kinds the first one to have the credit is the other one each time.
+ */
+static void feed(struct gasnetl_job *job, uint16_t to) {
+    if (gasnetl_packs_go_first(&job->packs, to))
+        gasnetl_packs_feed(job, to);
+    gasnetl_send_chunks(job, to);
+    gasnetl_transfers_feed(job, to);
+    gasnetl_packs_feed(job, to);
+}
+
 static void request_came_back(struct gasnetl_job *job, const gasnet_c_told *told) {
     struct gasnetl_progress *progress = &job->progress;
     job->peers.of[told->to].out--;
@@ -100,10 +109,10 @@ static void request_came_back(struct gasnetl_job *job, const gasnet_c_told *told
     gasnetl_recovery_answered(job, told->to, told->slot);
     gasnetl_chunk_back(job, told->to, told->slot);
     gasnetl_atomic_back(job, told->to, told->slot);
+    gasnetl_pack_back(job, told->to, told->slot);
     if (progress->has_notes)
         tick_once(job);
-    gasnetl_send_chunks(job, told->to);
-    gasnetl_transfers_feed(job, told->to);
+    feed(job, told->to);
 }
 
 /* Nothing is due. A note that is due had no credit, or there is none. */
@@ -149,7 +158,7 @@ void gasnetl_told(struct gasnetl_job *job, const gasnet_c_told *told) {
 
 void gasnetl_send_chunks(struct gasnetl_job *job, uint16_t to) {
     struct gasnetl_peer *peer = &job->peers.of[to];
-    while (gasnetl_has_chunk(&job->transfers, to) && peer->out < job->progress.credits && chunk_may_go(peer))
+    while (gasnetl_has_chunk(&job->transfers, to) && peer->out < job->progress.credits && gasnetl_library_goes(peer))
         if (!tick_once(job))
             break;
 }
@@ -211,6 +220,8 @@ static void deliver_message(struct gasnetl_job *job, const uint8_t *bytes, size_
         serve(job, coming.handler, bytes, length);
     else if (!coming.runs)
         deliver_quietly(job, bytes, length);
+    else if (gasnetl_is_for_packs(job, (int)coming.handler))
+        gasnetl_pack_take(job, &coming, bytes, length);
     else if (job->progress.keeps)
         gasnetl_keep(&job->kept, bytes, length);
     else

@@ -11,6 +11,7 @@
 #include "gasnet_c.h"
 
 struct gasnetl_job;
+struct gasnetl_peer;
 
 struct gasnetl_progress {
     uint64_t now;         /* the time of this round, in microseconds */
@@ -55,6 +56,10 @@ void gasnetl_told(struct gasnetl_job *job, const gasnet_c_told *told);
 
 /* The same of a request that is accepted, for a handler of the client's. */
 void gasnetl_client_asked(struct gasnetl_job *job, const gasnet_c_told *told);
+
+/* Whether the library may have the next credit to a peer: where a request of the client's waits for one too, each of
+ * the two gets every other one. */
+bool gasnetl_library_goes(struct gasnetl_peer *peer);
 
 /* Sends chunks of transfers to a node while there are some and it has credits, but for those that requests wait for. */
 void gasnetl_send_chunks(struct gasnetl_job *job, uint16_t to);

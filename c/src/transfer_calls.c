@@ -9,7 +9,7 @@ _Static_assert(__BYTE_ORDER__ == __ORDER_LITTLE_ENDIAN__, "a value's low bytes c
 
 /* ---- What they have in common. */
 
-static void judge_transfer(const struct gasnetl_job *job, const struct gasnetl_asked *asked, uint64_t *remote) {
+void gasnetl_judge(const struct gasnetl_job *job, const struct gasnetl_asked *asked, uint64_t *remote) {
     if (asked->node >= job->nodes)
         gasnetl_stop(GASNETL_MISUSE, "%s to node %u: there are %u nodes", asked->call, asked->node, job->nodes);
     if (asked->nbytes && !gasnetl_far(job, asked->node, asked->far, asked->nbytes, remote))
@@ -33,7 +33,7 @@ void gasnetl_begin(struct gasnetl_job *job, struct gasnetl_op *op, const struct 
                                  .near = asked->near,
                                  .nbytes = asked->nbytes };
     uint64_t own;
-    judge_transfer(job, asked, &move.remote);
+    gasnetl_judge(job, asked, &move.remote);
     if (!asked->nbytes)
         return;
     if (asked->node == job->me) {

@@ -20,8 +20,12 @@ struct gasnetl_asked {
     bool may_wait_for_near; /* a put's source may be read until the sync, as of bulk and blocking ones */
 };
 
-/* Begins it for an operation. Returns as its near side may be changed, where that mayn't wait for the sync. Ends the
- * job where there is no such node, or the far side isn't in its segment. */
+/* Ends the job where there is no such node, or the far side isn't in its segment. Else writes where it is there, if it
+ * has a byte. */
+void gasnetl_judge(const struct gasnetl_job *job, const struct gasnetl_asked *asked, uint64_t *remote);
+
+/* Begins it for an operation. Returns as its near side may be changed, where that mayn't wait for the sync. It is
+ * judged first. */
 void gasnetl_begin(struct gasnetl_job *job, struct gasnetl_op *op, const struct gasnetl_asked *asked);
 
 /* The operation, or NULL where it is complete already. */
