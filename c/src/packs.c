@@ -30,7 +30,7 @@ bool gasnetl_is_for_packs(const struct gasnetl_job *job, int index) {
 size_t gasnetl_pack_longest(const struct gasnetl_job *job, gasnet_node_t to) {
     if (to >= job->nodes || to == job->me || !job->packs.served || !job->packs.serves[to])
         return 0;
-    return job->control.ways[to].chunk / 2;
+    return job->control.ways[to].chunk / 4 * 3;
 }
 
 /* ---- The pieces of a transfer. */
@@ -105,6 +105,8 @@ static void rotate(struct gasnetl_pack_lane *lane) {
     lane->first = packing->behind;
     if (packing->left)
         enqueue(lane, packing);
+    else if (packing->sent)
+        *packing->sent = true;
 }
 
 /* Reads the lists from copies from now on. */
@@ -221,7 +223,8 @@ void gasnetl_pack(struct gasnetl_job *job, struct gasnetl_op *op, const struct g
                                          .far = *what->far,
                                          .near = *what->near,
                                          .longest = what->longest,
-                                         .left = what->nbytes };
+                                         .left = what->nbytes,
+                                         .sent = what->sent };
     packing->next.pairs = gasnetl_pairs_of(&packing->far, &packing->near);
     gasnetl_part_add(op, &packing->part);
     gasnetl_read_clock(job);

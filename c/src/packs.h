@@ -46,6 +46,7 @@ struct gasnetl_packing {
     size_t left;                    /* the bytes that no pack was sent for */
     struct gasnetl_position next;   /* where these begin */
     unsigned open;                  /* its packs that aren't back */
+    bool *sent;                     /* set as there is a pack for each of its bytes; or NULL */
     void *copies;                   /* of the lists, or NULL */
     struct gasnetl_packing *behind; /* in the queue of its node, or among the free ones */
 };
@@ -90,7 +91,8 @@ struct gasnetl_to_pack {
     gasnet_node_t to;
     const struct gasnetl_side *far, *near;
     size_t longest, nbytes;
-    bool lists_stay; /* until all of it is complete */
+    bool lists_stay; /* until all of it is complete, or, where the next one isn't NULL, until that is set */
+    bool *sent;      /* NULL, or set as soon as nothing of a put's source is to be read any more */
 };
 
 /* Begins that for an operation, of which it is a part until it is complete. It doesn't wait. */

@@ -1,4 +1,6 @@
 /* Puts and gets of many pieces: vector, indexed and strided. */
+#include "pieces.h"
+
 #include "errors.h"
 #include "job.h"
 #include "sides.h"
@@ -9,10 +11,12 @@ struct pieces {
     enum gasnetl_kind kind;
     gasnet_node_t node;
     struct gasnetl_side far, near;
+    bool is_read_at_once; /* a put's source may be changed as the call returns */
 };
 
 static struct gasnetl_asked asked_of(const struct pieces *all, const struct gasnetl_row *piece) {
-    return (struct gasnetl_asked){ all->call, all->kind, all->node, piece->far, piece->near, piece->nbytes, 0, true };
+    return (struct gasnetl_asked){ all->call,   all->kind,     all->node, piece->far,
+                                   piece->near, piece->nbytes, 0,         !all->is_read_at_once };
 }
 
 /* Begins each piece of a row for an operation, as a transfer of its own. */
@@ -83,12 +87,23 @@ static void begin_all(struct gasnetl_job *job, struct gasnetl_op *op, const stru
     const size_t longest = gasnetl_pack_longest(job, all->node);
     judge_totals(all);
     const struct small small = begin_long(job, op, all, longest);
-    const struct gasnetl_to_pack packed = { all->kind, all->node,    &all->far, &all->near,
-                                            longest,   small.nbytes, lists_stay };
+    bool is_sent = false;
+    unsigned turn = 0;
     if (small.count == 1)
         begin_row(job, op, all, &small.last);
-    else if (small.count)
-        gasnetl_pack(job, op, &packed);
+    if (small.count < 2)
+        return;
+    gasnetl_pack(job, op,
+                 &(struct gasnetl_to_pack){ .kind = all->kind,
+                                            .to = all->node,
+                                            .far = &all->far,
+                                            .near = &all->near,
+                                            .longest = longest,
+                                            .nbytes = small.nbytes,
+                                            .lists_stay = lists_stay,
+                                            .sent = all->is_read_at_once ? &is_sent : NULL });
+    while (all->is_read_at_once && !is_sent)
+        gasnetl_wait(job, &turn);
 }
 
 static void blocking(const struct pieces *all) {
@@ -112,14 +127,15 @@ static gasnet_handle_t explicit(const struct pieces *all) {
 
 static void implicit(const struct pieces *all) {
     struct gasnetl_job *job = gasnetl_enter(all->call);
-    begin_all(job, gasnetl_implicit_op(job, all->kind), all, false);
+    begin_all(job, gasnetl_implicit_op(job, all->kind), all, all->is_read_at_once);
     gasnetl_leave(job);
 }
 
 /* ---- The calls: PUT and GET put a side together from a call's parameters. */
 
-#define PUT(call, far, near) (&(struct pieces){ call, GASNETL_PUT, dstnode, far, near })
-#define GET(call, far, near) (&(struct pieces){ call, GASNETL_GET, srcnode, far, near })
+#define PUT(call, far, near) (&(struct pieces){ call, GASNETL_PUT, dstnode, far, near, false })
+#define PUT_READ(call, far, near) (&(struct pieces){ call, GASNETL_PUT, dstnode, far, near, true })
+#define GET(call, far, near) (&(struct pieces){ call, GASNETL_GET, srcnode, far, near, false })
 
 #define PUTV                                                                                                           \
     gasnet_node_t dstnode, size_t dstcount, gasnet_memvec_t const dstlist[], size_t srccount,                          \
@@ -164,3 +180,6 @@ gasnet_handle_t gasnet_puts_nb_bulk(PUTS) { return explicit(PUT("gasnet_puts_nb_
 gasnet_handle_t gasnet_gets_nb_bulk(GETS) { return explicit(GET("gasnet_gets_nb_bulk", STRIDES(src), STRIDES(dst))); }
 void gasnet_puts_nbi_bulk(PUTS) { implicit(PUT("gasnet_puts_nbi_bulk", STRIDES(dst), STRIDES(src))); }
 void gasnet_gets_nbi_bulk(GETS) { implicit(GET("gasnet_gets_nbi_bulk", STRIDES(src), STRIDES(dst))); }
+
+void gasnetl_puts_nbi(PUTS) { implicit(PUT_READ("a strided put", STRIDES(dst), STRIDES(src))); }
+void gasnetl_puti_nbi(PUTI) { implicit(PUT_READ("an indexed put", PLACES(dst), PLACES(src))); }

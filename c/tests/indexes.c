@@ -1,4 +1,4 @@
-/* Handlers that take any index: the layer's own ones, 252 to 254, are the last that they get, so collectives and
+/* Handlers that take any index: the layer's own ones, 251 to 254, are the last that they get, so collectives and
  * operations on words go on beside as many as the argument says. */
 #define GASNET_SEQ 1
 #include "check.h"
@@ -19,7 +19,7 @@ int main(int argc, char **argv) {
         table[i].fnptr = run;
     start(&argc, &argv, table, entries, GASNET_PAGESIZE);
     for (int i = 0; i < entries; i++)
-        CHECK(table[i].index >= 128 && (table[i].index < 252 || table[i].index > 254));
+        CHECK(table[i].index >= 128 && (table[i].index < 251 || table[i].index > 254));
     gasnet_coll_reduce_all(NULL, &sum, &one, GEX_DT_U64, 1, GEX_OP_ADD, 0);
     CHECK(sum == (uint64_t)nodes);
     gex_AD_Create(&words, NULL, GEX_DT_U64, GEX_OP_INC | GEX_OP_GET, 0);

@@ -62,7 +62,7 @@ sizes="1 2 4 8" losses="0 10 30"
 for build in out out/sanitized; do
     kind=${build#out}
     kind=${kind:+ sanitized}
-    for test in queries messages transfers pieces atomics numbers collectives barriers locks threads strangers; do
+    for test in queries messages transfers pieces packs atomics numbers collectives barriers locks threads strangers; do
         for n in $sizes; do
             for loss in $losses; do
                 [ "$n" = 1 ] && [ "$loss" != 0 ] && continue
@@ -189,6 +189,7 @@ fi
 
 # Sealed: with one key all goes as without, over a lossy network too; with two keys the nodes don't hear each other.
 check "round trips and windows" 0 "" out/sanitized/tests/windows
+check "runs of pieces" 0 "" out/sanitized/tests/runs
 check "codes of RFC 4231" 0 "" out/sanitized/tests/seals
 (umask 077; printf '6b%.0s' {1..32} >out/key; printf '7c%.0s' {1..32} >out/other-key; cp out/key out/open-key; chmod 640 out/open-key)
 for test in messages transfers barriers; do
@@ -238,6 +239,27 @@ check "suspended" 0 "" env GASNET_PEER_TIMEOUT=2 bash -c \
     'bin/gasnetrun -n 2 out/tests/progress silent & runner=$!; sleep 1
      nodes=$(pgrep -P $runner); kill -STOP $nodes; sleep 4; kill -CONT $nodes; wait $runner'
 
+# Pieces go packed on ways with small packets and with few credits, under a key, and without the thread; and one by one from and to
+# a node whose client has the index itself.
+for build in out out/sanitized; do
+    kind=${build#out}
+    kind=${kind:+ sanitized}
+    for settings in GASNET_MTU=576 GASNET_MTU=1500 GASNET_CREDITS=1 GASNET_PROGRESS=poll; do
+        check "packs $settings$kind" 0 "" env $settings bin/gasnetrun -n 2 $build/tests/packs
+    done
+    check "packs of 1,500 bytes with loss$kind" 0 "" env GASNET_MTU=1500 GASNET_DROP=5 GASNET_TWICE=5 GASNET_SWAP=5 GASNET_RESEND=5 \
+        bin/gasnetrun -n 3 $build/tests/packs
+    check "packs under a key$kind" 0 "" env GASNET_KEY_FILE=out/key GASNET_DROP=20 GASNET_RESEND=5 bin/gasnetrun -n 2 $build/tests/packs
+    for node in -1 0 2; do
+        check "packs, the client's index on node $node$kind" 0 "" bin/gasnetrun -n 3 $build/tests/packs own $node
+    done
+done
+# A message that names what is outside of a segment, or no pieces, writes nothing.
+for what in behind beyond before second turned fewer more broken empty kind all get; do
+    check "packs, $what is forged" 70 "^node 1 has what it had" bin/gasnetrun -n 2 out/sanitized/tests/packs forged $what
+done
+check "packs, one is right" 70 "^node 1 has what was put" bin/gasnetrun -n 2 out/sanitized/tests/packs forged right
+
 # Nodes with other settings are refused by name, by both.
 unequal() { # VARIABLE VALUE VALUE
     local log
@@ -266,7 +288,7 @@ check "few credits" 0 "" env GASNET_CREDITS=1 bin/gasnetrun -n 2 out/tests/trans
 
 check "rule collective-given-254" 70 "handler 254, which collectives need, is the client's: gasnet_attach gave it" \
     bin/gasnetrun -n 2 out/sanitized/tests/rules collective-given-254
-for n in 2 125; do
+for n in 2 124; do
     check "indexes, $n of any" 0 "" bin/gasnetrun -n 2 out/sanitized/tests/indexes $n
 done
 

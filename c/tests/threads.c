@@ -1,4 +1,4 @@
-/* Four threads of each node at once (GASNET_PARSYNC): requests, puts, gets, locks and
+/* Four threads of each node at once (GASNET_PARSYNC): requests, puts, gets, pieces, locks and
  * operations on one word, each thread with what is its own. */
 #define GASNET_PARSYNC 1
 #include <pthread.h>
@@ -14,7 +14,10 @@ enum {
     TURNS = 100,
     PART = 20000,
     SEGMENT = 1 << 20,
-    WORD = SEGMENT - 8
+    WORD = SEGMENT - 8,
+    SCATTERED = 700000, /* behind the parts of eight nodes */
+    WIDTH = 8,
+    COLUMNS = 400
 };
 
 static gex_AD_t words;
@@ -70,6 +73,21 @@ static void move(int thread) {
     }
 }
 
+/* Pieces of all threads go packed, beside one another's. */
+static void scatter(int thread) {
+    static unsigned char parts[THREADS][2][COLUMNS * WIDTH];
+    unsigned char *from = parts[thread][0], *to = parts[thread][1],
+                  *far = at(next(), SCATTERED + (size_t)(me * THREADS + thread) * 3 * COLUMNS * WIDTH);
+    const size_t there[] = { 3 * WIDTH }, here[] = { WIDTH }, counts[] = { WIDTH, COLUMNS };
+    for (int turn = 0; turn < 20; turn++) {
+        fill(from, COLUMNS * WIDTH, me, thread + turn);
+        gasnet_puts_nbi_bulk((gasnet_node_t)next(), far, there, from, here, counts, 1);
+        gasnet_wait_syncnbi_puts();
+        gasnet_wait_syncnb(gasnet_gets_nb_bulk(to, here, (gasnet_node_t)next(), far, there, counts, 1));
+        CHECK(is_filled(to, COLUMNS * WIDTH, me, thread + turn));
+    }
+}
+
 /* All threads of all nodes add to one word, four times at once. */
 static void count(void) {
     gex_Event_t events[4];
@@ -96,6 +114,7 @@ static void *work(void *which) {
     int thread = (int)(intptr_t)which;
     ask(thread);
     move(thread);
+    scatter(thread);
     count();
     call_round(thread);
     return NULL;

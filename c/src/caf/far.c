@@ -1,8 +1,10 @@
 #include "far.h"
 
+#include <stdlib.h>
 #include <string.h>
 
 #include "errors.h"
+#include "pieces.h"
 #include "state.h"
 
 enum { ROOM = 8192, LONG_RUN = 4096 };
@@ -116,7 +118,70 @@ static struct caf_section read_letter(const unsigned char *bytes, struct head *h
 
 enum { LISTED = ROOM / sizeof(ptrdiff_t) };
 
-/* ---- Puts. */
+/* ---- Sections of the segment: GASNet's transfers of many pieces pack them. */
+
+static bool is_section_in_segment(int node, const struct caf_section *section) {
+    uintptr_t low, high;
+    caf_section_hull(section, &low, &high);
+    return is_in_segment(node, low, high - low);
+}
+
+/* A section without tables as GASNet's strided transfers have it, beside the same bytes that lie together here. */
+struct strided {
+    size_t counts[CAF_RANKS + 1], there[CAF_RANKS], here[CAF_RANKS];
+};
+
+static struct strided strided_of(const struct caf_section *section) {
+    struct strided all = { .counts = { section->run } };
+    size_t length = section->run;
+    for (int k = 0; k < section->rank; k++) {
+        all.counts[k + 1] = section->dim[k].count;
+        all.there[k] = (size_t)section->dim[k].stride;
+        all.here[k] = length;
+        length *= section->dim[k].count;
+    }
+    return all;
+}
+
+/* The places of a section's runs, as its indexed ones have them; freed by the caller. */
+static void **places_of(const struct caf_section *section, size_t count) {
+    void **places = caf_memory(count * sizeof *places);
+    struct caf_walk walk = caf_walk_from(section, 0);
+    size_t length;
+    for (size_t i = 0; i < count; i++)
+        places[i] = (void *)caf_walk_next(&walk, section->run, &length);
+    return places;
+}
+
+static void put_in_segment(int node, const struct caf_section *to, const void *bytes) {
+    void *from = (void *)(uintptr_t)bytes;
+    if (has_table(to)) {
+        const size_t count = caf_section_count(to);
+        void **places = places_of(to, count);
+        gasnetl_puti_nbi((gasnet_node_t)node, count, places, to->run, 1, &from, count * to->run);
+        free(places);
+    } else {
+        const struct strided all = strided_of(to);
+        gasnetl_puts_nbi((gasnet_node_t)node, (void *)to->base, all.there, from, all.here, all.counts,
+                         (size_t)to->rank);
+    }
+    caf_state.peers[node].puts.has_puts = true;
+}
+
+static void get_from_segment(int node, const struct caf_section *from, void *bytes) {
+    if (has_table(from)) {
+        const size_t count = caf_section_count(from);
+        void **places = places_of(from, count);
+        gasnet_geti_bulk(1, &bytes, count * from->run, (gasnet_node_t)node, count, places, from->run);
+        free(places);
+    } else {
+        const struct strided all = strided_of(from);
+        gasnet_gets_bulk(bytes, all.here, (gasnet_node_t)node, (void *)from->base, all.there, all.counts,
+                         (size_t)from->rank);
+    }
+}
+
+/* ---- Puts into other memory. */
 
 void caf_put_handler(gasnet_token_t from, void *bytes, size_t length) {
     struct head head;
@@ -177,6 +242,10 @@ void caf_store(int node, const struct caf_section *to, const void *bytes) {
         return;
     }
     keep_order(node, to, true);
+    if (is_section_in_segment(node, to)) {
+        put_in_segment(node, to, bytes);
+        return;
+    }
     if (to->rank && to->run < LONG_RUN) {
         (has_table(to) ? put_listed : put_strided)(node, to, bytes);
         return;
@@ -188,7 +257,7 @@ void caf_store(int node, const struct caf_section *to, const void *bytes) {
     }
 }
 
-/* ---- Gets. */
+/* ---- Gets from other memory. */
 
 /* Where the answers to the requests of one get go. */
 struct getting {
@@ -261,25 +330,6 @@ static void get_runs(int node, const struct caf_section *from, struct getting *g
     gasnet_wait_syncnbi_gets();
 }
 
-/* Gets a section of the segment by the strided get of GASNet. */
-static void get_by_strides(int node, const struct caf_section *from, struct getting *getting) {
-    size_t counts[CAF_RANKS + 1] = { from->run }, there[CAF_RANKS], here[CAF_RANKS], length = from->run;
-    for (int k = 0; k < from->rank; k++) {
-        counts[k + 1] = from->dim[k].count;
-        there[k] = (size_t)from->dim[k].stride;
-        here[k] = length;
-        length *= from->dim[k].count;
-    }
-    gasnet_gets_bulk(getting->bytes, here, (gasnet_node_t)node, (void *)from->base, there, counts, (size_t)from->rank);
-    getting->left = 0;
-}
-
-static bool is_section_in_segment(int node, const struct caf_section *section) {
-    uintptr_t low, high;
-    caf_section_hull(section, &low, &high);
-    return is_in_segment(node, low, high - low);
-}
-
 void caf_fetch(int node, const struct caf_section *from, void *bytes) {
     struct getting getting = { bytes, caf_section_length(from) };
     volatile size_t *left = &getting.left;
@@ -290,10 +340,11 @@ void caf_fetch(int node, const struct caf_section *from, void *bytes) {
         return;
     }
     keep_order(node, from, false);
-    bool is_long = from->rank == 0 || from->run >= LONG_RUN;
-    if (is_long && !has_table(from) && is_section_in_segment(node, from))
-        get_by_strides(node, from, &getting);
-    else if (is_long)
+    if (is_section_in_segment(node, from)) {
+        get_from_segment(node, from, bytes);
+        return;
+    }
+    if (from->rank == 0 || from->run >= LONG_RUN)
         get_runs(node, from, &getting);
     else if (has_table(from))
         get_listed(node, from, &getting);
