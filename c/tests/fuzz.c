@@ -390,6 +390,17 @@ static void move(int round) {
     CHECK(is_filled(from, LENGTH, me, round));
 }
 
+/* The same of pieces, which go packed. */
+static void move_pieces(int round) {
+    enum { WIDTH = 8, COLUMNS = 3000 };
+    static unsigned char to[WIDTH * COLUMNS], from[WIDTH * COLUMNS];
+    const size_t there[] = { 3 * WIDTH }, here[] = { WIDTH }, counts[] = { WIDTH, COLUMNS };
+    fill(to, sizeof to, me, round + 1);
+    gasnet_puts_bulk((gasnet_node_t)next(), at(next(), 1 << 16), there, to, here, counts, 1);
+    gasnet_gets_bulk(from, here, (gasnet_node_t)next(), at(next(), 1 << 16), there, counts, 1);
+    CHECK(is_filled(from, sizeof from, me, round + 1));
+}
+
 static void reduce(int round) {
     uint64_t own = (uint64_t)(me + round), sum;
     gasnet_coll_reduce_all(NULL, &sum, &own, GEX_DT_U64, 1, GEX_OP_ADD, 0);
@@ -410,6 +421,7 @@ static void work(void) {
     for (int round = 0; round < ROUNDS; round++) {
         send_messages();
         move(round);
+        move_pieces(round);
         add(words, GEX_OP_FADD);
         reduce(round);
         barrier();

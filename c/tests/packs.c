@@ -8,6 +8,7 @@
  *   mixed       vectors of long and short ranges, several at once, whose lists change behind the calls
  *   computes    the target makes no call until the bytes are there
  *   forged WHAT a message that names bytes outside of the segment, or no pieces: nothing is written, and the job ends
+ *   counted     many pieces, of which GASNET_COUNTS tells in how many datagrams they went
  *   own N       the client has a handler at the index of packs on node N, or on all nodes where N is negative
  */
 #define GASNET_SEQ 1
@@ -311,6 +312,17 @@ static void test_forged(const char *what) {
         GASNET_BLOCKUNTIL(false);
 }
 
+/* ---- How much is sent: some 60,000 pieces, some of them in no order. */
+
+static void test_counted(void) {
+    test_length(8, 10000, true, false);
+    test_length(8, 10000, false, true);
+    for (int i = 0; i < 2; i++) {
+        test_changes(true);
+        test_changes(false);
+    }
+}
+
 /* ---- The beginning. */
 
 static int own_runs;
@@ -354,6 +366,8 @@ int main(int argc, char **argv) {
         test_forged(argc > 2 ? argv[2] : "");
     if (is_own)
         test_own(which);
+    if (!strcmp(way, "counted"))
+        test_counted();
     barrier();
     gasnet_exit(0);
 }

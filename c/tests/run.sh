@@ -254,6 +254,7 @@ for build in out out/sanitized; do
         check "packs, the client's index on node $node$kind" 0 "" bin/gasnetrun -n 3 $build/tests/packs own $node
     done
 done
+check "packs are few" 0 "node 0: sent [0-9]\{1,4\}, resent" env GASNET_COUNTS=1 bin/gasnetrun -n 2 out/tests/packs counted
 # A message that names what is outside of a segment, or no pieces, writes nothing.
 for what in behind beyond before second turned fewer more broken empty kind all get; do
     check "packs, $what is forged" 70 "^node 1 has what it had" bin/gasnetrun -n 2 out/sanitized/tests/packs forged $what
