@@ -315,9 +315,9 @@ void gasnetl_pack_back(struct gasnetl_job *job, uint16_t to, uint16_t slot) {
 
 /* ---- What comes. */
 
-/* Delivers the datagram, with what its handler did. */
-static void deliver(struct gasnetl_job *job, const uint8_t *bytes, size_t length, const gasnet_c_run *run) {
-    const gasnet_c_told told = gasnet_c_deliver(&job->node, job->progress.time, bytes, length, run,
+/* Delivers the datagram, with the reply that its handler asked for. */
+static void deliver(struct gasnetl_job *job, const uint8_t *bytes, size_t length, const gasnet_c_reply *reply) {
+    const gasnet_c_told told = gasnet_c_deliver(&job->node, job->progress.time, bytes, length, reply,
                                                 gasnetl_network_room(&job->network), GASNET_C_ROOM);
     gasnetl_told(job, &told);
 }
@@ -325,11 +325,10 @@ static void deliver(struct gasnetl_job *job, const uint8_t *bytes, size_t length
 /* Does what a request asks for, if it is a right one, and delivers it. */
 static bool take_request(struct gasnetl_job *job, const gasnet_c_coming *coming, const uint8_t *bytes, size_t length) {
     struct request request;
-    gasnet_c_run run = gasnetl_no_run;
     if (!read_request(job, coming, bytes, &request))
         return false;
-    run.reply = serve(job, &request);
-    deliver(job, bytes, length, &run);
+    const gasnet_c_reply reply = serve(job, &request);
+    deliver(job, bytes, length, &reply);
     return true;
 }
 
@@ -341,17 +340,11 @@ static bool take_reply(struct gasnetl_job *job, const gasnet_c_coming *coming, c
     if (pack->of->kind == GASNETL_GET)
         spread(pack, bytes + coming->payload_at);
     pack->is_answered = true;
-    deliver(job, bytes, length, &gasnetl_no_run);
+    deliver(job, bytes, length, &gasnetl_no_run.reply);
     return true;
 }
 
-bool gasnetl_pack_take(struct gasnetl_job *job, const uint8_t *bytes, size_t length) {
-    if (length <= GASNET_C_HANDLER_AT || !gasnetl_is_for_packs(job, bytes[GASNET_C_HANDLER_AT]))
-        return false;
-    const gasnet_c_coming coming = gasnet_c_peek(&job->node, bytes, length);
-    if (!coming.runs)
-        deliver(job, bytes, length, &gasnetl_no_run);
-    else if (!(coming.runs == 1 ? take_request : take_reply)(job, &coming, bytes, length))
-        gasnetl_message_take(job, bytes, length); /* it is for a handler of the client's, which isn't registered */
-    return true;
+void gasnetl_pack_take(struct gasnetl_job *job, const gasnet_c_coming *coming, const uint8_t *bytes, size_t length) {
+    if (!(coming->runs == 1 ? take_request : take_reply)(job, coming, bytes, length))
+        gasnetl_message_take(job, coming, bytes, length); /* for a handler of the client's, which isn't registered */
 }

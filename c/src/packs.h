@@ -110,7 +110,7 @@ void gasnetl_pack_back(struct gasnetl_job *job, uint16_t to, uint16_t slot);
 /* Whether a handler's index is that of packs, which the layer serves. */
 bool gasnetl_is_for_packs(const struct gasnetl_job *job, int index);
 
-/* Takes a datagram, if it is for the handler of packs: false where it isn't. */
-bool gasnetl_pack_take(struct gasnetl_job *job, const uint8_t *bytes, size_t length);
+/* Takes a datagram whose delivery runs the handler of packs, as `coming` tells. */
+void gasnetl_pack_take(struct gasnetl_job *job, const gasnet_c_coming *coming, const uint8_t *bytes, size_t length);
 
 #endif
