@@ -23,6 +23,14 @@ struct stretch {
 
 _Static_assert(sizeof(struct head) + CAF_RANKS * sizeof(struct stretch) < ROOM / 2, "a message has room for bytes");
 
+enum { LEAST_ROOM = 256 }; /* for bytes behind a head */
+
+/* The bytes that a message may have which needs so many: those of a packet, if they are enough. */
+static size_t room_for(size_t least) {
+    const size_t packet = gasnet_AMMaxMedium();
+    return least <= packet ? packet : ROOM;
+}
+
 /* A message as it is made. */
 struct letter {
     _Alignas(16) unsigned char bytes[ROOM];
@@ -205,7 +213,8 @@ static void put_strided(int node, const struct caf_section *to, const unsigned c
     struct letter letter;
     size_t whole = caf_section_length(to), piece;
     for (size_t done = 0; done < whole; done += piece) {
-        size_t room = ROOM - sizeof(struct head) - (size_t)to->rank * sizeof(struct stretch);
+        size_t front = sizeof(struct head) + (size_t)to->rank * sizeof(struct stretch),
+               room = room_for(front + LEAST_ROOM) - front;
         piece = whole - done < room ? whole - done : room;
         write_strided(&letter, to, done, piece);
         send_put(node, &letter, bytes + done, piece);
@@ -214,7 +223,8 @@ static void put_strided(int node, const struct caf_section *to, const unsigned c
 
 static void put_listed(int node, const struct caf_section *to, const unsigned char *bytes) {
     struct letter letter;
-    size_t left = caf_section_count(to), most = (ROOM - sizeof(struct head)) / (to->run + sizeof(uint64_t)), runs;
+    const size_t each = to->run + sizeof(uint64_t), room = room_for(sizeof(struct head) + each);
+    size_t left = caf_section_count(to), most = (room - sizeof(struct head)) / each, runs;
     struct caf_walk walk = caf_walk_from(to, 0);
     for (; left; left -= runs, bytes += runs * to->run) {
         runs = left < most ? left : most;
@@ -293,9 +303,10 @@ static void send_get(int node, const struct letter *letter, const struct getting
 
 static void get_strided(int node, const struct caf_section *from, struct getting *getting, size_t place) {
     struct letter letter;
+    const size_t room = room_for(LEAST_ROOM);
     size_t whole = caf_section_length(from), piece;
     for (size_t done = 0; done < whole; done += piece) {
-        piece = whole - done < ROOM ? whole - done : ROOM;
+        piece = whole - done < room ? whole - done : room;
         write_strided(&letter, from, done, piece);
         send_get(node, &letter, getting, place + done);
     }
@@ -303,9 +314,10 @@ static void get_strided(int node, const struct caf_section *from, struct getting
 
 static void get_listed(int node, const struct caf_section *from, struct getting *getting) {
     struct letter letter;
-    size_t left = caf_section_count(from), runs, place = 0, most = (ROOM - sizeof(struct head)) / sizeof(uint64_t);
-    if (most > ROOM / from->run)
-        most = ROOM / from->run;
+    const size_t room = room_for(from->run > LEAST_ROOM ? from->run : LEAST_ROOM);
+    size_t left = caf_section_count(from), runs, place = 0, most = (room - sizeof(struct head)) / sizeof(uint64_t);
+    if (most > room / from->run)
+        most = room / from->run;
     struct caf_walk walk = caf_walk_from(from, 0);
     for (; left; left -= runs, place += runs * from->run) {
         runs = left < most ? left : most;
