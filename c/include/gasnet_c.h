@@ -62,8 +62,7 @@ typedef struct {
  * slot that it stands in; where it sends none `len` is 0. (Where the buffer has less than GASNET_C_ROOM bytes and the
  * datagram doesn't fit, `len` is 0 too: the request is sent again in time.)
  * Of GASNET_C_RETURNED `to` is the node that replied, and `slot` is the slot of the request that is back.
- * Of GASNET_C_HANDLE `value` is the handle; of an implicit transfer it is its number, and the transfer is synchronised
- * with the access region that is begun. What isn't named here is 0. */
+ * Of GASNET_C_HANDLE `value` is the handle. What isn't named here is 0. */
 typedef struct {
     uint32_t code;
     uint16_t to, slot;
@@ -119,8 +118,7 @@ typedef struct {
     uint64_t remote, local, len;
     uint32_t kind; /* 0: a put; 1: a get; else a memset, whose `local` isn't read */
     uint16_t to;
-    uint8_t byte;  /* what a memset writes */
-    bool implicit; /* whether it is synchronised as an implicit one */
+    uint8_t byte; /* what a memset writes */
 } gasnet_c_move;
 
 /* An operation on a word of 64 bits in a node's segment, little-endian. */
@@ -199,7 +197,7 @@ enum {
     GASNET_C_NOT_YET = 3,  /* all credits of the pair are out */
     GASNET_C_WORN_OUT = 4, /* the numbers of the pair are used up */
     GASNET_C_BAD = 5,      /* an argument is bad, or the call is out of turn; nothing happened */
-    GASNET_C_HANDLE = 6,   /* a transfer is under way, or a region ended, under the handle `value` */
+    GASNET_C_HANDLE = 6,   /* a transfer is under way, under the handle `value` */
     GASNET_C_DONE = 7,     /* it is done, and has no handle */
     GASNET_C_TOO_MANY = 8, /* 256 operations stand, or the last number was given; nothing happened */
     GASNET_C_OK = 9,       /* synchronised; notified; the barrier is complete; a collective is started, or ended */
@@ -282,12 +280,9 @@ gasnet_c_told gasnet_c_serve(gasnet_c_node *node, uint64_t now, const uint8_t *b
 /* Begins a transfer. HANDLE, DONE (no bytes, or the local node), TOO_MANY, BAD. Its chunks are sent by ticks. */
 gasnet_c_told gasnet_c_begin(gasnet_c_node *node, uint64_t now, const gasnet_c_move *what);
 
-/* Tries to synchronise the operation or region with this handle. OK (and the handle is used up; of handle 0 always),
+/* Tries to synchronise the operation with this handle. OK (and the handle is used up; of handle 0 always),
  * NOT_READY, WORN_OUT, BAD. */
 gasnet_c_told gasnet_c_sync(gasnet_c_node *node, uint64_t now, uint64_t handle);
-
-/* Begins an access region (DONE), or ends it (HANDLE, or DONE where no operation joined). BAD out of turn. */
-gasnet_c_told gasnet_c_region(gasnet_c_node *node, uint64_t now, bool ends);
 
 /* Notifies the barrier: flags are 0 for a named one, 1 for an anonymous one, 2 for a mismatch, 3 for both. OK; BAD out
  * of turn, for other flags, and where the last phase was reached. Its notes are sent by ticks. */

@@ -87,7 +87,6 @@ AT(gasnet_c_move, len, 16);
 AT(gasnet_c_move, kind, 24);
 AT(gasnet_c_move, to, 28);
 AT(gasnet_c_move, byte, 30);
-AT(gasnet_c_move, implicit, 31);
 
 /* atomics.rt: Operation. */
 SIZE(gasnet_c_operation, 48);

@@ -1,5 +1,5 @@
 -- The calls that C asks for.
-use Rattle.std.specs.Prelude.{ℕ, ◌≢◌, Bool, ◌==◌, if◌then◌else◌, Option, Some, None}
+use Rattle.std.specs.Prelude.{ℕ, ◌≢◌, ◌==◌, if◌then◌else◌, Option, Some, None}
 use Rattle.node_core.specs.declared.asking.Payload.{Payload}
 use Rattle.node_core.specs.declared.asking.Payload.TheVariants as payloads
 use Rattle.part_transfers.specs.declared.operation.Transfer.{Transfer}
@@ -36,9 +36,4 @@ transfer_of what =
     else transfers.Memset what.to what.remote what.len what.byte)
 
 abbrev pub moved_call : Move → Call
-moved_call what =
-    if what.implicit then calls.BeginImplicit (transfer_of what) else calls.Begin None (transfer_of what)
-
--- an access region begins, or ends
-abbrev pub region_call : Bool → Call
-region_call ends = if ends then calls.RegionEnd 0 else calls.RegionBegin
+moved_call what = calls.Begin None (transfer_of what)

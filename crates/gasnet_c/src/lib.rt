@@ -62,4 +62,4 @@ pub use serving::gasnet_c_serve;
 pub use slot::Slot;
 pub use stepping::gasnet_c_tick;
 pub use told::Told;
-pub use transfers::{Move, gasnet_c_begin, gasnet_c_region, gasnet_c_sync};
+pub use transfers::{Move, gasnet_c_begin, gasnet_c_sync};

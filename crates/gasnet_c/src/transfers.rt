@@ -4,7 +4,7 @@ ghost use Rattle.std.specs.Prelude.{◌≡◌, []};
 ghost use Rattle.part_handlers.specs.Runs.{Meaning};
 ghost use Rattle.node_rules.specs.declared.call.Call.TheVariants as call;
 ghost use Rattle.node_rules.specs.declared.call.Event.TheVariants as event;
-ghost use Rattle.gasnet_c.specs.Calls.{moved_call, region_call, transfer_of};
+ghost use Rattle.gasnet_c.specs.Calls.{moved_call, transfer_of};
 ghost use Rattle.gasnet_c.specs.Telling.{Tells};
 ghost use Rattle.gasnet_c.specs.Whole.{AsksNone, IsForOne, IsWhole};
 
@@ -31,8 +31,6 @@ pub struct Move {
     pub to: u16,
     /// What a memset writes.
     pub byte: u8,
-    /// Whether it is synchronised as an implicit one, or by the access region that was begun.
-    pub implicit: bool,
 }
 
 /// What is transferred.
@@ -67,14 +65,9 @@ fn moved_call(what: &Move) -> Call<'static>
     ensures may { IsForOne (event.Call 0 result) }
     ensures asks_none { AsksNone result }
 {
-    let transfer = transfer_of(what);
-    if what.implicit {
-        Call::BeginImplicit { transfer }
-    } else {
-        Call::Begin {
-            reg: None,
-            transfer,
-        }
+    Call::Begin {
+        reg: None,
+        transfer: transfer_of(what),
     }
 }
 
@@ -92,7 +85,7 @@ pub extern "C" fn gasnet_c_begin(alloc: Global, handle: &mut Handle, now: u64, w
     called(alloc, handle, now, moved_call(what))
 }
 
-/// Tries to synchronise the operation, or the region, with this handle. It is `GASNET_C_OK`, and the handle is used up;
+/// Tries to synchronise the operation with this handle. It is `GASNET_C_OK`, and the handle is used up;
 /// `GASNET_C_NOT_READY`; `GASNET_C_WORN_OUT` where it never will be; or `GASNET_C_BAD` where nothing has the handle.
 #[unsafe(no_mangle)]
 pub extern "C" fn gasnet_c_sync(alloc: Global, handle: &mut Handle, now: u64, serial: u64) -> Told
@@ -106,30 +99,4 @@ pub extern "C" fn gasnet_c_sync(alloc: Global, handle: &mut Handle, now: u64, se
         handle: Operation { serial },
     };
     called(alloc, handle, now, call)
-}
-
-/// A begin, or an end, of an access region as a call.
-fn region_call(ends: bool) -> Call<'static>
-    ensures call { result ≡ region_call ends }
-    ensures may { IsForOne (event.Call 0 result) }
-    ensures asks_none { AsksNone result }
-{
-    if ends {
-        Call::RegionEnd { reg: 0 }
-    } else {
-        Call::RegionBegin
-    }
-}
-
-/// Begins an access region, or ends it: implicit operations that begin in between are synchronised by its handle. A
-/// begin is `GASNET_C_DONE`. An end is `GASNET_C_HANDLE`, and its handle is told, or `GASNET_C_DONE` where no operation
-/// joined. `GASNET_C_BAD` is a begin inside a region, or an end outside; then nothing happened.
-#[unsafe(no_mangle)]
-pub extern "C" fn gasnet_c_region(alloc: Global, handle: &mut Handle, now: u64, ends: bool) -> Told
-    requires { IsWhole handle.old }
-    ensures whole { IsWhole handle.new }
-    ensures tells { (meaning : Meaning) → Tells meaning handle.old.slot.held now
-        (event.Call 0 (region_call ends)) result [] handle.new.slot.held }
-{
-    called(alloc, handle, now, region_call(ends))
 }
