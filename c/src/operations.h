@@ -19,6 +19,7 @@ struct gasnetl_op {
     struct gasnetl_part *parts;
     gasnet_register_value_t value; /* what a get of a value brings */
     struct gasnetl_op *next;       /* in the list of free ones */
+    bool stands;                   /* it isn't free */
 };
 
 /* A list of free operations, which grows by whole blocks. */
@@ -37,6 +38,9 @@ void gasnetl_op_leave(struct gasnetl_ops *ops, struct gasnetl_op *op);
 
 /* It is complete where each part is: none is left. */
 static inline bool gasnetl_op_is_complete(const struct gasnetl_op *op) { return !op->parts; }
+
+/* The same of the one that a client's handle names. A handle that was used up ends the job. */
+bool gasnetl_handle_is_complete(const struct gasnetl_op *op);
 
 /* A part is added to an operation. Neither may be moved before the part is taken out. */
 static inline void gasnetl_part_add(struct gasnetl_op *op, struct gasnetl_part *part) {

@@ -53,6 +53,8 @@ static void judge_row(const struct gasnetl_job *job, const struct pieces *all, c
 
 static void judge_totals(const struct pieces *all) {
     const size_t far = gasnetl_side_total(&all->far), near = gasnetl_side_total(&all->near);
+    if (far == SIZE_MAX || near == SIZE_MAX)
+        gasnetl_stop(GASNETL_MISUSE, "%s: a side has more bytes than memory can have", all->call);
     if (far != near)
         gasnetl_stop(GASNETL_MISUSE, "%s: one side has %zu bytes, the other %zu", all->call, far, near);
 }

@@ -5,6 +5,14 @@
 
 /* ---- A side. */
 
+/* A number that is too large stays the greatest one. */
+static size_t sum_of(size_t a, size_t b) { return a > SIZE_MAX - b ? SIZE_MAX : a + b; }
+
+static size_t product_of(size_t a, size_t b) {
+    size_t product;
+    return __builtin_mul_overflow(a, b, &product) ? SIZE_MAX : product;
+}
+
 struct gasnetl_side gasnetl_side_of_list(size_t count, const gasnet_memvec_t *list) {
     return (struct gasnetl_side){ .ranges = count, .list = list };
 }
@@ -18,7 +26,7 @@ struct gasnetl_side gasnetl_side_of_strides(void *base, const size_t *strides, c
         .ranges = 1, .each = count[0], .base = base, .strides = strides, .counts = count + 1, .levels = levels
     };
     for (size_t level = 0; level < levels; level++)
-        side.ranges *= side.counts[level];
+        side.ranges = product_of(side.ranges, side.counts[level]);
     return side;
 }
 
@@ -41,10 +49,10 @@ static char *place_of(const struct gasnetl_side *side, size_t range) {
 
 size_t gasnetl_side_total(const struct gasnetl_side *side) {
     if (!side->list)
-        return side->ranges * side->each;
+        return product_of(side->ranges, side->each);
     size_t total = 0;
     for (size_t range = 0; range < side->ranges; range++)
-        total += side->list[range].len;
+        total = sum_of(total, side->list[range].len);
     return total;
 }
 

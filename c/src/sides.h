@@ -23,7 +23,7 @@ struct gasnetl_side gasnetl_side_of_list(size_t count, const gasnet_memvec_t *li
 struct gasnetl_side gasnetl_side_of_places(size_t count, void *const *places, size_t each);
 struct gasnetl_side gasnetl_side_of_strides(void *base, const size_t *strides, const size_t *count, size_t levels);
 
-/* The bytes of all ranges. */
+/* The bytes of all ranges; SIZE_MAX where there are more than memory can have. */
 size_t gasnetl_side_total(const struct gasnetl_side *side);
 
 /* How much memory the lists of a side take; and copies them to memory of so many bytes, from which the side then reads.

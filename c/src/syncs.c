@@ -10,7 +10,7 @@ enum { POLL_MOST = 64 };
 static int sync_one(struct gasnetl_job *job, gasnet_handle_t handle) {
     if (!handle)
         return GASNET_OK;
-    if (!gasnetl_op_is_complete(handle))
+    if (!gasnetl_handle_is_complete(handle))
         return GASNET_ERR_NOT_READY;
     gasnetl_op_free(&job->transfers.ops, handle);
     return GASNET_OK;
@@ -18,7 +18,7 @@ static int sync_one(struct gasnetl_job *job, gasnet_handle_t handle) {
 
 static int sync_all(struct gasnetl_job *job, gasnet_handle_t *handles, size_t count) {
     for (size_t i = 0; i < count; i++)
-        if (handles[i] && !gasnetl_op_is_complete(handles[i]))
+        if (handles[i] && !gasnetl_handle_is_complete(handles[i]))
             return GASNET_ERR_NOT_READY;
     for (size_t i = 0; i < count; i++) {
         sync_one(job, handles[i]);
@@ -43,7 +43,7 @@ static int sync_some(struct gasnetl_job *job, gasnet_handle_t *handles, size_t c
 
 int gasnet_try_syncnb(gasnet_handle_t handle) {
     struct gasnetl_job *job = gasnetl_enter("gasnet_try_syncnb");
-    if (handle && !gasnetl_op_is_complete(handle))
+    if (handle && !gasnetl_handle_is_complete(handle))
         gasnetl_poll(job, POLL_MOST);
     int code = sync_one(job, handle);
     gasnetl_leave(job);

@@ -26,6 +26,15 @@ static void move_here(const struct gasnetl_asked *asked) {
         memset(asked->far, asked->byte, asked->nbytes);
 }
 
+/* The local side is anywhere but in a part of the local segment that isn't the client's. A memset has none. */
+static void judge_near(const struct gasnetl_job *job, const struct gasnetl_asked *asked) {
+    if (asked->kind == GASNETL_MEMSET || !asked->nbytes)
+        return;
+    if (!asked->near || gasnetl_straddles(job, asked->near, asked->nbytes))
+        gasnetl_stop(GASNETL_MISUSE, "%s of %zu bytes, here at %p: that is NULL, or only in part in the local segment",
+                     asked->call, asked->nbytes, (void *)asked->near);
+}
+
 void gasnetl_begin(struct gasnetl_job *job, struct gasnetl_op *op, const struct gasnetl_asked *asked) {
     struct gasnetl_move move = { .kind = asked->kind,
                                  .node = asked->node,
@@ -34,6 +43,7 @@ void gasnetl_begin(struct gasnetl_job *job, struct gasnetl_op *op, const struct 
                                  .nbytes = asked->nbytes };
     uint64_t own;
     gasnetl_judge(job, asked, &move.remote);
+    judge_near(job, asked);
     if (!asked->nbytes)
         return;
     if (asked->node == job->me) {
@@ -214,7 +224,7 @@ gasnet_register_value_t gasnet_wait_syncnb_valget(gasnet_valget_handle_t handle)
     unsigned turn = 0;
     if (!handle)
         gasnetl_stop(GASNETL_MISUSE, "gasnet_wait_syncnb_valget: there is no handle");
-    while (!gasnetl_op_is_complete(handle))
+    while (!gasnetl_handle_is_complete(handle))
         gasnetl_wait(job, &turn);
     gasnet_register_value_t value = handle->value;
     gasnetl_op_free(&job->transfers.ops, handle);

@@ -13,8 +13,15 @@ _Static_assert(GASNET_C_MAX_CREDITS <= 32, "a piece has a bit for each slot");
 /* ---- Operations. */
 
 void gasnetl_op_free(struct gasnetl_ops *ops, struct gasnetl_op *op) {
+    op->stands = false;
     op->next = ops->free;
     ops->free = op;
+}
+
+bool gasnetl_handle_is_complete(const struct gasnetl_op *op) {
+    if (!op->stands)
+        gasnetl_stop(GASNETL_MISUSE, "a handle is synchronised that was synchronised already");
+    return gasnetl_op_is_complete(op);
 }
 
 /* Those of `left` that are complete are free. */
@@ -46,6 +53,7 @@ struct gasnetl_op *gasnetl_op_new(struct gasnetl_ops *ops) {
     struct gasnetl_op *op = ops->free;
     ops->free = op->next;
     op->parts = NULL;
+    op->stands = true;
     return op;
 }
 

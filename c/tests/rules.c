@@ -93,6 +93,20 @@ static void break_transfer(void) {
         gasnet_get(&byte, 0, at(0, 0) - 1, 1);
     if (is("put-to-nobody"))
         gasnet_put((gasnet_node_t)nodes, at(0, 0), &byte, 1);
+    if (is("get-to-null"))
+        gasnet_get(NULL, (gasnet_node_t)(nodes - 1), at(nodes - 1, 0), 1);
+    if (is("get-half-inside"))
+        gasnet_get(at(me, GASNET_PAGESIZE - 8), (gasnet_node_t)(nodes - 1), at(nodes - 1, 0), 16);
+    if (is("handle-twice")) {
+        gasnet_handle_t handle =
+            gasnet_put_nb_bulk((gasnet_node_t)(nodes - 1), at(nodes - 1, 0), at(me, 0), GASNET_PAGESIZE);
+        gasnet_wait_syncnb(handle);
+        gasnet_wait_syncnb(handle);
+    }
+    if (is("strides-overflow")) {
+        const size_t strides[] = { 1, 1 }, counts[] = { 1, (size_t)1 << 32, (size_t)1 << 32 };
+        gasnet_puts_bulk((gasnet_node_t)(nodes - 1), at(nodes - 1, 0), strides, at(me, 0), strides, counts, 2);
+    }
     if (is("value-of-9"))
         gasnet_put_val(0, at(0, 0), 1, 9);
     if (is("region-twice")) {

@@ -205,7 +205,7 @@ check "sealed by an open key" 0 "others than its owner" bash -c 'GASNET_KEY_FILE
 for rule in request-in-handler put-in-handler get-in-handler poll-in-handler barrier-in-handler sync-in-handler \
     reply-under-lock handler-keeps-lock second-reply reply-in-reply lock-twice trylock-twice unlock-free \
     unlock-out-of-order poll-under-lock destroy-held hold-twice resume-alone poll-in-section put-outside get-before \
-    put-to-nobody value-of-9 region-twice region-none sync-in-region notify-twice wait-alone flags-unknown \
+    put-to-nobody get-to-null get-half-inside handle-twice strides-overflow value-of-9 region-twice region-none sync-in-region notify-twice wait-alone flags-unknown \
     handler-of-nobody put-before-attach atomic-outside atomic-unaligned atomic-to-nobody atomic-not-in-domain \
     atomic-half-unaligned atomic-of-no-type atomic-of-another-type atomic-of-no-operation atomic-in-handler atomic-own-252 \
     collective-in-handler collective-own-254 collective-to-nobody collective-of-32-bits collective-by-xor \
