@@ -80,8 +80,16 @@ static system_call *next_call(void) {
 }
 
 static void inject(int socket, const struct caught *one) {
-    next_call()(SYS_sendto, socket, one->bytes, one->length, MSG_DONTWAIT, &one->to, one->to_length);
+    next_call()(SYS_sendto, socket, one->bytes, one->length, MSG_DONTWAIT, one->to_length ? &one->to : NULL,
+                one->to_length);
     injected++;
+}
+
+/* Where it goes: to the address of a call, or where that has none to the peer to which the socket is connected. */
+static void note_address(struct caught *one, const void *to, socklen_t length) {
+    one->to_length = to ? length : 0;
+    if (to)
+        memcpy(&one->to, to, length);
 }
 
 /* ---- What is wrong with a datagram. */
@@ -264,8 +272,7 @@ static void is_to_be_sent(int socket, const void *bytes, size_t length, const vo
         return;
     one.length = length < MOST ? length : MOST;
     memcpy(one.bytes, bytes, one.length);
-    memcpy(&one.to, to, to_length);
-    one.to_length = to_length;
+    note_address(&one, to, to_length);
     forge(&one);
     inject(socket, &one);
 }
@@ -296,8 +303,7 @@ static void was_sent(int socket, const void *bytes, size_t length, const void *t
     struct caught *one = &ring[caught++ % RING];
     one->length = length < MOST ? length : MOST;
     memcpy(one->bytes, bytes, one->length);
-    memcpy(&one->to, to, to_length);
-    one->to_length = to_length;
+    note_address(one, to, to_length);
     if (file)
         fwrite(one, sizeof *one, 1, file);
     if (!strcmp(way, "replay") && is_node_1() && !is_replayed)
