@@ -12,6 +12,7 @@ enum {
     EAGER = 6,           /* how many probes in a row loss may want */
     MOST_DOUBLINGS = 20, /* of a time-out */
     DELAY = 30,          /* microseconds by which a host's own work may lengthen a round trip */
+    QUEUE = 250,         /* and by which a queue does, beside an eighth of the least one */
     OVERHEAD = 640,      /* what the system counts of a receive buffer for a datagram, beside its payload */
     UNHARMED = 128,      /* answers without a loss, behind which a chunk is doubled, at first */
     PUT_OFF = 8,         /* times as many, once a chunk that was doubled is lost; up to MOST_UNHARMED */
@@ -100,14 +101,20 @@ static bool has_room_for(const struct gasnetl_way *way, unsigned most, unsigned 
     return way->buffer / most >= doubled(way->chunk, doublings) + packets * OVERHEAD;
 }
 
+/* Whether round trips tell of no queue on the way: longer chunks would only stand in it. */
+static bool has_no_queue(const struct gasnetl_round_trip *trip) {
+    return gasnetl_round_trip_smoothed(trip) <= trip->least + trip->least / 8 + QUEUE;
+}
+
 /* An answer came. Where the window is as wide as it can be, so that credits alone hold the sender back, and nothing was
  * lost for long, chunks are doubled: then some packets of a chunk have one answer. */
-static void grow_chunk(const struct gasnetl_way *way, struct gasnetl_path *path) {
+static void grow_chunk(const struct gasnetl_way *way, struct gasnetl_path *path,
+                       const struct gasnetl_round_trip *trip) {
     if (!path->window.most || path->window.size < path->window.most || path->doublings == CHUNK_DOUBLINGS ||
         way->chunk << path->doublings >= GASNET_C_PAYLOAD || ++path->unharmed < path->wanted)
         return;
     path->unharmed = 0;
-    if (has_room_for(way, path->window.most, path->doublings + 1))
+    if (has_no_queue(trip) && has_room_for(way, path->window.most, path->doublings + 1))
         path->doublings++;
 }
 
@@ -264,7 +271,7 @@ void gasnetl_recovery_answered(struct gasnetl_job *job, uint16_t to, uint16_t sl
     struct gasnetl_flight *flight = &path->flights[one->server];
     note_answer(job, path, one);
     gasnetl_window_answered(&path->window, flight->sequence.count);
-    grow_chunk(&job->control.ways[to], path);
+    grow_chunk(&job->control.ways[to], path, &flight->trip);
     take_out(path, one->is_lost ? &path->lost : &flight->sequence, (uint8_t)slot);
     one->times = 0;
     find_lost(job, path, flight);
