@@ -192,33 +192,33 @@ enum {
 
 /* The answers, by number. */
 enum {
-    GASNET_C_ACCEPTED = 1, /* a request has a slot, and is to be sent */
-    GASNET_C_RAN_HERE = 2, /* a request to the local node: its run, and its reply's, are recorded */
-    GASNET_C_NOT_YET = 3,  /* all credits of the pair are out */
-    GASNET_C_WORN_OUT = 4, /* the numbers of the pair are used up */
-    GASNET_C_BAD = 5,      /* an argument is bad, or the call is out of turn; nothing happened */
-    GASNET_C_HANDLE = 6,   /* a transfer is under way, under the handle `value` */
-    GASNET_C_DONE = 7,     /* it is done, and has no handle */
-    GASNET_C_TOO_MANY = 8, /* 256 operations stand, or the last number was given; nothing happened */
-    GASNET_C_OK = 9,       /* synchronised; notified; the barrier is complete; a collective is started, or ended */
+    GASNET_C_ACCEPTED = 1,  /* a request has a slot, and is to be sent */
+    GASNET_C_RAN_HERE = 2,  /* a request to the local node: its run, and its reply's, are recorded */
+    GASNET_C_NOT_YET = 3,   /* all credits of the pair are out */
+    GASNET_C_EXHAUSTED = 4, /* the numbers of the pair are used up */
+    GASNET_C_BAD = 5,       /* an argument is bad, or the call is out of turn; nothing happened */
+    GASNET_C_HANDLE = 6,    /* a transfer is under way, under the handle `value` */
+    GASNET_C_DONE = 7,      /* it is done, and has no handle */
+    GASNET_C_TOO_MANY = 8,  /* 256 operations stand, or the last number was given; nothing happened */
+    GASNET_C_OK = 9,        /* synchronised; notified; the barrier is complete; a collective is started, or ended */
     GASNET_C_NOT_READY = 10,
     GASNET_C_MISMATCH =
         11, /* the barrier is complete, and its notifies don't match; a collective is ended, and its shapes differ */
-    GASNET_C_RAN = 12,   /* a request's handler ran (a client's, or a transfer's at its target); its reply is sent */
-    GASNET_C_NOTED = 13, /* a note of the barrier came; its reply is sent */
-    GASNET_C_AGAIN = 14, /* a request came again; its reply is sent again */
+    GASNET_C_RAN = 12,      /* a request's handler ran (a client's, or a transfer's at its target); its reply is sent */
+    GASNET_C_NOTIFIED = 13, /* a note of the barrier came; its reply is sent */
+    GASNET_C_DUPLICATE = 14, /* a request came again; its reply is sent again */
     GASNET_C_STALE = 15,
     GASNET_C_RETURNED = 16, /* a reply came: the credit of its request is back */
     GASNET_C_LATE = 17,
     GASNET_C_DEFERRED = 18,
-    GASNET_C_REFUSED = 19, /* bytes that are no message for this node */
-    GASNET_C_NOTHING = 20, /* a tick, or a step of a collective, had nothing to send */
-    GASNET_C_RESENT = 21,  /* a tick sends a request again */
+    GASNET_C_REFUSED = 19,        /* bytes that are no message for this node */
+    GASNET_C_NOTHING = 20,        /* a tick, or a step of a collective, had nothing to send */
+    GASNET_C_RETRANSMISSION = 21, /* a tick sends a request again */
     GASNET_C_FORBIDDEN = 22,
     GASNET_C_OTHER = 23,
-    GASNET_C_NOTE = 24,  /* a tick sends a note of the barrier */
-    GASNET_C_CHUNK = 25, /* a tick sends the next chunk of the oldest transfer whose target has a credit */
-    GASNET_C_DEAD = 99   /* the handle is dead */
+    GASNET_C_NOTIFICATION = 24, /* a tick sends a note of the barrier */
+    GASNET_C_CHUNK = 25,        /* a tick sends the next chunk of the oldest transfer whose target has a credit */
+    GASNET_C_DEAD = 99          /* the handle is dead */
 };
 
 /* Makes a node: 0; or 1 where a limit is broken, 2 for want of memory, 3 where the handle is live already. Its table

@@ -30,7 +30,7 @@ static int try(struct gasnetl_job *job, const char *call, int id, int flags) {
         return GASNET_ERR_NOT_READY;
     case GASNET_C_MISMATCH:
         return GASNET_ERR_BARRIER_MISMATCH;
-    case GASNET_C_WORN_OUT:
+    case GASNET_C_EXHAUSTED:
         gasnetl_stop(GASNETL_BROKEN, "%s: the barrier's numbers are used up", call);
     default:
         gasnetl_stop(GASNETL_MISUSE, "%s: the node didn't notify", call);

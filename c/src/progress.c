@@ -123,16 +123,16 @@ static void nothing_due(struct gasnetl_progress *progress) {
 
 void gasnetl_told(struct gasnetl_job *job, const gasnet_c_told *told) {
     switch (told->code) {
-    case GASNET_C_NOTED:
+    case GASNET_C_NOTIFIED:
         job->progress.has_notes = true;
         send_told(job, told);
         break;
-    case GASNET_C_RESENT:
+    case GASNET_C_RETRANSMISSION:
         job->progress.resent++;
         send_told(job, told);
         break;
     case GASNET_C_RAN:
-    case GASNET_C_AGAIN:
+    case GASNET_C_DUPLICATE:
         send_told(job, told);
         break;
     case GASNET_C_RETURNED:
@@ -143,7 +143,7 @@ void gasnetl_told(struct gasnetl_job *job, const gasnet_c_told *told) {
         request_went_out(job, told, GASNETL_BY_LIBRARY);
         break;
     case GASNET_C_ACCEPTED:
-    case GASNET_C_NOTE:
+    case GASNET_C_NOTIFICATION:
         request_went_out(job, told, GASNETL_BY_LIBRARY);
         break;
     case GASNET_C_NOTHING:

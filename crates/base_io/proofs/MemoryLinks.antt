@@ -19,14 +19,14 @@ pub gives_at : (all : List (Vec ℕ)) (datagram cut : Vec ℕ) (place n : ℕ) (
       room = room;
       filled = filled;
     })
-gives_at all datagram cut place n room filled within chosen count copied front =
+gives_at all datagram cut place n room filled within chosen count copied prefix =
     let same : slice_index_or (bytes_of all) place [] ≡ datagram.items =
     get_or-map (λ v. v.items) all place datagram [] within ∙ ap (λ v. v.items) (sym chosen) in
     record {
       count = count ∙ ap (λ first. min (length first) (length room)) (sym same);
       filled_is = copied ∙ ap (λ first. take n first ++ drop n room) (sym same);
       new_is = map-set (λ v. v.items) all place cut
-          ∙ ap (slice_set (bytes_of all) place) (front ∙ ap (take n) (sym same));
+          ∙ ap (slice_set (bytes_of all) place) (prefix ∙ ap (take n) (sym same));
     }
 
 -- the datagrams up to a place were given, and now the one at that place is
@@ -39,7 +39,7 @@ receives_first old new all after given n room filled within waiting received h n
     let first = slice_index_or all given [] in
     let taken : take (given + 1) after ≡ old.received ++ take n first ∷ [] =
     ap (take (given + 1)) h.new_is ∙ take_more_set all given (take n first) within
-    ∙ ap (λ front. front ++ take n first ∷ []) (sym received) in
+    ∙ ap (λ prefix. prefix ++ take n first ∷ []) (sym received) in
     let left : drop (given + 1) after ≡ drop (given + 1) all =
     ap (drop (given + 1)) h.new_is ∙ drop-set-lt (given + 1) all given (take n first) (omega arith) in
     record {

@@ -7,7 +7,7 @@ use Rattle.std.proofs.lemmas.Bool.Decides.{nat_tests}
 use Rattle.base_io.specs.Faults.{one_more, Rose}
 use Rattle.base_io.specs.Told.{and_all, and_then}
 use Rattle.base_io.specs.Link.{SentTold}
-use Rattle.base_io.specs.Sieve.{Sieving, Plan, Follows, rule_for, plan_of, next_plan, numbered, is_plain_sieve}
+use Rattle.base_io.specs.Sieve.{Sieving, Plan, Follows, rule_for, plan_of, next_plan, with_next_number, is_plain_sieve}
 use Rattle.base_io.specs.declared.link.Link.{Ghosts}
 use Rattle.base_io.specs.declared.link.LinkAnswer.{LinkAnswer}
 use Rattle.base_io.specs.declared.link.LinkAnswer.TheVariants as answer
@@ -87,12 +87,12 @@ pub repeat_failed : {L : Type 0} (link : Ghosts L) (datagram : ℕ × List ℕ) 
     → number ≡ one_more old.number → rule_for old number (length datagram.1) ≡ rule.Repeat
     → link.sent new.inner ≡ link.sent old.inner → new ≡ record old { inner = new.inner; number = number }
     → Rose (link.faults old.inner) (link.faults new.inner)
-    → Follows link (next_plan old datagram) (numbered old) answer.Failed new
+    → Follows link (next_plan old datagram) (with_next_number old) answer.Failed new
 repeat_failed {L = L} link datagram old new number next decided sent same rose =
     let this : rule_for old (one_more old.number) (length datagram.1) ≡ rule.Repeat =
     subst (λ n. rule_for old n (length datagram.1) ≡ rule.Repeat) next decided in
-    subst (λ plan. Follows link plan (numbered old) answer.Failed new) (sym (plan_by old datagram rule.Repeat this))
-    (own_failed link datagram (datagram ∷ []) (option_to_list old.held) None (numbered old) new sent
+    subst (λ plan. Follows link plan (with_next_number old) answer.Failed new) (sym (plan_by old datagram rule.Repeat this))
+    (own_failed link datagram (datagram ∷ []) (option_to_list old.held) None (with_next_number old) new sent
     (same ∙ ap {B = Sieving L} (λ (n : ℕ). record old { inner = new.inner; number = n }) next) rose)
 
 -- it was sent once, and then as one that is sent once
@@ -102,12 +102,12 @@ pub repeat_sent : {L : Type 0} (link : Ghosts L) (datagram : ℕ × List ℕ) (o
     → link.sent mid.inner ≡ and_then (link.sent old.inner) datagram
     → mid ≡ record old { inner = mid.inner; number = number } → link.faults old.inner ≤ link.faults mid.inner
     → Follows link (record { own = datagram ∷ []; freed = option_to_list old.held; held = None }) mid said new
-    → Follows link (next_plan old datagram) (numbered old) said new
+    → Follows link (next_plan old datagram) (with_next_number old) said new
 repeat_sent {L = L} link datagram old mid new number said next decided sent same later h =
     let this : rule_for old (one_more old.number) (length datagram.1) ≡ rule.Repeat =
     subst (λ n. rule_for old n (length datagram.1) ≡ rule.Repeat) next decided in
-    subst (λ plan. Follows link plan (numbered old) said new) (sym (plan_by old datagram rule.Repeat this))
-    (own_sent link datagram (datagram ∷ []) (option_to_list old.held) None (numbered old) mid new said sent
+    subst (λ plan. Follows link plan (with_next_number old) said new) (sym (plan_by old datagram rule.Repeat this))
+    (own_sent link datagram (datagram ∷ []) (option_to_list old.held) None (with_next_number old) mid new said sent
     (same ∙ ap {B = Sieving L} (λ (n : ℕ). record old { inner = mid.inner; number = n }) next) later h)
 
 -- ---- where the three numbers are 0
@@ -125,7 +125,7 @@ plain_plan sieve datagram plain none =
     plan_by sieve datagram rule.Pass decided ∙ ap (λ held. plan_of rule.Pass held datagram) (none z.2)
 
 sent_once : {L : Type 0} (link : Ghosts L) (datagram : ℕ × List ℕ) (old new : Sieving L) (said : LinkAnswer)
-    → Follows link (record { own = datagram ∷ []; freed = []; held = None }) (numbered old) said new
+    → Follows link (record { own = datagram ∷ []; freed = []; held = None }) (with_next_number old) said new
     → SentTold said datagram (link.sent old.inner) (link.sent new.inner)
 sent_once link datagram old new answer.Done h = h.sent
 sent_once link datagram old new answer.Failed h =
@@ -144,20 +144,20 @@ same_plain link plan old new answer.Failed h = ap is_plain_sieve h.rest
 
 plain_cases : {L : Type 0} (link : Ghosts L) (datagram : ℕ × List ℕ) (old new : Sieving L) (said : LinkAnswer)
     (plain : Bool) → is_plain_sieve old ≡ plain
-    → (old.swap ≡ 0 → old.held ≡ None) → Follows link (next_plan old datagram) (numbered old) said new
+    → (old.swap ≡ 0 → old.held ≡ None) → Follows link (next_plan old datagram) (with_next_number old) said new
     → SentTold said datagram (if plain then link.sent old.inner else None) (if plain then link.sent new.inner else None)
 plain_cases link datagram old new said false e none h = untold datagram said
 plain_cases link datagram old new said true e none h =
     sent_once link datagram old new said
-    (subst (λ plan. Follows link plan (numbered old) said new) (plain_plan old datagram e none) h)
+    (subst (λ plan. Follows link plan (with_next_number old) said new) (plain_plan old datagram e none) h)
 
 -- what a sieve tells as sent
 pub told_sent : {L : Type 0} (link : Ghosts L) (datagram : ℕ × List ℕ) (old new : Sieving L) (said : LinkAnswer)
-    → (old.swap ≡ 0 → old.held ≡ None) → Follows link (next_plan old datagram) (numbered old) said new
+    → (old.swap ≡ 0 → old.held ≡ None) → Follows link (next_plan old datagram) (with_next_number old) said new
     → SentTold said datagram (if is_plain_sieve old then link.sent old.inner else None)
     (if is_plain_sieve new then link.sent new.inner else None)
 told_sent link datagram old new said none h =
     subst (λ plain. SentTold said datagram (if is_plain_sieve old then link.sent old.inner else None)
     (if plain then link.sent new.inner else None))
-    (sym (same_plain link (next_plan old datagram) (numbered old) new said h))
+    (sym (same_plain link (next_plan old datagram) (with_next_number old) new said h))
     (plain_cases link datagram old new said (is_plain_sieve old) refl none h)

@@ -25,26 +25,26 @@ abbrev pub outbox : {K : Type 0} → (taken : K → Option (List ℕ)) → (faul
 outbox taken faults sink =
     record { given = taken sink.inner; pending = sink.pending; faults = faults sink.inner }
 
--- bytes went in behind those that waited; a front of all these went on, and the rest waits. Faults aren't forgotten
+-- bytes went in behind those that waited; a prefix of all these went on, and the rest waits. Faults aren't forgotten
 pub record Gathers (old new : Outbox) (bytes : List ℕ) : Type 0 where
   pub gone : List ℕ
   pub whole : old.pending ++ bytes ≡ gone ++ new.pending
   pub given : Appends old.given new.given gone
   pub later : old.faults ≤ new.faults
 
--- a front of the bytes went in, up to the rest
+-- a prefix of the bytes went in, up to the rest
 pub record GathersUpTo (old new : Outbox) (bytes rest : List ℕ) : Type 0 where
-  pub front : List ℕ
-  pub whole : bytes ≡ front ++ rest
-  pub gathered : Gathers old new front
+  pub prefix : List ℕ
+  pub whole : bytes ≡ prefix ++ rest
+  pub gathered : Gathers old new prefix
 
 -- the sink behind failed, and no more bytes went in; some that waited may have gone on
 pub record GathersNone (old new : Outbox) : Type 0 where
   pub gathered : Gathers old new []
   pub rose : Rose old.faults new.faults
 
--- the sink behind failed, and a front of the bytes went in, up to the rest
-pub record GathersFront (old new : Outbox) (bytes : List ℕ) : Type 0 where
+-- the sink behind failed, and a prefix of the bytes went in, up to the rest
+pub record GathersPrefix (old new : Outbox) (bytes : List ℕ) : Type 0 where
   pub rest : List ℕ
   pub went : GathersUpTo old new bytes rest
   pub rose : Rose old.faults new.faults
@@ -54,10 +54,10 @@ abbrev pub GathersPut : Outbox → Outbox → Put → List ℕ → Type 0
 GathersPut old new (put.Put n) bytes = Gathers old new (take n bytes)
 GathersPut old new put.Failed bytes = GathersNone old new
 
--- all of the bytes went in, or at a fault of the sink behind a front of them
+-- all of the bytes went in, or at a fault of the sink behind a prefix of them
 abbrev pub GathersAll : Outbox → Outbox → List ℕ → Wrote → Type 0
 GathersAll old new bytes wrote.Done = Gathers old new bytes
-GathersAll old new bytes wrote.Fault = GathersFront old new bytes
+GathersAll old new bytes wrote.Fault = GathersPrefix old new bytes
 
 -- nothing more went in; after `Done` nothing waits
 abbrev pub Flushes : Outbox → Outbox → Wrote → Type 0

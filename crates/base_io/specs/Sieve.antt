@@ -57,8 +57,8 @@ next_plan sieve datagram =
     plan_of (rule_for sieve (one_more sieve.number) (length datagram.1)) sieve.held datagram
 
 -- one more datagram was handed in
-abbrev pub numbered : {L : Type 0} → Sieving L → Sieving L
-numbered sieve = record sieve { number = one_more sieve.number }
+abbrev pub with_next_number : {L : Type 0} → Sieving L → Sieving L
+with_next_number sieve = record sieve { number = one_more sieve.number }
 
 -- the link behind was sent all of it
 pub record SentAll {L : Type 0} (link : Ghosts L) (plan : Plan) (old new : Sieving L) : Type 0 where

@@ -67,13 +67,13 @@ IsFinishFailed finished.Failed = ⊤
 IsFinishFailed finished.NoMemory = ⊥
 
 -- what was appended
-abbrev pub appended : (before after : List ℕ) → List ℕ
-appended before after = drop (length before) after
+abbrev pub new_bytes : (before after : List ℕ) → List ℕ
+new_bytes before after = drop (length before) after
 
 -- the output was appended, and is within the limit; else nothing was
 abbrev pub AppendsOutput : Finished → (before after : List ℕ) → Type 0
 AppendsOutput (finished.Ended status) before after =
-    (take (length before) after ≡ before) × (length (appended before after) ≤ MAX_OUTPUT)
+    (take (length before) after ≡ before) × (length (new_bytes before after) ≤ MAX_OUTPUT)
 AppendsOutput finished.Failed before after = after ≡ before
 AppendsOutput finished.NoMemory before after = after ≡ before
 
@@ -85,4 +85,4 @@ EndsPending finished.NoMemory rank old = ⊤
 
 -- the end of a child, by what stands in the vector before and after its finish
 abbrev pub child_end : ℕ → Finished → (before after : List ℕ) → ChildEnd
-child_end rank answer before after = record { rank = rank; output = appended before after; answer = answer }
+child_end rank answer before after = record { rank = rank; output = new_bytes before after; answer = answer }

@@ -29,11 +29,11 @@ IsWriteFault wrote.Fault = ⊤
 
 -- the bytes were taken in order, up to the rest
 pub record TakesUpTo (old new : Option (List ℕ)) (bytes rest : List ℕ) : Type 0 where
-  pub front : List ℕ
-  pub whole : bytes ≡ front ++ rest
-  pub taken : Appends old new front
+  pub prefix : List ℕ
+  pub whole : bytes ≡ prefix ++ rest
+  pub taken : Appends old new prefix
 
--- all of the bytes were taken, or at a fault a front of them
+-- all of the bytes were taken, or at a fault a prefix of them
 abbrev pub WritesAll : Option (List ℕ) → Option (List ℕ) → List ℕ → Wrote → Type 0
 WritesAll old new bytes wrote.Done = Appends old new bytes
 WritesAll old new bytes wrote.Fault = (rest : List ℕ) × TakesUpTo old new bytes rest

@@ -8,7 +8,7 @@ ghost use Rattle.base_io.specs.Faults.{Rose};
 ghost use Rattle.base_io.specs.Sink.{Takes, TakesSome, IsFailed};
 
 use crate::sink::{Put, Sink};
-use crate::writing::{Wrote, write_front};
+use crate::writing::{Wrote, write_prefix};
 use std::marker::Model;
 
 /// How many bytes a buffered sink holds back at most.
@@ -68,7 +68,7 @@ impl<K: Sink> BufferedSink<K> {
     {
         let (gathered, _) = self.buffer.split_at(self.end);
         let (_, pending) = gathered.split_at(self.start);
-        let taken = write_front(&mut self.inner, pending);
+        let taken = write_prefix(&mut self.inner, pending);
         self.start += taken;
         if self.start < self.end {
             return Wrote::Fault;

@@ -83,14 +83,14 @@ impl Source for MemorySource {
             return Got::End;
         }
         let (_, rest) = self.bytes.split_at(self.given);
-        let n = copy_front(rest, buf);
+        let n = copy_prefix(rest, buf);
         self.given += n;
         Got::Got(n)
     }
 }
 
-/// Copies as much of the front as there is room for, and answers how much.
-pub(crate) fn copy_front(from: &[u8], buf: &mut [u8]) -> usize
+/// Copies as much of the prefix as there is room for, and answers how much.
+pub(crate) fn copy_prefix(from: &[u8], buf: &mut [u8]) -> usize
     ensures count { result ≡ min (length from.now) (length buf.old) }
     ensures copied { buf.new ≡ take result from.now ++ drop result buf.old }
 {

@@ -9,7 +9,7 @@ ghost use Rattle.base_io.specs.MemoryLink.{LinkState, BindsNext, SendsNext, Rece
 ghost use Rattle.base_io.specs.MemoryLink.{GivesDatagramAt};
 
 use crate::link::{Link, LinkAnswer, Received};
-use crate::memory::copy_front;
+use crate::memory::copy_prefix;
 use std::alloc::{AllocError, Global};
 use std::marker::Model;
 
@@ -195,7 +195,7 @@ fn give_at(datagrams: &mut Vec<Vec<u8>>, place: usize, buf: &mut [u8]) -> usize
     }) }
 {
     let datagram = &mut datagrams[place];
-    let n = copy_front(datagram, buf);
+    let n = copy_prefix(datagram, buf);
     datagram.truncate(n);
     n
 }

@@ -5,7 +5,7 @@ ghost use Rattle.std.specs.Prelude.{option_to_list, if◌then◌else◌};
 ghost use Rattle.base_io.specs.Faults.{Rose};
 ghost use Rattle.base_io.specs.Link.{BoundTold, SentTold, ReceivedTold, WaitingTold, IsFailed};
 ghost use Rattle.base_io.specs.Link.{IsReceiveFailed};
-ghost use Rattle.base_io.specs.Sieve.{Sieving, Plan, Follows, KeepsInner, next_plan, numbered, is_plain_sieve};
+ghost use Rattle.base_io.specs.Sieve.{Sieving, Plan, Follows, KeepsInner, next_plan, with_next_number, is_plain_sieve};
 ghost use Rattle.base_io.specs.Sieve.{rule_for, divides as divides_exactly};
 
 use crate::link::{Link, LinkAnswer, MAX_DATAGRAM, Received};
@@ -95,7 +95,7 @@ impl<L: Link> Sieve<L> {
     /// in isn't held back, and an earlier one that is still held stays held. Where `swap` is 0 none is ever held.
     pub fn hand(&mut self, to: u16, bytes: &[u8]) -> LinkAnswer
         ensures follows { Follows L.Link (next_plan self.old (to, bytes.now))
-            (numbered self.old) result self.new }
+            (with_next_number self.old) result self.new }
         ensures keeps { KeepsInner L.Link self.old.inner self.new.inner }
         ensures unheld { self.old.swap ≡ 0 → self.old.held ≡ None }
     {
@@ -226,7 +226,7 @@ impl<L: Link> Link for Sieve<L> {
         ensures cause { IsFailed result
             → Rose (L.faults self.old.inner) (L.faults self.new.inner) }
         ensures follows { Follows L.Link (next_plan self.old (to, bytes.now))
-            (numbered self.old) result self.new }
+            (with_next_number self.old) result self.new }
     {
         self.hand(to, bytes)
     }

@@ -17,7 +17,7 @@ pub enum Wrote {
 }
 
 /// Writes until all is taken or the sink fails, and answers how many bytes were taken.
-pub(crate) fn write_front<K: Sink>(sink: &mut K, bytes: &[u8]) -> usize
+pub(crate) fn write_prefix<K: Sink>(sink: &mut K, bytes: &[u8]) -> usize
     ensures bound { result ≤ length bytes.now }
     ensures bytes { Appends (K.taken sink.old) (K.taken sink.new) (take result bytes.now) }
     ensures later { K.faults sink.old ≤ K.faults sink.new }
@@ -43,7 +43,7 @@ pub fn write_all<K: Sink>(sink: &mut K, bytes: &[u8]) -> Wrote
     ensures later { K.faults sink.old ≤ K.faults sink.new }
     ensures fault { IsWriteFault result → Rose (K.faults sink.old) (K.faults sink.new) }
 {
-    if write_front(sink, bytes) < bytes.len() {
+    if write_prefix(sink, bytes) < bytes.len() {
         return Wrote::Fault;
     }
     Wrote::Done

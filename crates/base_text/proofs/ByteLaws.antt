@@ -7,7 +7,7 @@ use Rattle.std.proofs.lemmas.Bool.{eqb-true}
 use Rattle.base_text.specs.Lines.{Word, is_stop}
 use Rattle.base_text.specs.HexBytes.{digit_value, hex_digit, hex_byte, byte_of, pairs_of, bytes_word}
 use Rattle.base_text.specs.HexBytes.{bytes_of, AreBytes}
-use Rattle.base_text.proofs.Fronts.{cond_yes, cond_no}
+use Rattle.base_text.proofs.Prefixes.{cond_yes, cond_no}
 use Rattle.base_text.proofs.Takes.{Takes, takes_some, takes_none, takes_then, takes_if}
 use Rattle.base_text.proofs.WordRuns.{IsRun, high_run}
 use Rattle.base_text.specs.declared.byte_words.TheConstants.{MAX_WORD_BYTES}

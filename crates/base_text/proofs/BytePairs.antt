@@ -11,14 +11,14 @@ use Rattle.base_text.specs.HexBytes.{byte_of, digit_value, hex_byte, hex_digit, 
 
 -- what was read so far, and what is read on
 abbrev pub with_bytes : List ℕ → Option (List ℕ) → Option (List ℕ)
-with_bytes front None = None
-with_bytes front (Some back) = Some (front ++ back)
+with_bytes prefix None = None
+with_bytes prefix (Some back) = Some (prefix ++ back)
 
 -- one more
-one_more : (front : List ℕ) (byte : ℕ) (later : Option (List ℕ)) → with_bytes front
-    (later >>= λ back. Some (byte ∷ back)) ≡ with_bytes (front ++ byte ∷ []) later
-one_more front byte None = refl
-one_more front byte (Some back) = ap (λ bytes. Some bytes) (sym (append_assoc front (byte ∷ []) back))
+one_more : (prefix : List ℕ) (byte : ℕ) (later : Option (List ℕ)) → with_bytes prefix
+    (later >>= λ back. Some (byte ∷ back)) ≡ with_bytes (prefix ++ byte ∷ []) later
+one_more prefix byte None = refl
+one_more prefix byte (Some back) = ap (λ bytes. Some bytes) (sym (append_assoc prefix (byte ∷ []) back))
 
 -- a pair is read
 pair_read : (high low byte : ℕ) (digits : List ℕ) → byte_of high low ≡ Some byte → pairs_of (high ∷ low ∷ digits)
@@ -46,7 +46,7 @@ pairs_step digits bytes i byte fits room found before =
     before
     ∙ ap (with_bytes (take i bytes)) (ap pairs_of (at_pair digits i fits) ∙ pair_read _ _ byte rest found)
     ∙ one_more (take i bytes) byte (pairs_of rest)
-    ∙ ap (λ (front : List ℕ). with_bytes front (pairs_of rest)) (sym (take_more_set bytes i byte room))
+    ∙ ap (λ (prefix : List ℕ). with_bytes prefix (pairs_of rest)) (sym (take_more_set bytes i byte room))
 
 -- all bytes are read
 pub pairs_end : (digits bytes : List ℕ) (i : ℕ) → length bytes ≤ i → length digits ≤ 2 * i
@@ -110,7 +110,7 @@ pairs_not digits some_other =
 
 -- ---- writing
 
--- two digits are written, seen from the front
+-- two digits are written, seen from the prefix
 two_written : (digits : List ℕ) (at first second : ℕ) → at + 1 < length digits
     → take (at + 2) (slice_set (slice_set digits at first) (at + 1) second) ≡ take at digits ++ (first ∷ second ∷ [])
 two_written digits at first second fits =
@@ -134,10 +134,10 @@ pub digits_step : (bytes digits : List ℕ) (i first second : ℕ) → i < lengt
     ≡ flat_map hex_byte bytes
 digits_step bytes digits i first second within fits high low before =
     let two : 2 * (i + 1) ≡ 2 * i + 2 = omega arith in
-    let front = two_written digits (2 * i) first second fits in
+    let prefix = two_written digits (2 * i) first second fits in
     ap (λ (n : ℕ). take n (slice_set (slice_set digits (2 * i) first) (2 * i + 1) second)
     ++ flat_map hex_byte (drop (i + 1) bytes)) two
-    ∙ ap (λ (z : List ℕ). z ++ flat_map hex_byte (drop (i + 1) bytes)) front
+    ∙ ap (λ (z : List ℕ). z ++ flat_map hex_byte (drop (i + 1) bytes)) prefix
     ∙ append_assoc (take (2 * i) digits) (first ∷ second ∷ []) (flat_map hex_byte (drop (i + 1) bytes))
     ∙ ap (λ (d : ℕ). take (2 * i) digits ++ ((d ∷ second ∷ []) ++ flat_map hex_byte (drop (i + 1) bytes))) high
     ∙ ap (λ (d : ℕ). take (2 * i) digits ++ ((hex_digit (slice_index bytes i / 16) ∷ d ∷ [])

@@ -7,10 +7,10 @@ use Rattle.std.specs.Str.Parse.{AllDigits}
 use Rattle.std.proofs.lemmas.Str.Parse.{digit_from_value}
 use Rattle.std.proofs.lemmas.Fmt.{digits_decimal}
 use Rattle.std.proofs.lemmas.Bool.{and_parts, and_from, lt-ltb, ltb-true, le-leb, leb-true, ne_eqb, eqb-true}
-use Rattle.base_text.specs.Words.{number_of, negated, plain, integer_of}
+use Rattle.base_text.specs.Words.{number_of, negative_number, plain, integer_of}
 use Rattle.base_text.proofs.Takes.{Takes, takes_some, takes_none, takes_then, takes_if}
 use Rattle.base_text.proofs.Decimals.{own, number_of-decimal, decimal_of_number}
-use Rattle.base_text.proofs.Fronts.{cond_yes, cond_no}
+use Rattle.base_text.proofs.Prefixes.{cond_yes, cond_no}
 
 -- the word of an integer and its range
 pub record IsInteger (word : List ℕ) (z : ℤ) : Type 0 where
@@ -27,7 +27,7 @@ plain_takes word n e = takes_if {P = IsInteger word} {b = ltb n (2 ^ 31)} {r = S
     (λ b. takes_some {x = pos n} (record { spells = e; fits = record { sfits = ltb-true _ _ b } })) (λ b. takes_none)
 
 -- a number with a sign that was read
-negated_takes : (word : List ℕ) (n : ℕ) → word ≡ 45 ∷ decimal n → Takes (IsInteger word) (negated n)
+negated_takes : (word : List ℕ) (n : ℕ) → word ≡ 45 ∷ decimal n → Takes (IsInteger word) (negative_number n)
 negated_takes word zero e = takes_none
 negated_takes word (suc n) e = takes_if {P = IsInteger word} {b = leb 1 (suc n) && leb (suc n) (2 ^ 31)} {r = Some
     (negsuc n)} {s = None} (λ b.

@@ -1,4 +1,4 @@
-pub mod Fronts
+pub mod Prefixes
 pub mod Decimals
 pub mod Takes
 pub mod Integers

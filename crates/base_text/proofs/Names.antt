@@ -6,9 +6,9 @@ use Rattle.std.proofs.lemmas.Bool.Decides.{eqb_tells}
 use Rattle.std.specs.Str.{bytes_eq}
 use Rattle.std.proofs.lemmas.Slice.Eq.{bytes_eq-Decides}
 use Rattle.std.proofs.Math.Seq.{drop-append_seam}
-use Rattle.base_text.specs.Lines.{is_stop, front, back}
+use Rattle.base_text.specs.Lines.{is_stop, prefix, back}
 use Rattle.base_text.specs.Words.{GoesWith, IsSame}
-use Rattle.base_text.proofs.Fronts.{Runs, StopsAt, parted, front_len}
+use Rattle.base_text.proofs.Prefixes.{Runs, StopsAt, parted, prefix_len}
 use Rattle.base_text.proofs.Decimals.{upto}
 use Rattle.base_text.proofs.Seams.{whole}
 
@@ -25,24 +25,24 @@ pub record AreSame (word name : List ℕ) (count : ℕ) : Type 0 where
   pub few : count ≤ length name
   pub same : take count word ≡ take count name
 
--- a place of the front is one of the bytes, where no word ends
-front_by : (stop : Bool) (byte : ℕ) (bytes : List ℕ) (place : ℕ) → is_stop byte ≡ stop
-    → ((later : ℕ) → later < length (front bytes) → (later < length bytes)
-    × (get_or (front bytes) later 0 ≡ get_or bytes later 0) × (is_stop (get_or bytes later 0) ≡ false))
-    → place < length (cond stop [] (byte ∷ front bytes))
+-- a place of the prefix is one of the bytes, where no word ends
+prefix_by : (stop : Bool) (byte : ℕ) (bytes : List ℕ) (place : ℕ) → is_stop byte ≡ stop
+    → ((later : ℕ) → later < length (prefix bytes) → (later < length bytes)
+    × (get_or (prefix bytes) later 0 ≡ get_or bytes later 0) × (is_stop (get_or bytes later 0) ≡ false))
+    → place < length (cond stop [] (byte ∷ prefix bytes))
     → (place < suc (length bytes))
-    × (get_or (cond stop [] (byte ∷ front bytes)) place 0 ≡ get_or (byte ∷ bytes) place 0)
+    × (get_or (cond stop [] (byte ∷ prefix bytes)) place 0 ≡ get_or (byte ∷ bytes) place 0)
     × (is_stop (get_or (byte ∷ bytes) place 0) ≡ false)
-front_by true byte bytes place is more some = absurd (omega arith)
-front_by false byte bytes zero is more some = (omega arith, refl, is)
-front_by false byte bytes (suc place) is more some =
+prefix_by true byte bytes place is more some = absurd (omega arith)
+prefix_by false byte bytes zero is more some = (omega arith, refl, is)
+prefix_by false byte bytes (suc place) is more some =
     let later = more place (omega arith) in (omega (arith, later.0), later.1, later.2)
 
-front_place : (bytes : List ℕ) (place : ℕ) → place < length (front bytes) → (place < length bytes)
-    × (get_or (front bytes) place 0 ≡ get_or bytes place 0) × (is_stop (get_or bytes place 0) ≡ false)
-front_place [] place some = absurd (omega arith)
-front_place (byte ∷ bytes) place some =
-    front_by (is_stop byte) byte bytes place refl (front_place bytes) some
+prefix_place : (bytes : List ℕ) (place : ℕ) → place < length (prefix bytes) → (place < length bytes)
+    × (get_or (prefix bytes) place 0 ≡ get_or bytes place 0) × (is_stop (get_or bytes place 0) ≡ false)
+prefix_place [] place some = absurd (omega arith)
+prefix_place (byte ∷ bytes) place some =
+    prefix_by (is_stop byte) byte bytes place refl (prefix_place bytes) some
 
 -- a test that can't pass
 never : (test : Bool) → (test ≡ true → ⊥) → test ≡ false
@@ -94,32 +94,32 @@ is_same_name word name count alike equal other =
 
 -- the whole name, and the word ends
 pub name_found : (bytes name : List ℕ) (count : ℕ) → AreAlike bytes name count → length name ≤ count
-    → StopsAt bytes count → bytes_eq (front bytes) name ≡ true
+    → StopsAt bytes count → bytes_eq (prefix bytes) name ≡ true
 name_found bytes name count alike long stops =
-    (bytes_eq-Decides (front bytes) name).1 ((parted bytes count alike.within alike.runs stops).0 ∙ alike.same
+    (bytes_eq-Decides (prefix bytes) name).1 ((parted bytes count alike.within alike.runs stops).0 ∙ alike.same
     ∙ take_all name count long)
 
 -- the whole name, and the word goes on
 pub name_longer : (bytes name : List ℕ) (count : ℕ) → AreAlike bytes name count → length name ≤ count
-    → count < length bytes → is_stop (get_or bytes count 0) ≡ false → bytes_eq (front bytes) name ≡ false
-name_longer bytes name count alike long some runs = unequal (front bytes) name (λ same.
-    let more = front_len bytes (suc count) (omega (arith, some)) (λ place before. upto bytes count place alike.runs
+    → count < length bytes → is_stop (get_or bytes count 0) ≡ false → bytes_eq (prefix bytes) name ≡ false
+name_longer bytes name count alike long some runs = unequal (prefix bytes) name (λ same.
+    let more = prefix_len bytes (suc count) (omega (arith, some)) (λ place before. upto bytes count place alike.runs
     runs before) in
-    let equal : length (front bytes) ≡ length name = ap length same in
+    let equal : length (prefix bytes) ≡ length name = ap length same in
     absurd (omega (arith, more, equal, long)))
 
 -- a name that is longer than all the bytes
-pub name_short : (bytes name : List ℕ) → length bytes < length name → bytes_eq (front bytes) name ≡ false
-name_short bytes name short = unequal (front bytes) name (λ same.
-    let equal : length (front bytes) ≡ length name = ap length same in
-    let place = front_place bytes (length bytes) (omega (arith, short, equal)) in absurd (omega (arith, place.0)))
+pub name_short : (bytes name : List ℕ) → length bytes < length name → bytes_eq (prefix bytes) name ≡ false
+name_short bytes name short = unequal (prefix bytes) name (λ same.
+    let equal : length (prefix bytes) ≡ length name = ap length same in
+    let place = prefix_place bytes (length bytes) (omega (arith, short, equal)) in absurd (omega (arith, place.0)))
 
 -- part of the name, and then another byte, or the end of the word
 pub name_other : (bytes name : List ℕ) (count : ℕ) → count < length name → (GoesWith bytes name count → ⊥)
-    → bytes_eq (front bytes) name ≡ false
-name_other bytes name count few other = unequal (front bytes) name (λ same.
-    let equal : length (front bytes) ≡ length name = ap length same in
-    let place = front_place bytes count (omega (arith, few, equal)) in
+    → bytes_eq (prefix bytes) name ≡ false
+name_other bytes name count few other = unequal (prefix bytes) name (λ same.
+    let equal : length (prefix bytes) ≡ length name = ap length same in
+    let place = prefix_place bytes count (omega (arith, few, equal)) in
     other (record {
       within = place.0;
       more = few;
@@ -128,16 +128,16 @@ name_other bytes name count few other = unequal (front bytes) name (λ same.
     }))
 
 -- the bytes behind the first word
-pub behind_first : (bytes name : List ℕ) → bytes_eq (front bytes) name ≡ true → (length name ≤ length bytes)
+pub behind_first : (bytes name : List ℕ) → bytes_eq (prefix bytes) name ≡ true → (length name ≤ length bytes)
     × (drop (length name) bytes ≡ back bytes)
 behind_first bytes name test =
-    let same : front bytes ≡ name = (bytes_eq-Decides (front bytes) name).0 test in
-    let equal : length (front bytes) ≡ length name = ap length same in
-    let long : length (front bytes ++ back bytes) ≡ length (front bytes) + length (back bytes) = length-append _ _ in
-    let split : length bytes ≡ length (front bytes ++ back bytes) = ap length (whole bytes) in (
+    let same : prefix bytes ≡ name = (bytes_eq-Decides (prefix bytes) name).0 test in
+    let equal : length (prefix bytes) ≡ length name = ap length same in
+    let long : length (prefix bytes ++ back bytes) ≡ length (prefix bytes) + length (back bytes) = length-append _ _ in
+    let split : length bytes ≡ length (prefix bytes ++ back bytes) = ap length (whole bytes) in (
       omega (arith, long, split, equal),
-      ap (λ (count : ℕ). drop count bytes) (sym equal) ∙ ap (drop (length (front bytes))) (whole bytes)
-          ∙ drop-append_seam (front bytes) (back bytes),
+      ap (λ (count : ℕ). drop count bytes) (sym equal) ∙ ap (drop (length (prefix bytes))) (whole bytes)
+          ∙ drop-append_seam (prefix bytes) (back bytes),
     )
 
 -- whether it is the word, by whether it goes on

@@ -6,7 +6,7 @@ use Rattle.std.proofs.lemmas.Bool.{and_from, and_parts, eqb-true, leb-true, le-l
 use Rattle.base_text.specs.Lines.{Word}
 use Rattle.base_text.specs.LineTexts.{IsLine, IsPlain, IsWord, Line, ending, line_text}
 use Rattle.base_text.specs.Reasons.{goes_on_as_text, is_plain, is_text}
-use Rattle.base_text.proofs.Fronts.{cond_no}
+use Rattle.base_text.proofs.Prefixes.{cond_no}
 use Rattle.base_text.proofs.LineTexts.{line_parts}
 
 -- a plain byte, by its test
@@ -101,7 +101,7 @@ words_take begins [] h = absurd (cc)
 words_take begins (b ∷ bytes) h =
     words_by begins b bytes (eqb b 10) (eqb b 32) refl refl h (λ next k. words_take next bytes k)
 
--- a line of words at the front of bytes, and what stands behind it
+-- a line of words at the prefix of bytes, and what stands behind it
 pub record BeginsWithLine (bytes : List ℕ) : Type 0 where
   pub words : Line
   pub are : IsLine words

@@ -2,11 +2,11 @@
 use Rattle.std.proofs.Common.{◌≡◌, ℕ, ◌<◌, ◌^◌, List, [], ◌++◌, length, Option, Some, None, refl, ap, sym, ◌∙◌}
 use Rattle.std.proofs.Common.{decimal, append-nil}
 use Rattle.std.proofs.lemmas.List.{nil_from_length}
-use Rattle.base_text.specs.Lines.{◌>>=◌, front, back}
+use Rattle.base_text.specs.Lines.{◌>>=◌, prefix, back}
 use Rattle.base_text.specs.Words.{number_of, number_read}
 use Rattle.base_text.proofs.Decimals.{number_of-decimal, no_number}
 use Rattle.base_text.proofs.WordRuns.{decimal_run}
-use Rattle.base_text.proofs.Seams.{whole, front_seam, back_seam}
+use Rattle.base_text.proofs.Seams.{whole, prefix_seam, back_seam}
 
 -- what was read and the bytes after it
 parts : (found : Option ℕ) (behind rest : List ℕ) (number : ℕ) → ◌>>=◌ {B = ℕ × List ℕ} found (λ n. Some (n, behind))
@@ -16,10 +16,10 @@ parts (Some one) behind rest number read =
     let same : ◌≡◌ {A = ℕ × List ℕ} (one, behind) (number, rest) = cc in
     (ap (λ (pair : ℕ × List ℕ). Some pair.0) same, ap (λ (pair : ℕ × List ℕ). pair.1) same)
 
--- a number's text is its front, and nothing is behind it
-front_decimal : (number : ℕ) → number < 2 ^ 64 → front (decimal number) ≡ decimal number
-front_decimal number fits =
-    ap front (sym (append-nil (decimal number))) ∙ front_seam (decimal number) [] (decimal_run number fits) refl
+-- a number's text is its prefix, and nothing is behind it
+prefix_decimal : (number : ℕ) → number < 2 ^ 64 → prefix (decimal number) ≡ decimal number
+prefix_decimal number fits =
+    ap prefix (sym (append-nil (decimal number))) ∙ prefix_seam (decimal number) [] (decimal_run number fits) refl
 
 back_decimal : (number : ℕ) → number < 2 ^ 64 → back (decimal number) ≡ []
 back_decimal number fits =
@@ -35,10 +35,10 @@ pub whole_some : (word rest : List ℕ) (number : ℕ) → number_read word ≡ 
     → number_of word ≡ Some number
 unfolding number_read
 whole_some word rest number read none =
-    let both = parts (number_of (front word)) (back word) rest number read in
+    let both = parts (number_of (prefix word)) (back word) rest number read in
     let behind : back word ≡ [] = both.1 ∙ nil_from_length rest none in
-    let same : word ≡ front word = whole word ∙ ap (λ (bytes : List ℕ). front word ++ bytes) behind
-    ∙ append-nil (front word) in
+    let same : word ≡ prefix word = whole word ∙ ap (λ (bytes : List ℕ). prefix word ++ bytes) behind
+    ∙ append-nil (prefix word) in
     ap number_of same ∙ both.0
 
 -- bytes after a number
@@ -46,7 +46,7 @@ pub whole_rest : (word rest : List ℕ) (number : ℕ) → number_read word ≡ 
     → number_of word ≡ None
 unfolding number_read
 whole_rest word rest number read some = no_number word (λ other fits same.
-    let both = parts (number_of (front word)) (back word) rest number read in
+    let both = parts (number_of (prefix word)) (back word) rest number read in
     some (ap length (sym both.1 ∙ ap back same ∙ back_decimal other fits)))
 
 -- no number
@@ -54,4 +54,4 @@ pub whole_none : (word : List ℕ) → number_read word ≡ None → number_of w
 unfolding number_read
 whole_none word none = no_number word (λ other fits same.
     none_some (number_read word) (other, back word) none
-    (rw (ap front same ∙ front_decimal other fits, number_of-decimal other fits) refl))
+    (rw (ap prefix same ∙ prefix_decimal other fits, number_of-decimal other fits) refl))

@@ -12,13 +12,13 @@ abbrev pub spaced_word : Word → List ℕ
 spaced_word word = 32 ∷ word
 
 -- words with one space between each two
-abbrev pub joined : Line → List ℕ
-joined [] = []
-joined (word ∷ words) = word ++ flat_map spaced_word words
+abbrev pub text_of_words : Line → List ℕ
+text_of_words [] = []
+text_of_words (word ∷ words) = word ++ flat_map spaced_word words
 
 -- the words of a line with one space between each two, and byte 10
 abbrev pub line_text : Line → List ℕ
-line_text words = joined words ++ 10 ∷ []
+line_text words = text_of_words words ++ 10 ∷ []
 
 -- what stands behind the first word of a line: the other words with a space before each, and byte 10
 abbrev pub ending : Line → List ℕ

@@ -22,9 +22,9 @@ abbrev pub is_stop : ℕ → Bool
 is_stop b = (b == 32) || (b == 10)
 
 -- the bytes up to the end of the first word
-abbrev pub front : List ℕ → Word
-front [] = []
-front (b ∷ bs) = if is_stop b then [] else b ∷ front bs
+abbrev pub prefix : List ℕ → Word
+prefix [] = []
+prefix (b ∷ bs) = if is_stop b then [] else b ∷ prefix bs
 
 -- the bytes from there on
 abbrev pub back : List ℕ → List ℕ
@@ -32,14 +32,14 @@ back [] = []
 back (b ∷ bs) = if is_stop b then b ∷ bs else back bs
 
 -- the bytes after a space
-abbrev pub spaced : List ℕ → Option (List ℕ)
-spaced [] = None
-spaced (b ∷ bs) = if b == 32 then Some bs else None
+abbrev pub after_space : List ℕ → Option (List ℕ)
+after_space [] = None
+after_space (b ∷ bs) = if b == 32 then Some bs else None
 
 -- the bytes after the end of the line
-abbrev pub ended : List ℕ → Option (List ℕ)
-ended [] = None
-ended (b ∷ bs) = if b == 10 then Some bs else None
+abbrev pub after_newline : List ℕ → Option (List ℕ)
+after_newline [] = None
+after_newline (b ∷ bs) = if b == 10 then Some bs else None
 
 -- whether a space comes next
 abbrev pub has_space : List ℕ → Bool

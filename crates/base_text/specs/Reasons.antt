@@ -31,14 +31,14 @@ words_left [] = 0
 words_left (b ∷ bs) = if b == 10 then 0 else (if b == 32 then suc (words_left bs) else words_left bs)
 
 -- the bytes after a space and a word
-abbrev pub skipped : List ℕ → List ℕ
-skipped [] = []
-skipped (b ∷ bs) = if b == 32 then back bs else []
+abbrev pub after_word : List ℕ → List ℕ
+after_word [] = []
+after_word (b ∷ bs) = if b == 32 then back bs else []
 
 -- the bytes after a number of them
 abbrev pub after_words : ℕ → List ℕ → List ℕ
 after_words zero bytes = bytes
-after_words (suc n) bytes = after_words n (skipped bytes)
+after_words (suc n) bytes = after_words n (after_word bytes)
 
 -- ---- the first reason
 
@@ -52,6 +52,6 @@ abbrev pub reason : (form : List ℕ → Bool) → List ℕ → LineWhy
 reason form bytes = why_of (form bytes) bytes
 
 -- what was found, or why it wasn't
-abbrev pub said : {A : Type 0} → LineWhy → Option A → Result A LineWhy
-said why None = Err why
-said why (Some x) = Ok x
+abbrev pub found_or_why : {A : Type 0} → LineWhy → Option A → Result A LineWhy
+found_or_why why None = Err why
+found_or_why why (Some x) = Ok x

@@ -5,7 +5,7 @@ use Rattle.std.specs.Prelude.{nat_lt, nat_le, ◌==◌, if◌then◌else◌, dec
 use Rattle.std.specs.Str.{bytes_eq}
 use Rattle.std.specs.Str.Parse.{digits_value, AllDigits}
 use Rattle.std.specs.Int.{IsInRange}
-use Rattle.base_text.specs.Lines.{Word, ◌>>=◌, is_stop, front, back}
+use Rattle.base_text.specs.Lines.{Word, ◌>>=◌, is_stop, prefix, back}
 
 -- the number below 2 ^ 64 whose decimal text, without leading zero, the word is
 unfoldable pub number_of : Word → Option ℕ
@@ -14,17 +14,17 @@ number_of word = if bytes_eq word (decimal (digits_value 10 word)) && nat_lt (di
 
 -- the number that the first word is, and the bytes after it
 unfoldable pub number_read : List ℕ → Option (ℕ × List ℕ)
-number_read bytes = number_of (front bytes) >>= λ n. Some (n, back bytes)
+number_read bytes = number_of (prefix bytes) >>= λ n. Some (n, back bytes)
 
 -- a digit stands at a place
 abbrev pub HasDigit : List ℕ → ℕ → Type 0
 HasDigit bytes i = (i < length bytes) × IsInRange 48 57 (slice_index bytes i)
 
--- a digit is at the front, and none behind it
+-- a digit is at the prefix, and none behind it
 abbrev pub HasOneDigit : List ℕ → Type 0
 HasOneDigit bytes = HasDigit bytes 0 × (HasDigit bytes 1 → ⊥)
 
--- so many digits are at the front, and this is their number
+-- so many digits are at the prefix, and this is their number
 pub record BeginWith (bytes : List ℕ) (number count : ℕ) : Type 0 where
   pub within : count ≤ length bytes
   pub digits : AllDigits 10 (take count bytes)
@@ -40,7 +40,7 @@ pub record AreDigits (bytes : List ℕ) (number count : ℕ) : Type 0 where
 abbrev pub fitting : ℕ → Option ℕ
 fitting n = if nat_lt n (2 ^ 64) then Some n else None
 
--- a digit follows a zero at the front
+-- a digit follows a zero at the prefix
 abbrev pub IsPadded : List ℕ → ℕ → Type 0
 IsPadded bytes end = (slice_index bytes 0 ≡ 48) × (1 < end)
 
@@ -74,14 +74,16 @@ abbrev pub plain : ℕ → Option ℤ
 plain n = if nat_lt n (2 ^ 31) then Some (pos n) else None
 
 -- a number from 1 to 2 ^ 31, negated
-abbrev pub negated : ℕ → Option ℤ
-negated n = if nat_le 1 n && nat_le n (2 ^ 31) then Some (neg_ℤ (pos n)) else None
+abbrev pub negative_number : ℕ → Option ℤ
+negative_number n = if nat_le 1 n && nat_le n (2 ^ 31) then Some (neg_ℤ (pos n)) else None
 
 -- the number of 32 bits whose decimal text the word is
 unfoldable pub integer_of : Word → Option ℤ
-integer_of word = if slice_index word 0 == 45 then (number_of (drop 1 word) >>= negated) else (number_of word >>= plain)
+integer_of word =
+    if slice_index word 0 == 45 then (number_of (drop 1 word) >>= negative_number) else (number_of word >>= plain)
 
 -- the same of the first word, and the bytes after it
 unfoldable pub integer_read : List ℕ → Option (ℤ × List ℕ)
-integer_read bytes = if slice_index bytes 0 == 45 then (number_read (drop 1 bytes) >>= λ x. negated x.0 >>= λ z. Some
+integer_read bytes =
+    if slice_index bytes 0 == 45 then (number_read (drop 1 bytes) >>= λ x. negative_number x.0 >>= λ z. Some
     (z, x.1)) else (number_read bytes >>= λ x. plain x.0 >>= λ z. Some (z, x.1))

@@ -37,17 +37,17 @@ fn first_digits(bytes: &[u8]) -> (u64, usize)
     ensures few { result.1 ≤ 19 }
     ensures last { result.1 < 19 → HasDigit bytes.now result.1 → ⊥ }
 {
-    let (front, _) = bytes.split_at(bytes.len().min(SURE));
+    let (prefix, _) = bytes.split_at(bytes.len().min(SURE));
     let mut number: u64 = 0;
     let mut count = 0;
-    while has_digit(front, count) {
-        number = number * 10 + u64::from(front[count] - b'0');
+    while has_digit(prefix, count) {
+        number = number * 10 + u64::from(prefix[count] - b'0');
         count += 1;
     }
     (number, count)
 }
 
-/// Whether a digit follows a zero at the front.
+/// Whether a digit follows a zero at the prefix.
 fn is_padded(bytes: &[u8], count: usize) -> bool
     requires some { 0 < count }
     requires fits { count ≤ length bytes.now }
@@ -56,7 +56,7 @@ fn is_padded(bytes: &[u8], count: usize) -> bool
     bytes[0] == b'0' && count > 1
 }
 
-/// The number of all digits at the front, where the first word is one, and the bytes after it.
+/// The number of all digits at the prefix, where the first word is one, and the bytes after it.
 fn whole(bytes: &[u8], number: u64, count: usize) -> Result<(u64, &[u8]), Other>
     requires { AreDigits bytes.now number count }
     ensures { Finds (λ x. (x.0, x.1.now)) result (number_read bytes.now) }

@@ -1,7 +1,7 @@
 //! Why a line isn't read.
 
 ghost use Rattle.std.specs.Prelude.{◌≡◌, ◌==◌, ◌≤◌, ◌<◌, ◌&&◌, nat_le, length};
-ghost use Rattle.base_text.specs.Reasons.{is_plain, is_text, words_left, skipped, why_of};
+ghost use Rattle.base_text.specs.Reasons.{is_plain, is_text, words_left, after_word, why_of};
 
 use crate::why::LineWhy;
 use crate::words::name_of;
@@ -64,7 +64,7 @@ pub fn is_between(count: usize, least: usize, most: usize) -> bool
 
 /// The bytes after a space and a word.
 pub fn skipped(bytes: &[u8]) -> &[u8]
-    ensures { result.now ≡ skipped bytes.now }
+    ensures { result.now ≡ after_word bytes.now }
 {
     if bytes.is_empty() {
         return bytes;

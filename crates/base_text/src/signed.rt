@@ -1,7 +1,7 @@
 //! Numbers of 32 bits, as words of a line.
 
 ghost use Rattle.std.specs.Prelude.{◌≡◌, ◌==◌, ◌<◌, slice_index, drop};
-ghost use Rattle.base_text.specs.Words.{integer_read, negated, plain};
+ghost use Rattle.base_text.specs.Words.{integer_read, negative_number, plain};
 ghost use Rattle.base_text.specs.Found.{Finds};
 
 use crate::miss::Other;
@@ -34,7 +34,7 @@ pub fn after_first(bytes: &[u8]) -> &[u8]
 /// A number from 1 to 2 ^ 31, negated.
 #[inline(always)]
 fn negated(number: u64) -> Option<i32>
-    ensures { result ≡ negated number }
+    ensures { result ≡ negative_number number }
 {
     if 1 <= number && number <= 2_147_483_648 {
         Some((-(number as i64)) as i32)

@@ -22,9 +22,9 @@ abbrev pub after_entry : {State : Type 0} → Steps State → State → Entry �
 after_entry s r e = s.after r e.thread e.now e.got
 
 -- the state after the turns of all entries
-abbrev pub replayed : {State : Type 0} → Steps State → State → List Entry → State
-replayed s r [] = r
-replayed s r (e ∷ es) = replayed s (after_entry s r e) es
+abbrev pub replay_state : {State : Type 0} → Steps State → State → List Entry → State
+replay_state s r [] = r
+replay_state s r (e ∷ es) = replay_state s (after_entry s r e) es
 
 -- the datagrams got
 abbrev pub got_in : List Entry → List (List ℕ)
@@ -51,4 +51,4 @@ quiet_tail s r count (e ∷ es) = quiet_tail s (after_entry s r e) (if is_quiet 
 
 -- of whatever state the one machine stood for, the other stands for its replay
 abbrev pub StandsFor : {M : Type 0} → Ghosts M → M → List Entry → M → Type 0
-StandsFor g first es last = (r : g.State) → g.stands first r → g.stands last (replayed (steps_of g) r es)
+StandsFor g first es last = (r : g.State) → g.stands first r → g.stands last (replay_state (steps_of g) r es)

@@ -3,10 +3,10 @@ use Rattle.std.proofs.Common.{◌≡◌, ◌≢◌, ℕ, List, [], ◌∷◌, �
 use Rattle.std.proofs.Common.{None, refl, sym, ap, ap₂, subst, ◌∙◌, append_assoc}
 use Rattle.std.proofs.lemmas.Option.{same_Some}
 use Rattle.wire_message.specs.Parameters.{Parameters}
-use Rattle.base_lists.specs.Numbered.{numbered}
+use Rattle.base_lists.specs.Numbered.{element_at}
 use Rattle.node_rules.specs.Called.{Requests, Performs, event_at, node_event}
 use Rattle.node_rules.specs.EndpointLocal.{EndpointLocal}
-use Rattle.node_rules.specs.EndpointRules.{OtherCall, RecordEvent, RecordsEvent, Records, at_the_opening, timed, told}
+use Rattle.node_rules.specs.EndpointRules.{OtherCall, RecordEvent, RecordsEvent, Records, at_the_opening, timed_event, answer_told}
 use Rattle.node_rules.specs.declared.answer.Answer.{Answer}
 use Rattle.text_job.specs.declared.job.Job.{Job as JobState}
 use Rattle.wire_message.specs.Message.{Message}
@@ -19,7 +19,7 @@ use Rattle.law_traces.specs.Scripts.{ThreadCall}
 use Rattle.law_traces.specs.Turn.{node_run}
 use Rattle.law_traces.specs.WorldRun.{AreEvents}
 use Rattle.law_traces.proofs.Stages.{fallen_here, fallen_other}
-use Rattle.spec_network.specs.World.{Asks, Does, RequestComes, ReplyComes, Ticks, Timed, Fall, falls}
+use Rattle.spec_network.specs.World.{Asks, Does, RequestComes, ReplyComes, Ticks, EventAt, Fall, falls}
 use Rattle.spec_network.specs.World.{request_event, reply_event, world_answer, world_after, run}
 use Rattle.law_transfers.specs.Chunks.{EndpointJob}
 use Rattle.cli_check.specs.StepLines.{StepAt}
@@ -27,55 +27,55 @@ use Rattle.cli_check.specs.StepsTold.{IsCallMade, IsMadeSince, IsReply, call_eve
 
 -- ---- runs in parts
 
-pub run_append : (job : EndpointJob) (first second : List (Timed OtherCall)) (world : Records)
+pub run_append : (job : EndpointJob) (first second : List (EventAt OtherCall)) (world : Records)
     → run job (first ++ second) world ≡ run job second (run job first world)
 run_append job [] second world = refl
 run_append job (event ∷ first) second world = run_append job first second (world_after job world event)
 
 -- the node after its events
-pub run_here : (job : EndpointJob) (node now : ℕ) (events : List RecordEvent) (happened : List (Timed OtherCall))
+pub run_here : (job : EndpointJob) (node now : ℕ) (events : List RecordEvent) (happened : List (EventAt OtherCall))
     (world : Records) → AreEvents job world node now events happened
     → run job happened world node ≡ node_run job node now events (world node)
 run_here job node now [] [] world are = refl
 run_here job node now [] (event ∷ happened) world are = absurd are
 run_here job node now (event ∷ events) [] world are = absurd are
-run_here job node now (event ∷ events) (timed ∷ happened) world are =
-    run_here job node now events happened (world_after job world timed) are.2
+run_here job node now (event ∷ events) (timed_event ∷ happened) world are =
+    run_here job node now events happened (world_after job world timed_event) are.2
     ∙ ap (node_run job node now events)
-    (fallen_here job world node event timed are.1 ∙ ap (λ k. node_after job node (world node) k event) are.0)
+    (fallen_here job world node event timed_event are.1 ∙ ap (λ k. node_after job node (world node) k event) are.0)
 
 -- and another one
 pub run_other : (job : EndpointJob) (node now other : ℕ) (events : List RecordEvent)
-    (happened : List (Timed OtherCall)) (world : Records) → other ≢ node
+    (happened : List (EventAt OtherCall)) (world : Records) → other ≢ node
     → AreEvents job world node now events happened → run job happened world other ≡ world other
 run_other job node now other [] [] world apart are = refl
 run_other job node now other [] (event ∷ happened) world apart are = absurd are
 run_other job node now other (event ∷ events) [] world apart are = absurd are
-run_other job node now other (event ∷ events) (timed ∷ happened) world apart are =
-    run_other job node now other events happened (world_after job world timed) apart are.2
-    ∙ fallen_other job world node event timed are.1 other apart
+run_other job node now other (event ∷ events) (timed_event ∷ happened) world apart are =
+    run_other job node now other events happened (world_after job world timed_event) apart are.2
+    ∙ fallen_other job world node event timed_event are.1 other apart
 
 -- ---- an event of a turn
 
 -- the event at a place of a turn: those before it were the first ones of the node, and it falls as the next one
 pub record HappensAt (job : EndpointJob) (world : Records) (node now : ℕ) (events : List RecordEvent)
-    (happened : List (Timed OtherCall)) (first : List RecordEvent) (event : RecordEvent) : Type 0 where
-  pub before : List (Timed OtherCall)
-  pub timed : Timed OtherCall
-  pub later : List (Timed OtherCall)
-  pub happened_is : happened ≡ before ++ timed ∷ later
-  pub now_is : timed.now ≡ now
-  pub falls_so : falls job.settings (run job before world) timed.event ≡ Some (record { node = node; event = event })
+    (happened : List (EventAt OtherCall)) (first : List RecordEvent) (event : RecordEvent) : Type 0 where
+  pub before : List (EventAt OtherCall)
+  pub timed : EventAt OtherCall
+  pub later : List (EventAt OtherCall)
+  pub happened_is : happened ≡ before ++ timed_event ∷ later
+  pub now_is : timed_event.now ≡ now
+  pub falls_so : falls job.settings (run job before world) timed_event.event ≡ Some (record { node = node; event = event })
   pub node_is : run job before world node ≡ node_run job node now first (world node)
 
 pub happens_at : (job : EndpointJob) (world : Records) (node now : ℕ) (first : List RecordEvent) (event : RecordEvent)
-    (rest : List RecordEvent) (happened : List (Timed OtherCall))
+    (rest : List RecordEvent) (happened : List (EventAt OtherCall))
     → AreEvents job world node now (first ++ event ∷ rest) happened
     → HappensAt job world node now (first ++ event ∷ rest) happened first event
 happens_at job world node now [] event rest [] are = absurd are
-happens_at job world node now [] event rest (timed ∷ happened) are = record {
+happens_at job world node now [] event rest (timed_event ∷ happened) are = record {
   before = [];
-  timed = timed;
+  timed = timed_event;
   later = happened;
   happened_is = refl;
   now_is = are.0;
@@ -83,17 +83,17 @@ happens_at job world node now [] event rest (timed ∷ happened) are = record {
   node_is = refl;
 }
 happens_at job world node now (one ∷ first) event rest [] are = absurd are
-happens_at job world node now (one ∷ first) event rest (timed ∷ happened) are =
-    let it = happens_at job (world_after job world timed) node now first event rest happened are.2 in
+happens_at job world node now (one ∷ first) event rest (timed_event ∷ happened) are =
+    let it = happens_at job (world_after job world timed_event) node now first event rest happened are.2 in
     record {
-      before = timed ∷ it.before;
+      before = timed_event ∷ it.before;
       timed = it.timed;
       later = it.later;
-      happened_is = ap (λ (events : List (Timed OtherCall)). timed ∷ events) it.happened_is;
+      happened_is = ap (λ (events : List (EventAt OtherCall)). timed_event ∷ events) it.happened_is;
       now_is = it.now_is;
       falls_so = it.falls_so;
       node_is = it.node_is ∙ ap (node_run job node now first)
-          (fallen_here job world node one timed are.1 ∙ ap (λ k. node_after job node (world node) k one) are.0);
+          (fallen_here job world node one timed_event are.1 ∙ ap (λ k. node_after job node (world node) k one) are.0);
     }
 
 -- ---- a call
@@ -148,51 +148,51 @@ falls_as_call settings world (Asks from ask) node thread call is =
 falls_as_call settings world (Does from by other) node thread call is =
     does_as from node by thread other call (same_node _ _ is) (same_event _ _ is)
 falls_as_call settings world (RequestComes from to number) node thread call is =
-    absurd (asked_same (numbered ((world from).asked to) number) settings from to number node thread call is)
+    absurd (asked_same (element_at ((world from).asked to) number) settings from to number node thread call is)
 falls_as_call settings world (ReplyComes from to number) node thread call is =
     absurd (replied_same (run_of number ((world to).ran from)) settings from to node thread call is)
 falls_as_call settings world (Ticks from) node thread call is = absurd (no_tick thread call (same_event _ _ is))
 
 -- what the world answers to it
 reply_is : (job : EndpointJob) (world : Records) (at : StepAt) (now : ℕ) (call : ThreadCall)
-    → IsReply call (told (node_answer job at.rank (world at.rank) now (node_event at.thread call)))
+    → IsReply call (answer_told (node_answer job at.rank (world at.rank) now (node_event at.thread call)))
     (world_answer job world (call_event at now call))
 reply_is job world at now (Requests to asking) = (_, refl, refl)
 reply_is job world at now (Performs call) = refl
 
 -- a call that is one of the events of a turn was made behind the past
-pub made_at : (job : JobState) (past : List (Timed OtherCall)) (at : StepAt) (now : ℕ) (first : List RecordEvent)
-    (call : ThreadCall) (rest : List RecordEvent) (happened : List (Timed OtherCall)) (node : Node EndpointLocal)
+pub made_at : (job : JobState) (past : List (EventAt OtherCall)) (at : StepAt) (now : ℕ) (first : List RecordEvent)
+    (call : ThreadCall) (rest : List RecordEvent) (happened : List (EventAt OtherCall)) (node : Node EndpointLocal)
     → records_after job past at.rank ≡ node
     → AreEvents (rules_of job) (records_after job past) at.rank now (first ++ node_event at.thread call ∷ rest) happened
     → IsMadeSince job past (past ++ happened) at call
-    (told (node_answer (rules_of job) at.rank (node_run (rules_of job) at.rank now first node) now
+    (answer_told (node_answer (rules_of job) at.rank (node_run (rules_of job) at.rank now first node) now
     (node_event at.thread call)))
 made_at job past at now first call rest happened node is are =
     let it = happens_at (rules_of job) (records_after job past) at.rank now first (node_event at.thread call) rest
     happened are in
     let world = run (rules_of job) it.before (records_after job past) in
     let event : it.timed ≡ call_event at now call =
-    ap₂ (λ (n : ℕ) (e : RecordsEvent). timed n e) it.now_is
+    ap₂ (λ (n : ℕ) (e : RecordsEvent). timed_event n e) it.now_is
     (falls_as_call (rules_of job).settings world it.timed.event at.rank at.thread call it.falls_so) in
     let there : records_after job (past ++ it.before) ≡ world =
     run_append (rules_of job) past it.before (at_the_opening job.settings) in
     let found : world at.rank ≡ node_run (rules_of job) at.rank now first node =
     it.node_is ∙ ap (node_run (rules_of job) at.rank now first) is in
-    let answer = told (node_answer (rules_of job) at.rank (node_run (rules_of job) at.rank now first node) now
+    let answer = answer_told (node_answer (rules_of job) at.rank (node_run (rules_of job) at.rank now first node) now
     (node_event at.thread call)) in
     record {
       made = record {
         before = past ++ it.before;
         now = now;
         later = it.later;
-        run_is = ap (λ (events : List (Timed OtherCall)). past ++ events)
-            (it.happened_is ∙ ap (λ (e : Timed OtherCall). it.before ++ e ∷ it.later) event)
+        run_is = ap (λ (events : List (EventAt OtherCall)). past ++ events)
+            (it.happened_is ∙ ap (λ (e : EventAt OtherCall). it.before ++ e ∷ it.later) event)
             ∙ sym (append_assoc past it.before (call_event at now call ∷ it.later));
         answered = subst (λ (w : Records). IsReply call answer (world_answer (rules_of job) w (call_event at now call)))
             (sym there)
             (subst (λ (n : Node EndpointLocal). IsReply call
-            (told (node_answer (rules_of job) at.rank n now (node_event at.thread call)))
+            (answer_told (node_answer (rules_of job) at.rank n now (node_event at.thread call)))
             (world_answer (rules_of job) world (call_event at now call))) found
             (reply_is (rules_of job) world at now call));
       };
@@ -201,13 +201,13 @@ made_at job past at now first call rest happened node is are =
     }
 
 -- more events follow
-abbrev pub made_before : (job : JobState) (run more : List (Timed OtherCall)) (at : StepAt) (call : ThreadCall)
+abbrev pub made_before : (job : JobState) (run more : List (EventAt OtherCall)) (at : StepAt) (call : ThreadCall)
     (answer : Answer) → IsCallMade job run at call answer → IsCallMade job (run ++ more) at call answer
 made_before job run more at call answer made = record {
   before = made.before;
   now = made.now;
   later = made.later ++ more;
-  run_is = ap (λ (events : List (Timed OtherCall)). events ++ more) made.run_is
+  run_is = ap (λ (events : List (EventAt OtherCall)). events ++ more) made.run_is
       ∙ append_assoc made.before (call_event at made.now call ∷ made.later) more;
   answered = made.answered;
 }

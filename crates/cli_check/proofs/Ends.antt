@@ -9,7 +9,7 @@ use Rattle.std.proofs.lemmas.Option.{get_or_from_slice_get, same_Some, slice_get
 use Rattle.std.proofs.Common.{inl, inr}
 use Rattle.wire_message.specs.Parameters.{Parameters}
 use Rattle.node_endpoint.specs.EndpointState.{EndpointState, ForItsRecord}
-use Rattle.base_io.specs.Buffered.{Outbox, GathersAll, GathersFront, GathersUpTo}
+use Rattle.base_io.specs.Buffered.{Outbox, GathersAll, GathersPrefix, GathersUpTo}
 use Rattle.base_io.specs.declared.writing.Wrote.{Wrote}
 use Rattle.base_io.specs.declared.writing.Wrote.TheVariants as wrote
 use Rattle.base_io.proofs.Outboxes.{past_done, past_fault}
@@ -24,7 +24,7 @@ use Rattle.cli_check.specs.StepLines.{end_lines, ends_from, is_violated, is_viol
 use Rattle.cli_check.specs.Machines.{first_machine, last_record}
 use Rattle.cli_check.specs.TracesRun.{AreNodesAfter, AreRanked, IsNodeAfter}
 use Rattle.cli_check.specs.declared.recorder.NodeReport.{NodeReport}
-use Rattle.cli_check.proofs.Fronts.{some_from}
+use Rattle.cli_check.proofs.Prefixes.{some_from}
 
 -- ---- how nodes ended
 
@@ -84,10 +84,10 @@ report_of job traces reports rank trace report are at there =
 
 -- ---- one text after the other
 
--- the next piece of a text was said: what is left of it, or at a fault a front went in
+-- the next piece of a text was said: what is left of it, or at a fault a prefix went in
 abbrev pub SaidUpTo : (start after : Outbox) → (all next : List ℕ) → Wrote → Type 0
 SaidUpTo start after all next wrote.Done = GathersUpTo start after all next
-SaidUpTo start after all next wrote.Fault = GathersFront start after all
+SaidUpTo start after all next wrote.Fault = GathersPrefix start after all
 
 pub past_said : (start before after : Outbox) (all piece next rest : List ℕ) (said : Wrote) → rest ≡ piece ++ next
     → GathersUpTo start before all rest → GathersAll before after piece said → SaidUpTo start after all next said

@@ -1,4 +1,4 @@
--- Reading an input: the job at its front, and the outputs behind it, one after another.
+-- Reading an input: the job at its prefix, and the outputs behind it, one after another.
 use Rattle.std.proofs.Common.{◌≡◌, ℕ, zero, suc, ◌+◌, ◌-◌, ◌<◌, ◌≤◌, List, [], ◌∷◌, ◌++◌, length, drop, take}
 use Rattle.std.proofs.Common.{Result, Ok, Err, refl, sym, ap, subst, ◌∙◌, arith, append_assoc, append-nil}
 use Rattle.std.proofs.Common.{length-append, length-drop}
@@ -19,9 +19,9 @@ use Rattle.text_trace.specs.declared.fault.TraceFault.{TraceFault}
 use Rattle.text_trace.specs.declared.fault.TraceFault.TheVariants as tracefaults
 use Rattle.text_trace.specs.declared.output.Output.{Output}
 use Rattle.text_trace.specs.declared.output.Wanted.{Wanted}
-use Rattle.text_job.specs.JobReading.{front_of}
+use Rattle.text_job.specs.JobReading.{prefix_of}
 use Rattle.text_job.specs.JobText.{BeginsWith, job_text}
-use Rattle.text_job.specs.Refusals.{FrontMeans, IsFrontMeant, IsNoMemory}
+use Rattle.text_job.specs.Refusals.{PrefixMeans, IsPrefixMeant, IsNoMemory}
 use Rattle.text_job.specs.Refusals as refusals
 use Rattle.text_job.specs.declared.fault.JobFault.{JobFault}
 use Rattle.text_job.specs.declared.fault.JobFault.TheVariants as jobfaults
@@ -33,7 +33,7 @@ use Rattle.cli_check.specs.CheckInputs.{IsTraceOf, OutputsOf, OutputsRead, Stand
 use Rattle.cli_check.specs.CheckInputs.{input_limit, lines_in, outputs_at, outputs_text, wanted_of}
 use Rattle.cli_check.specs.CheckInputs.{with_outputs, IsRefused, IsUnread, ReadsOutputs, TakesInput, TakesNone}
 use Rattle.cli_check.specs.CheckInputs.{HasMoreBehind, fault_behind, lines_until}
-use Rattle.cli_check.proofs.InputsTold.{all_once, bad_once, front_fits, meant_there, none_bad}
+use Rattle.cli_check.proofs.InputsTold.{all_once, bad_once, prefix_fits, meant_there, none_bad}
 use Rattle.cli_check.specs.declared.input.CheckInput.{CheckInput}
 use Rattle.cli_check.specs.declared.input.InputFault.{InputFault}
 use Rattle.cli_check.specs.declared.input.InputFault.TheVariants as faults
@@ -56,9 +56,9 @@ pub record ReadSoFar (place : OutputsOf) (outputs : List Output) (rank at : ℕ)
 
 -- ---- lists
 
-drop_front : (xs ys : List ℕ) → drop (length xs) (xs ++ ys) ≡ ys
-drop_front [] ys = refl
-drop_front (x ∷ xs) ys = drop_front xs ys
+drop_prefix : (xs ys : List ℕ) → drop (length xs) (xs ++ ys) ≡ ys
+drop_prefix [] ys = refl
+drop_prefix (x ∷ xs) ys = drop_prefix xs ys
 
 -- the output at a place
 are_at : (job : JobState) (rank : ℕ) (outputs : List Output) (place : ℕ) (output : Output) → AreOutputs job rank outputs
@@ -175,7 +175,7 @@ next_there place outputs rank at others rest low so there =
           };
         }
 
--- what is told of an output that was read at the front of these bytes
+-- what is told of an output that was read at the prefix of these bytes
 pub record IsRead (wanted : Wanted) (bytes : List ℕ) (output : Output) (len : ℕ) : Type 0 where
   pub begins : OutputBegins wanted bytes output len
   pub gives : (other : Output) (size : ℕ) → OutputBegins wanted bytes other size
@@ -214,7 +214,7 @@ read_next place outputs rank at len output low size so is_read = record {
             ∙ sym (append_assoc outputs (output ∷ []) (drop (rank + 1) others)),
         sym (drop-drop len at bytes) ∙ ap (λ n. drop n (drop at bytes)) is.1
             ∙ ap (drop (length (output_text version next.output))) next.behind
-            ∙ drop_front (output_text version next.output) (outputs_text version (drop (rank + 1) others) ++ rest),
+            ∙ drop_prefix (output_text version next.output) (outputs_text version (drop (rank + 1) others) ++ rest),
       );
 }
   where
@@ -244,7 +244,7 @@ read_next place outputs rank at len output low size so is_read = record {
         is_read.begins.text ∙ ap (λ z. output_text version output ++ z)
         (sym (sym (drop-drop len at bytes) ∙ ap (λ n. drop n (drop at bytes)) is_read.begins.size
         ∙ ap (drop (length (output_text version output))) is_read.begins.text
-        ∙ drop_front (output_text version output) is_read.begins.rest))
+        ∙ drop_prefix (output_text version output) is_read.begins.rest))
 
     one_more : outputs_text version (outputs ++ output ∷ [])
         ≡ outputs_text version outputs ++ output_text version output
@@ -319,7 +319,7 @@ read_bad place outputs rank at bad low so none read means =
           none next.output (length (output_text place.job.settings.version next.output)) next.begins;
     }
 
--- what is told where none was read at the front of these bytes
+-- what is told where none was read at the prefix of these bytes
 pub record IsUnreadable (wanted : Wanted) (bytes : List ℕ) (fault : TraceFault) : Type 0 where
   pub gives : (other : Output) (size : ℕ) → OutputBegins wanted bytes other size → GivesOutput other size (Err fault)
   pub reads : ReadsOutput (length bytes) (Err fault) (output_at wanted bytes)
@@ -339,9 +339,9 @@ pub none_more : (place : OutputsOf) (outputs : List Output) (rank at : ℕ) (wan
     (fault : TraceFault) (told : InputFault) → told ≡ fault_behind before fault → before ≡ take at place.bytes
     → wanted ≡ wanted_of place.job rank → left ≡ drop at place.bytes → rank < place.job.settings.nodes
     → ReadSoFar place outputs rank at → IsUnreadable wanted left fault → ReadsOutputs place (Err told)
-none_more place outputs rank at wanted before left fault told is front same there low so unreadable =
+none_more place outputs rank at wanted before left fault told is prefix same there low so unreadable =
     subst (λ (it : InputFault). ReadsOutputs place (Err it))
-    (sym (is ∙ ap (λ (bytes : List ℕ). fault_behind bytes fault) front))
+    (sym (is ∙ ap (λ (bytes : List ℕ). fault_behind bytes fault) prefix))
     (none_next place outputs rank at fault low so
     (subst (λ (bytes : List ℕ). IsUnreadable (wanted_of place.job rank) bytes fault) there
     (subst (λ (it : Wanted). IsUnreadable it left fault) same unreadable)))
@@ -353,10 +353,10 @@ near_more few many tracefaults.NoMemory more near = tt
 
 -- ---- the whole input
 
--- what an input says of its front, and of what stands behind it
-input_front : (job : JobState) (outputs : List Output) (bytes : List ℕ) → InputText job outputs bytes
+-- what an input says of its prefix, and of what stands behind it
+input_prefix : (job : JobState) (outputs : List Output) (bytes : List ℕ) → InputText job outputs bytes
     → BeginsWith job (length (job_text job)) bytes
-input_front job outputs bytes text = record {
+input_prefix job outputs bytes text = record {
   is_job = text.is_job;
   rest = outputs_text job.settings.version outputs;
   text = text.text;
@@ -374,36 +374,36 @@ input_there job outputs bytes from is text = record {
   nodes = text.nodes;
   are = text.are;
   text = ap (λ n. drop n bytes) is ∙ ap (drop (length (job_text job))) text.text
-      ∙ drop_front (job_text job) (outputs_text job.settings.version outputs)
+      ∙ drop_prefix (job_text job) (outputs_text job.settings.version outputs)
       ∙ sym (append-nil (outputs_text job.settings.version outputs));
 }
 
--- the job at the front is the one of each input that the bytes are
-abbrev pub IsOneFront : JobState → (size : ℕ) → List ℕ → Type 0
-IsOneFront job size bytes =
+-- the job at the prefix is the one of each input that the bytes are
+abbrev pub IsOnePrefix : JobState → (size : ℕ) → List ℕ → Type 0
+IsOnePrefix job size bytes =
     (other : JobState) (long : ℕ) → BeginsWith other long bytes → (other ≡ job) × (long ≡ size)
 
 other_there : (job : JobState) (size : ℕ) (bytes : List ℕ) (other : JobState) (others : List Output)
-    → IsOneFront job size bytes → InputText other others bytes
+    → IsOnePrefix job size bytes → InputText other others bytes
     → (other ≡ job) × StandThere (place_of job bytes size) others []
 other_there job size bytes other others one text =
-    let is = one other (length (job_text other)) (input_front other others bytes text) in
+    let is = one other (length (job_text other)) (input_prefix other others bytes text) in
     let same = subst (λ (it : JobState). InputText it others bytes) is.0 text in
     let long = sym is.1 ∙ ap (λ (it : JobState). length (job_text it)) is.0 in
     (is.0, input_there job others bytes size long same)
 
 -- all was read
 pub is_input : (job : JobState) (size : ℕ) (bytes : List ℕ) (outputs : List Output) (end : ℕ)
-    → BeginsWith job size bytes → IsOneFront job size bytes → length bytes ≤ input_limit
+    → BeginsWith job size bytes → IsOnePrefix job size bytes → length bytes ≤ input_limit
     → AreRead (place_of job bytes size) outputs end → length bytes ≤ end
-    → ((line : ℕ) (reason : LineWhy) → FrontMeans bytes line reason → ⊥) → IsInput bytes job outputs
-is_input job size bytes outputs end front one within read all good = record {
+    → ((line : ℕ) (reason : LineWhy) → PrefixMeans bytes line reason → ⊥) → IsInput bytes job outputs
+is_input job size bytes outputs end prefix one within read all good = record {
   unrefused = λ line reason means.
       elim means [
-        | inl of_front ↦ good line reason of_front
+        | inl of_prefix ↦ good line reason of_prefix
         | inr behind ↦
             (let place = place_of job bytes size in
-            let fits = front_fits job size bytes front in
+            let fits = prefix_fits job size bytes prefix in
             elim (meant_there job size bytes line reason one behind) [
               | inl bad ↦ none_bad place fits outputs (drop end bytes) line reason read.there.nodes read.there.are
                   read.there.text bad
@@ -413,13 +413,13 @@ is_input job size bytes outputs end front one within read all good = record {
             ])
       ];
   text = record {
-    is_job = front.is_job;
-    short = omega (arith, front.long, front.within);
+    is_job = prefix.is_job;
+    short = omega (arith, prefix.long, prefix.within);
     nodes = read.there.nodes;
     are = read.there.are;
-    text = front.text ∙ ap (λ z. job_text job ++ z)
-        (sym (ap (λ n. drop n bytes) front.long ∙ ap (drop (length (job_text job))) front.text
-        ∙ drop_front (job_text job) front.rest)
+    text = prefix.text ∙ ap (λ z. job_text job ++ z)
+        (sym (ap (λ n. drop n bytes) prefix.long ∙ ap (drop (length (job_text job))) prefix.text
+        ∙ drop_prefix (job_text job) prefix.rest)
         ∙ read.there.text
         ∙ ap (λ z. outputs_text job.settings.version outputs ++ z) (drop_all end bytes all)
         ∙ append-nil (outputs_text job.settings.version outputs));
@@ -432,23 +432,23 @@ is_input job size bytes outputs end front one within read all good = record {
 
 -- an output is bad
 pub bad_output : (job : JobState) (size : ℕ) (bytes : List ℕ) (line : ℕ) (reason : LineWhy) → BeginsWith job size bytes
-    → IsOneFront job size bytes → length bytes ≤ input_limit → AreUnread (place_of job bytes size) line reason
-    → ((at : ℕ) (why : LineWhy) → FrontMeans bytes at why → ⊥) → IsBadInput bytes line reason
-bad_output job size bytes line reason front one short unread good = record {
+    → IsOnePrefix job size bytes → length bytes ≤ input_limit → AreUnread (place_of job bytes size) line reason
+    → ((at : ℕ) (why : LineWhy) → PrefixMeans bytes at why → ⊥) → IsBadInput bytes line reason
+bad_output job size bytes line reason prefix one short unread good = record {
   within = short;
   line_is = inr (record {
     job = job;
     size = size;
-    front = front;
+    prefix = prefix;
     read = ap (all_of job bytes) unread.read;
   });
-  means = inr (record { job = job; size = size; front = front; means = inl unread.means });
+  means = inr (record { job = job; size = size; prefix = prefix; means = inl unread.means });
   only = λ other why means.
       elim means [
-        | inl of_front ↦ absurd (good other why of_front)
+        | inl of_prefix ↦ absurd (good other why of_prefix)
         | inr behind ↦
             (let place = place_of job bytes size in
-            let fits = front_fits job size bytes front in
+            let fits = prefix_fits job size bytes prefix in
             elim (meant_there job size bytes other why one behind) [
               | inl bad ↦ bad_once place fits line other reason why unread.means bad
               | inr more ↦ absurd (none_bad place fits more.outputs more.rest line reason more.nodes more.are more.text
@@ -460,25 +460,25 @@ bad_output job size bytes line reason front one short unread good = record {
 
 -- something stands behind them
 pub bad_behind_all : (job : JobState) (size : ℕ) (bytes : List ℕ) (outputs : List Output) (end : ℕ)
-    → BeginsWith job size bytes → IsOneFront job size bytes → length bytes ≤ input_limit
+    → BeginsWith job size bytes → IsOnePrefix job size bytes → length bytes ≤ input_limit
     → AreRead (place_of job bytes size) outputs end → end < length bytes
-    → ((at : ℕ) (reason : LineWhy) → FrontMeans bytes at reason → ⊥)
+    → ((at : ℕ) (reason : LineWhy) → PrefixMeans bytes at reason → ⊥)
     → IsBadInput bytes (lines_in (take end bytes) + 1) why.After
-bad_behind_all job size bytes outputs end front one short read more good = record {
+bad_behind_all job size bytes outputs end prefix one short read more good = record {
   within = short;
   line_is = inr (record {
     job = job;
     size = size;
-    front = front;
+    prefix = prefix;
     read = ap (all_of job bytes) read.read ∙ rw (lt-ltb end (length bytes) more) refl;
   });
-  means = inr (record { job = job; size = size; front = front; means = inr behind_all });
+  means = inr (record { job = job; size = size; prefix = prefix; means = inr behind_all });
   only = λ other reason means.
       elim means [
-        | inl of_front ↦ absurd (good other reason of_front)
+        | inl of_prefix ↦ absurd (good other reason of_prefix)
         | inr behind ↦
             (let place = place_of job bytes size in
-            let fits = front_fits job size bytes front in
+            let fits = prefix_fits job size bytes prefix in
             elim (meant_there job size bytes other reason one behind) [
               | inl bad ↦ absurd (none_bad place fits outputs (drop end bytes) other reason read.there.nodes
                   read.there.are read.there.text bad)
@@ -512,47 +512,47 @@ bad_behind_all job size bytes outputs end front one short read more good = recor
     }
 
 -- the job's text is bad
-pub bad_front : (bytes : List ℕ) (line : ℕ) (reason : LineWhy) → length bytes ≤ input_limit
-    → front_of bytes ≡ Err (record { line = line; why = reason }) → FrontMeans bytes line reason
+pub bad_prefix : (bytes : List ℕ) (line : ℕ) (reason : LineWhy) → length bytes ≤ input_limit
+    → prefix_of bytes ≡ Err (record { line = line; why = reason }) → PrefixMeans bytes line reason
     → ((job : JobState) (size : ℕ) → BeginsWith job size bytes → ⊥)
-    → ((at : ℕ) (why : LineWhy) → FrontMeans bytes at why → (line ≡ at) × (reason ≡ why)) → IsBadInput bytes line reason
-bad_front bytes line reason short read means none only = record {
+    → ((at : ℕ) (why : LineWhy) → PrefixMeans bytes at why → (line ≡ at) × (reason ≡ why)) → IsBadInput bytes line reason
+bad_prefix bytes line reason short read means none only = record {
   within = short;
   line_is = inl (record { read = read; means = means });
   means = inl means;
   only = λ other why meant.
       elim meant [
-        | inl of_front ↦ only other why of_front
-        | inr behind ↦ absurd (none behind.job behind.size behind.front)
+        | inl of_prefix ↦ only other why of_prefix
+        | inr behind ↦ absurd (none behind.job behind.size behind.prefix)
       ];
-  none = λ job outputs text. none job (length (job_text job)) (input_front job outputs bytes text);
+  none = λ job outputs text. none job (length (job_text job)) (input_prefix job outputs bytes text);
 }
 
 -- ---- what the readers tell
 
-front_within : (front rest bytes : List ℕ) → bytes ≡ front ++ rest → length front ≤ length bytes
-front_within front rest bytes text = omega (arith, length-append front rest, ap length text)
+prefix_within : (prefix rest bytes : List ℕ) → bytes ≡ prefix ++ rest → length prefix ≤ length bytes
+prefix_within front rest bytes text = omega (arith, length-append prefix rest, ap length text)
 
--- the text at the front is within the bytes
+-- the text at the prefix is within the bytes
 pub begins_within : (job : JobState) (size : ℕ) (bytes : List ℕ) → BeginsWith job size bytes → size ≤ length bytes
-begins_within job size bytes front =
-    subst (λ (n : ℕ). n ≤ length bytes) (sym front.long) (front_within (job_text job) front.rest bytes front.text)
+begins_within job size bytes prefix =
+    subst (λ (n : ℕ). n ≤ length bytes) (sym prefix.long) (prefix_within (job_text job) prefix.rest bytes prefix.text)
 
--- the reader of the front refused it
-pub front_refused : (bytes : List ℕ) (fault : JobFault) (line : ℕ) (reason : LineWhy) → length bytes ≤ input_limit
+-- the reader of the prefix refused it
+pub prefix_refused : (bytes : List ℕ) (fault : JobFault) (line : ℕ) (reason : LineWhy) → length bytes ≤ input_limit
     → fault ≡ jobfaults.Bad line reason
-    → IsNoMemory fault ⊎ refusals.IsBadFront bytes fault → IsFrontMeant bytes fault
+    → IsNoMemory fault ⊎ refusals.IsBadPrefix bytes fault → IsPrefixMeant bytes fault
     → IsNoMemory fault ⊎ ((job : JobState) (size : ℕ) → BeginsWith job size bytes → ⊥)
-    → ((at : ℕ) (why : LineWhy) → FrontMeans bytes at why → IsNoMemory fault ⊎ (fault ≡ jobfaults.Bad at why))
+    → ((at : ℕ) (why : LineWhy) → PrefixMeans bytes at why → IsNoMemory fault ⊎ (fault ≡ jobfaults.Bad at why))
     → IsBadInput bytes line reason
-front_refused bytes jobfaults.NoMemory line reason short is bad meant none told = absurd (cc)
-front_refused bytes (jobfaults.Bad n why) line reason short is (inl memory) meant none told = absurd memory
-front_refused bytes (jobfaults.Bad n why) line reason short is (inr bad) meant (inl memory) told = absurd memory
-front_refused bytes (jobfaults.Bad n why) line reason short is (inr bad) meant (inr none) told =
-    let bad_there : refusals.IsBadFront bytes (jobfaults.Bad line reason) = subst (refusals.IsBadFront bytes) is bad in
-    let means : IsFrontMeant bytes (jobfaults.Bad line reason) = subst (IsFrontMeant bytes) is meant in
-    bad_front bytes line reason short bad_there means none (λ at other of_front.
-    elim (told at other of_front) [
+prefix_refused bytes jobfaults.NoMemory line reason short is bad meant none told = absurd (cc)
+prefix_refused bytes (jobfaults.Bad n why) line reason short is (inl memory) meant none told = absurd memory
+prefix_refused bytes (jobfaults.Bad n why) line reason short is (inr bad) meant (inl memory) told = absurd memory
+prefix_refused bytes (jobfaults.Bad n why) line reason short is (inr bad) meant (inr none) told =
+    let bad_there : refusals.IsBadPrefix bytes (jobfaults.Bad line reason) = subst (refusals.IsBadPrefix bytes) is bad in
+    let means : IsPrefixMeant bytes (jobfaults.Bad line reason) = subst (IsPrefixMeant bytes) is meant in
+    bad_prefix bytes line reason short bad_there means none (λ at other of_prefix.
+    elim (told at other of_prefix) [
       | inl memory ↦ absurd memory
       | inr same ↦ same_bad line at reason other (sym is ∙ same)
     ])
@@ -563,12 +563,12 @@ front_refused bytes (jobfaults.Bad n why) line reason short is (inr bad) meant (
 
 -- the reader of the outputs behind it refused one
 pub behind_refused : (job : JobState) (size : ℕ) (bytes : List ℕ) (fault : InputFault) → BeginsWith job size bytes
-    → IsOneFront job size bytes → length bytes ≤ input_limit → ReadsOutputs (place_of job bytes size) (Err fault)
-    → ((at : ℕ) (why : LineWhy) → FrontMeans bytes at why → ⊥) → IsRefused bytes fault
-behind_refused job size bytes (faults.Bad line reason) front one short unread good =
-    bad_output job size bytes line reason front one short unread good
-behind_refused job size bytes faults.ReadFault front one short unread good = unread
-behind_refused job size bytes faults.NoMemory front one short unread good = tt
+    → IsOnePrefix job size bytes → length bytes ≤ input_limit → ReadsOutputs (place_of job bytes size) (Err fault)
+    → ((at : ℕ) (why : LineWhy) → PrefixMeans bytes at why → ⊥) → IsRefused bytes fault
+behind_refused job size bytes (faults.Bad line reason) prefix one short unread good =
+    bad_output job size bytes line reason prefix one short unread good
+behind_refused job size bytes faults.ReadFault prefix one short unread good = unread
+behind_refused job size bytes faults.NoMemory prefix one short unread good = tt
 
 -- a source was read to its end
 took_all : (old new : Option (List ℕ)) (before after : ℕ) (bytes : List ℕ) (told : Result CheckInput InputFault)

@@ -29,10 +29,10 @@ version_fits version is = elim (cases_eq version 1) [
   ]
 ]
 
--- the version of a job at the front of bytes
-pub front_fits : (job : JobState) (size : ℕ) (bytes : List ℕ) → BeginsWith job size bytes
+-- the version of a job at the prefix of bytes
+pub prefix_fits : (job : JobState) (size : ℕ) (bytes : List ℕ) → BeginsWith job size bytes
     → job.settings.version < 2 ^ 64
-front_fits job size bytes front = version_fits job.settings.version front.is_job.settings.version
+prefix_fits job size bytes prefix = version_fits job.settings.version prefix.is_job.settings.version
 
 -- ---- outputs stand there in one way
 
@@ -194,7 +194,7 @@ pub meant_there : (job : JobState) (size : ℕ) (bytes : List ℕ) (line : ℕ) 
     → IsBadOutput (record { job = job; bytes = bytes; from = size }) line reason
     ⊎ HasMoreBehind (record { job = job; bytes = bytes; from = size }) line reason
 meant_there job size bytes line reason one meant =
-    let is = one meant.job meant.size meant.front in
+    let is = one meant.job meant.size meant.prefix in
     subst (λ (it : JobState). IsBadOutput (record { job = it; bytes = bytes; from = size }) line reason
     ⊎ HasMoreBehind (record { job = it; bytes = bytes; from = size }) line reason) is.0
     (subst (λ (n : ℕ). IsBadOutput (record { job = meant.job; bytes = bytes; from = n }) line reason

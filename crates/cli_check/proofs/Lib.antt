@@ -1,11 +1,11 @@
-pub mod Struck
+pub mod Rejected
 pub mod CallsMade
 pub mod StepsTold
 pub mod LinesTold
 pub mod Regions
 pub mod StepLaws
 pub mod Names
-pub mod Fronts
+pub mod Prefixes
 pub mod Replays
 pub mod Pushed
 pub mod StepText

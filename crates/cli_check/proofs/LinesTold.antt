@@ -21,9 +21,9 @@ use Rattle.law_traces.specs.Actions.{Form, Progress, begins, progress_after}
 use Rattle.law_traces.specs.Order.{NodeEntry, own_entries, after_all, replay}
 use Rattle.law_traces.specs.WorldRun.{opening_machines}
 use Rattle.law_traces.specs.declared.script_answer.ScriptAnswer.{ScriptAnswer}
-use Rattle.law_traces.proofs.Fronting.{after_own}
+use Rattle.law_traces.proofs.Prefixing.{after_own}
 use Rattle.base_text.specs.LineTexts.{Line}
-use Rattle.spec_network.specs.World.{Timed}
+use Rattle.spec_network.specs.World.{EventAt}
 use Rattle.cli_check.specs.StepLines.{StepAt, machine_after, answer_of_step, lines_of_answer, step_line, step_lines}
 use Rattle.cli_check.specs.StepLines.{steps_from}
 use Rattle.cli_check.specs.StepsTold.{IsLater, IsStepTold, RunOrder, before_of, steps_ended_in, first_turns}
@@ -327,7 +327,7 @@ opening_stands job = record {
     none_began first is = cc
 
 -- a run of traces: its turns, and that the entries of each node in it are its trace
-abbrev pub IsRunBy : JobState → List Trace → (ranks : List ℕ) → (turns : List (List (Timed OtherCall))) → Type 0
+abbrev pub IsRunBy : JobState → List Trace → (ranks : List ℕ) → (turns : List (List (EventAt OtherCall))) → Type 0
 IsRunBy job traces ranks turns = IsRunOf job (order_by job (entries_of traces) ranks) turns
 
 abbrev pub HaveOwn : JobState → List Trace → (ranks : List ℕ) → Type 0
@@ -336,7 +336,7 @@ HaveOwn job traces ranks =
     → own_entries rank (order_by job (entries_of traces) ranks) ≡ entries
 
 -- where the entry of a line stands among all, and how its step ended there
-record LineTurn (job : JobState) (traces : List Trace) (ranks : List ℕ) (turns : List (List (Timed OtherCall)))
+record LineTurn (job : JobState) (traces : List Trace) (ranks : List ℕ) (turns : List (List (EventAt OtherCall)))
     (rank : ℕ) (trace : Trace) (words : Line) (number : ℕ)
     (line : LineOf job rank (first_machine job rank) trace.entries words number) : Type 0 where
   pub turn : ℕ
@@ -345,7 +345,7 @@ record LineTurn (job : JobState) (traces : List Trace) (ranks : List ℕ) (turns
   pub ends : EndsInRun job (first_turns turn turns) (first_turns (suc turn) turns) rank
       (replay (script_job job) rank (first_machine job rank) (take line.place trace.entries)) line.entry line.answer
 
-line_ends : (job : JobState) (traces : List Trace) (ranks : List ℕ) (turns : List (List (Timed OtherCall)))
+line_ends : (job : JobState) (traces : List Trace) (ranks : List ℕ) (turns : List (List (EventAt OtherCall)))
     → IsRunBy job traces ranks turns → HaveOwn job traces ranks → (rank : ℕ) (trace : Trace) (words : Line) (number : ℕ)
     → slice_get traces rank ≡ Some trace → (line : LineOf job rank (first_machine job rank) trace.entries words number)
     → LineTurn job traces ranks turns rank trace words number line
@@ -376,10 +376,10 @@ line_ends job traces ranks turns run has rank trace words number there line =
     }
 
 -- a run's order
-abbrev pub order_of_run : JobState → List Trace → (ranks : List ℕ) → (turns : List (List (Timed OtherCall))) → RunOrder
+abbrev pub order_of_run : JobState → List Trace → (ranks : List ℕ) → (turns : List (List (EventAt OtherCall))) → RunOrder
 order_of_run job traces ranks turns = record { items = order_by job (entries_of traces) ranks; turns = turns }
 
-line_told : (job : JobState) (traces : List Trace) (ranks : List ℕ) (turns : List (List (Timed OtherCall))) (rank : ℕ)
+line_told : (job : JobState) (traces : List Trace) (ranks : List ℕ) (turns : List (List (EventAt OtherCall))) (rank : ℕ)
     (trace : Trace) (words : Line) (place number : ℕ) → slice_get traces rank ≡ Some trace
     → place ≡ length (steps_from job 0 (take rank traces)) + number
     → (line : LineOf job rank (first_machine job rank) trace.entries words number)
@@ -417,7 +417,7 @@ line_told job traces ranks turns rank trace words place number there place_is li
           ∙ ap (λ (node : Node EndpointLocal). step_line job step_at node line.answer) (sym at.ends.node_is);
     }
 
-pub lines_told : (job : JobState) (traces : List Trace) (ranks : List ℕ) (turns : List (List (Timed OtherCall)))
+pub lines_told : (job : JobState) (traces : List Trace) (ranks : List ℕ) (turns : List (List (EventAt OtherCall)))
     → IsRunBy job traces ranks turns → HaveOwn job traces ranks → (line : ℕ) (words : Line)
     → slice_get (steps_from job 0 traces) line ≡ Some words
     → IsStepTold job traces (order_of_run job traces ranks turns) line words
@@ -477,15 +477,15 @@ taken (first ∷ entries) zero entry there = refl
 taken (first ∷ entries) (suc place) entry there = let e = taken entries place entry there in omega arith
 
 -- what happened in more turns begins with what happened in fewer
-turns_front : (turns : List (List (Timed OtherCall))) (less more : ℕ) → less ≤ more
-    → (between : List (Timed OtherCall)) × (first_turns more turns ≡ first_turns less turns ++ between)
-turns_front turns zero more le = (first_turns more turns, refl)
-turns_front turns (suc less) zero le = absurd (omega arith)
-turns_front [] (suc less) (suc more) le = ([], refl)
-turns_front (turn ∷ turns) (suc less) (suc more) le =
-    let later = turns_front turns less more (omega arith) in (
+turns_prefix : (turns : List (List (EventAt OtherCall))) (less more : ℕ) → less ≤ more
+    → (between : List (EventAt OtherCall)) × (first_turns more turns ≡ first_turns less turns ++ between)
+turns_prefix turns zero more le = (first_turns more turns, refl)
+turns_prefix turns (suc less) zero le = absurd (omega arith)
+turns_prefix [] (suc less) (suc more) le = ([], refl)
+turns_prefix (turn ∷ turns) (suc less) (suc more) le =
+    let later = turns_prefix turns less more (omega arith) in (
       later.0,
-      ap (λ (events : List (Timed OtherCall)). turn ++ events) later.1
+      ap (λ (events : List (EventAt OtherCall)). turn ++ events) later.1
           ∙ sym (append_assoc turn (first_turns less turns) later.0),
     )
 
@@ -531,5 +531,5 @@ lines_rise job traces order line other words more one two same less =
     (ap (λ (es : List Entry). slice_get es one.place) (sym entries) ∙ one.entry_is) two.entry_is
     (ap (λ (n : ℕ). own_entries n (take one.turn order.items)) (sym same) ∙ one.own_is ∙ ap (take one.place) entries)
     two.own_is refl refl (omega arith) in
-    let front = turns_front order.turns (suc one.turn) two.turn (omega arith) in
-    record { more = later; between = front.0; is = front.1 }
+    let prefix = turns_prefix order.turns (suc one.turn) two.turn (omega arith) in
+    record { more = later; between = prefix.0; is = prefix.1 }

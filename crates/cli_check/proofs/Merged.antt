@@ -17,15 +17,15 @@ use Rattle.text_trace.specs.declared.trace.Trace.{Trace}
 use Rattle.text_job.specs.JobText.{IsJob}
 use Rattle.text_job.specs.declared.job.Job.{Job as JobState}
 use Rattle.base_turns.specs.declared.turns.Machine.{Ghosts}
-use Rattle.base_turns.specs.Fronts.{Node, IsRun, IsStuck, Reaches, full, replay}
-use Rattle.base_turns.specs.Replay.{replayed}
+use Rattle.base_turns.specs.Prefixes.{Node, IsRun, IsStuck, Reaches, full, replay}
+use Rattle.base_turns.specs.Replay.{replay_state}
 use Rattle.proc_machine.specs.Kept.{are_done, polls_at}
 use Rattle.proc_machine.specs.Laws.{AreTracesARun}
-use Rattle.proc_machine.specs.NodeState.{NodeState, polls_in, scripts_at, sent, state_of, state_steps, turned}
-use Rattle.law_traces.specs.Merged.{carried, nodes_from}
+use Rattle.proc_machine.specs.NodeState.{NodeState, polls_in, scripts_at, sent_datagrams, state_of, state_steps, turn_result}
+use Rattle.law_traces.specs.Merged.{with_machine_of, nodes_from}
 use Rattle.law_traces.proofs.Carrying.{full_same}
 use Rattle.law_traces.specs.WorldRun.{opening_machines}
-use Rattle.text_script.specs.Registration.{handlers_of, registered}
+use Rattle.text_script.specs.Registration.{handlers_of, registry_of}
 use Rattle.cli_check.specs.CheckInputs.{IsTraceOf}
 use Rattle.cli_check.specs.Merging.{AreFirstRecorders, AreReports, ClosesAll, IsMerged, IsReportOf, MergesTraces}
 use Rattle.cli_check.specs.Recording.{RecordedState, RecorderKept, RecorderStands, opening_record, record_after}
@@ -34,7 +34,7 @@ use Rattle.cli_check.specs.TracesRun.{AreNoRun, AreNodesAfter, IsNodeAfter, RunO
 use Rattle.cli_check.specs.declared.machines.RunReport.{RunReport}
 use Rattle.cli_check.specs.declared.recorder.NodeReport.{NodeReport}
 use Rattle.cli_check.proofs.StepLaws.{lines_tell}
-use Rattle.cli_check.proofs.Fronts.{full_at, is_first_left, is_run_back, is_stuck, node_in, nodes_in, reaches, some_same}
+use Rattle.cli_check.proofs.Prefixes.{full_at, is_first_left, is_run_back, is_stuck, node_in, nodes_in, reaches, some_same}
 use Rattle.cli_check.proofs.Replays.{last_state, replays_first}
 
 -- recorders, as machines
@@ -47,8 +47,8 @@ recorders = record {
   is_over = λ kept. are_done kept.node.scripts;
   polls_in = λ state. polls_in state.node;
   after = record_after;
-  turned = λ state. turned state.node;
-  sent = λ state. sent state.node;
+  turned = λ state. turn_result state.node;
+  sent = λ state. sent_datagrams state.node;
 }
 
 pub All-at : {A : Type 0} (P : A → Type 0) (xs : List A) (k : ℕ) (x : A) → All P xs → slice_get xs k ≡ Some x → P x
@@ -99,11 +99,11 @@ first_threads job all traces first are place one there trace at =
 -- the nodes that they record are those of the job
 nodes_same : (job : JobState) (rank : ℕ) (traces : List Trace)
     → nodes_in (nodes_before job rank traces)
-    ≡ map (carried (state_of job))
+    ≡ map (with_machine_of (state_of job))
     (nodes_from (opening_machines job.settings (scripts_at job)) rank (entries_of traces))
 nodes_same job rank [] = refl
 nodes_same job rank (trace ∷ traces) =
-    ap (λ rest. carried node_in (record { state = opening_record job rank; entries = trace.entries }) ∷ rest)
+    ap (λ rest. with_machine_of node_in (record { state = opening_record job rank; entries = trace.entries }) ∷ rest)
     (nodes_same job (rank + 1) traces)
 
 pub first_same : (job : JobState) (traces : List Trace) → nodes_in (nodes_before job 0 traces) ≡ first_nodes job traces
@@ -132,12 +132,12 @@ before_none job rank [] place there = refl
 before_none job rank (first ∷ traces) zero there = absurd (cc)
 before_none job rank (first ∷ traces) (suc place) there = before_none job (rank + 1) traces place there
 
--- what a merge that came to a front answers, where the code's recorders stand for these nodes
-abbrev pub Fronts : (all : List RecorderKept) (traces : List Trace) → (then_ : List RecorderKept)
+-- what a merge that came to a prefix answers, where the code's recorders stand for these nodes
+abbrev pub Prefixes : (all : List RecorderKept) (traces : List Trace) → (then_ : List RecorderKept)
     → Result (Vec Placed Global) MergeFault → Type 0
-Fronts all traces then_ answer =
-    (front : List ℕ) × ((states : List RecordedState) → StandFor recorders all states
-    → Merges recorders (nodes_of states traces) front answer then_)
+Prefixes all traces then_ answer =
+    (prefix : List ℕ) × ((states : List RecordedState) → StandFor recorders all states
+    → Merges recorders (nodes_of states traces) prefix answer then_)
 
 -- what holds where it answers that there is no run
 abbrev pub HasNoRun : (all : List RecorderKept) (traces : List Trace) → Result (Vec Placed Global) MergeFault
@@ -155,10 +155,10 @@ mapped f g xs ys k x same there =
 -- ---- after it
 
 -- an order of the entries is a run
-pub order_run : AreTracesARun → (job : JobState) (traces : List Trace) (front : List ℕ) (placed : List Placed)
+pub order_run : AreTracesARun → (job : JobState) (traces : List Trace) (prefix : List ℕ) (placed : List Placed)
     → IsJob job → length traces ≤ job.settings.nodes
-    → IsOrder record_steps (nodes_before job 0 traces) front placed → RunOfTraces job traces
-order_run law job traces front placed is few order =
+    → IsOrder record_steps (nodes_before job 0 traces) prefix placed → RunOfTraces job traces
+order_run law job traces prefix placed is few order =
     let before = nodes_before job 0 traces in
     let all : Reaches record_steps before order.nodes (full before) =
     subst (Reaches record_steps before order.nodes) order.all order.reached in
@@ -203,8 +203,8 @@ stands_after job traces then_ rank kept replays there = by_trace (slice_get trac
         take_all (slice_index (full before) rank) trace.entries (omega arith) in
         let same : 0 + rank ≡ rank = omega arith in
         subst (RecorderStands kept)
-        (ap (replayed record_steps (opening_record job (0 + rank))) all
-        ∙ ap (λ n. replayed record_steps (opening_record job n) trace.entries) same
+        (ap (replay_state record_steps (opening_record job (0 + rank))) all
+        ∙ ap (λ n. replay_state record_steps (opening_record job n) trace.entries) same
         ∙ replays_first job rank trace.entries) (subst Stands own (replays rank kept there))
 
 module _ (job : JobState) (traces : List Trace) (then_ : List RecorderKept) (all : RunReport)
@@ -218,9 +218,9 @@ module _ (job : JobState) (traces : List Trace) (then_ : List RecorderKept) (all
   node_after rank endpoint (Some kept) at same =
       some_same _ _ (slice_get traces rank) (λ trace stands.
       subst (IsNodeAfter job rank trace) (same_Some kept.node.endpoint endpoint same) (record {
-        node = subst (λ (me : ℕ). IsNodeOf job.settings (registered (handlers_of job)).table me kept.node.endpoint)
+        node = subst (λ (me : ℕ). IsNodeOf job.settings (registry_of (handlers_of job)).table me kept.node.endpoint)
             (sym stands.node.me_is)
-            (subst (λ (one : JobState). IsNodeOf one.settings (registered (handlers_of one)).table
+            (subst (λ (one : JobState). IsNodeOf one.settings (registry_of (handlers_of one)).table
             kept.node.endpoint.core.me kept.node.endpoint) (sym stands.node.job_is) (closes.each rank kept at).own);
         stands = stands.node.node;
       })) (stands_after job traces then_ rank kept replays at)
@@ -272,16 +272,16 @@ refilled_all len old new same as_many =
 -- they are a run
 pub merged_run : AreTracesARun → (job : JobState) (traces : List Trace) (first then_ : List RecorderKept)
     (placed : Vec Placed Global) (all : RunReport) → IsJob job → length traces ≡ job.settings.nodes
-    → AreFirstRecorders job first → Fronts first traces then_ (Ok placed) → length then_ ≡ length first
+    → AreFirstRecorders job first → Prefixes first traces then_ (Ok placed) → length then_ ≡ length first
     → ClosesAll then_ all → IsMerged job traces all
-merged_run law job traces first then_ placed all is count are front kept closes =
+merged_run law job traces first then_ placed all is count are prefix kept closes =
     let same : length traces ≡ length first = omega (arith, count, are.count) in
-    let merges = front.1 (states_from job 0 (length traces)) (first_stand job traces first are same) in
+    let merges = prefix.1 (states_from job 0 (length traces)) (first_stand job traces first are same) in
     let replays = subst (λ (at : List ℕ). AreReplays recorders (nodes_before job 0 traces) at then_) merges.answers.all
     merges.replays in
     let as_many : length then_ ≡ length traces = omega (arith, kept, same) in
     record {
-      run = order_run law job traces front.0 placed.items is (omega (arith, count)) merges.answers;
+      run = order_run law job traces prefix.0 placed.items is (omega (arith, count)) merges.answers;
       nodes_after = nodes_after job traces then_ all replays as_many closes;
       reports = reports_after job traces then_ all replays as_many closes;
     }
@@ -289,22 +289,22 @@ merged_run law job traces first then_ placed all is count are front kept closes 
 -- they are none
 merged_none : (job : JobState) (traces : List Trace) (first then_ : List RecorderKept) (node entry : ℕ)
     → length traces ≡ job.settings.nodes → AreFirstRecorders job first
-    → Fronts first traces then_ (Err (faults.NotARun node entry))
+    → Prefixes first traces then_ (Err (faults.NotARun node entry))
     → ((states : List RecordedState) → StandFor recorders first states
     → IsRun record_steps (nodes_of states traces) → ⊥)
     → AreNoRun job traces node entry
-merged_none job traces first then_ node entry count are front none =
+merged_none job traces first then_ node entry count are prefix none =
     let same : length traces ≡ length first = omega (arith, count, are.count) in
     let before = nodes_before job 0 traces in
     let stand = first_stand job traces first are same in
-    let answers = (front.1 (states_from job 0 (length traces)) stand).answers in
+    let answers = (prefix.1 (states_from job 0 (length traces)) stand).answers in
     let own = first_same job traces in
     record {
-      front = front.0;
-      stuck = subst (λ (nodes : List (Node NodeState)). IsStuck state_steps nodes front.0) own
-          (is_stuck before front.0 answers.0);
-      first = subst (λ (nodes : List (Node NodeState)). IsFirstLeft nodes front.0 node) own
-          (is_first_left before front.0 node answers.1);
+      prefix = prefix.0;
+      stuck = subst (λ (nodes : List (Node NodeState)). IsStuck state_steps nodes prefix.0) own
+          (is_stuck before prefix.0 answers.0);
+      first = subst (λ (nodes : List (Node NodeState)). IsFirstLeft nodes prefix.0 node) own
+          (is_first_left before prefix.0 node answers.1);
       entry_is = answers.2;
       none = λ run. none (states_from job 0 (length traces)) stand
           (is_run_back before (subst (IsRun state_steps) (sym own) run));
@@ -312,9 +312,9 @@ merged_none job traces first then_ node entry count are front none =
 
 -- so of either
 pub merged_err : (job : JobState) (traces : List Trace) (first then_ : List RecorderKept) (fault : MergeFault)
-    → length traces ≡ job.settings.nodes → AreFirstRecorders job first → Fronts first traces then_ (Err fault)
+    → length traces ≡ job.settings.nodes → AreFirstRecorders job first → Prefixes first traces then_ (Err fault)
     → HasNoRun first traces (Err fault) → MergesTraces job traces (Err fault)
-merged_err job traces first then_ (faults.NotARun node entry) count are front none =
-    merged_none job traces first then_ node entry count are front
+merged_err job traces first then_ (faults.NotARun node entry) count are prefix none =
+    merged_none job traces first then_ node entry count are prefix
     (λ states stand run. none states stand node entry refl run)
-merged_err job traces first then_ faults.NoMemory count are front none = tt
+merged_err job traces first then_ faults.NoMemory count are prefix none = tt

@@ -11,7 +11,7 @@ use Rattle.wire_message.specs.Parameters.{Parameters}
 use Rattle.part_handlers.specs.declared.table.Entry.{Entry as TableEntry}
 use Rattle.part_handlers.specs.Runs.{Meaning}
 use Rattle.base_lists.specs.Put.{put}
-use Rattle.spec_node.specs.NodeStep.{Does, done, node_after, node_answer}
+use Rattle.spec_node.specs.NodeStep.{Does, call_outcome, node_after, node_answer}
 use Rattle.spec_node.specs.Record.{Node}
 use Rattle.spec_node.specs.Step.{is_exhausted}
 use Rattle.node_core.specs.ClientRules.{rules}
@@ -20,7 +20,7 @@ use Rattle.node_rules.specs.Called.{Requests, Performs, node_event}
 use Rattle.node_rules.specs.CoreCalls.{OnSegment}
 use Rattle.node_rules.specs.EndpointLocal.{EndpointLocal}
 use Rattle.node_rules.specs.EndpointRules.{OtherCall, OnCore, RecordEvent, endpoint_rules}
-use Rattle.node_rules.specs.EndpointRules.{asked_answer, job_of, told}
+use Rattle.node_rules.specs.EndpointRules.{asked_answer, job_of, answer_told}
 use Rattle.node_rules.specs.Memory.{Show, range_fault, unless_fault}
 use Rattle.node_rules.specs.TransferCalls.{Caller}
 use Rattle.node_rules.specs.declared.answer.Answer.{Answer}
@@ -46,8 +46,8 @@ use Rattle.law_traces.specs.declared.script_answer.ScriptAnswer.TheVariants as s
 use Rattle.law_traces.specs.Turn.{as_tried, context, events_of, first_answer, first_events, node_run, tried_answer}
 use Rattle.text_script.specs.AnswersTold.{HasRange, NamesWhatIs}
 use Rattle.text_script.specs.Bodies.{operand_value, script_meaning}
-use Rattle.text_script.specs.Registration.{handlers_of, registered}
-use Rattle.proc_machine.specs.Steps.{as_synced, begun_handle, is_issued, reached, step_form, tried_while}
+use Rattle.text_script.specs.Registration.{handlers_of, registry_of}
+use Rattle.proc_machine.specs.Steps.{as_synced, begun_handle, is_issued, cell_reached, step_form, tried_while}
 use Rattle.proc_machine.specs.Steps.{waits_of, word_reached}
 use Rattle.part_collective_area.specs.declared.shape.Shape.{Shape}
 use Rattle.proc_collective_steps.specs.Outcomes.{Outcome, start_by, start_ends, start_outcome}
@@ -106,13 +106,13 @@ call_names : (endpoint : EndpointState) (settings : Parameters) (table : List (O
     (me thread now : ℕ) (node : Node EndpointLocal) (call : OtherCall)
     → EndpointStands endpoint (node_after (job_of settings table meaning) me node now (Does thread call))
     → endpoint.core.settings ≡ settings
-    → NamesWhatIs endpoint (done (job_of settings table meaning) me node thread call).0
+    → NamesWhatIs endpoint (call_outcome (job_of settings table meaning) me node thread call).0
 call_names endpoint settings table meaning me thread now node (OnCore (OnSegment (Show offset len))) stands same =
     let size = length (segment_of settings node.local.core) in
     show_names endpoint size offset len (nat_lt size (offset + len)) refl
     (range_shown endpoint settings table meaning me thread now node offset len stands same)
 call_names endpoint settings table meaning me thread now node call stands same =
-    plain_names endpoint (done (job_of settings table meaning) me node thread call).0
+    plain_names endpoint (call_outcome (job_of settings table meaning) me node thread call).0
     (answers_plain (endpoint_rules settings table meaning) (rules settings table meaning)
     (caller_at settings me thread node) call node.local refl)
 
@@ -121,7 +121,7 @@ thread_names : (endpoint : EndpointState) (settings : Parameters) (table : List 
     (me thread now : ℕ) (node : Node EndpointLocal) (call : ThreadCall)
     → EndpointStands endpoint (node_after (job_of settings table meaning) me node now (node_event thread call))
     → endpoint.core.settings ≡ settings
-    → NamesWhatIs endpoint (told (node_answer (job_of settings table meaning) me node now (node_event thread call)))
+    → NamesWhatIs endpoint (answer_told (node_answer (job_of settings table meaning) me node now (node_event thread call)))
 thread_names endpoint settings table meaning me thread now node (Requests to asking) stands same =
     asked_names endpoint _
 thread_names endpoint settings table meaning me thread now node (Performs call) stands same =
@@ -236,7 +236,7 @@ reached_said endpoint true = tt
 reached_said endpoint false = tt
 
 reached_names : (endpoint : EndpointState) (value : ℤ) (answer : Answer)
-    → IfSome (reached value answer) (NamesWhatIsThere endpoint)
+    → IfSome (cell_reached value answer) (NamesWhatIsThere endpoint)
 reached_names endpoint value (answers.Local (local.Cell number)) = reached_said endpoint (int_le value number)
 reached_names endpoint value answer = tt
 
@@ -434,7 +434,7 @@ ended_names job rank machine entry endpoint beginnings stands same =
     let before = as_tried all rank machine entry.thread entry.now entry.got in
     let at = context all rank entry.thread entry.now in
     let calls = all.scripts.calls at machine.own before in
-    let table = (registered (handlers_of job)).table in
+    let table = (registry_of (handlers_of job)).table in
     let meaning = script_meaning (handlers_of job) in
     let there : EndpointStands endpoint (node_run (job_of job.settings table meaning) rank entry.now
     (events_of entry.thread calls) before) =
@@ -535,7 +535,7 @@ after_beginnings job rank machine entry beginnings thread =
     let all = script_job job in
     let at = context all rank entry.thread entry.now in
     let before = as_tried all rank machine entry.thread entry.now entry.got in
-    let table = (registered (handlers_of job)).table in
+    let table = (registry_of (handlers_of job)).table in
     let meaning = script_meaning (handlers_of job) in
     either_begins (thread == entry.thread) _ (machine.own.threads thread)
     (step_begins (step_context at machine.own) (machine.own.threads entry.thread) before

@@ -17,10 +17,10 @@ pushed_at P (z ∷ xs) x each last (suc place) y at =
 pub mapped_more : {A B C : Type 0} (f : A → C) (g : B → C) (xs all : List A) (x : A) (ys : List B) (y : B)
     → all ≡ xs ++ x ∷ [] → f x ≡ g y → map f xs ≡ map g ys → map f all ≡ map g (ys ++ y ∷ [])
 mapped_more f g xs all x ys y pushed last same =
-    ap (map f) pushed ∙ map-append f xs (x ∷ []) ∙ ap₂ (λ front back. front ++ back ∷ []) same last
+    ap (map f) pushed ∙ map-append f xs (x ∷ []) ∙ ap₂ (λ prefix back. prefix ++ back ∷ []) same last
     ∙ sym (map-append g ys (y ∷ []))
 
 pub made_more : {A C : Type 0} (g : A → C) (xs all : List C) (x : C) (ys : List A) (y : A) → all ≡ xs ++ x ∷ []
     → x ≡ g y → xs ≡ map g ys → all ≡ map g (ys ++ y ∷ [])
 made_more g xs all x ys y pushed last same =
-    pushed ∙ ap₂ (λ front back. front ++ back ∷ []) same last ∙ sym (map-append g ys (y ∷ []))
+    pushed ∙ ap₂ (λ prefix back. prefix ++ back ∷ []) same last ∙ sym (map-append g ys (y ∷ []))

@@ -7,10 +7,10 @@ use Rattle.std.proofs.lemmas.Option.{same_Some, slice_get_within}
 use Rattle.std.proofs.lemmas.List.{length-append, length-map, length-set, map-append}
 use Rattle.base_lists.proofs.Indexes.{get-set_other, get-set_same}
 use Rattle.base_lists.specs.Put.{put}
-use Rattle.base_lists.specs.Numbered.{numbered}
+use Rattle.base_lists.specs.Numbered.{element_at}
 use Rattle.base_lists.proofs.Put.{put_same, put_other}
 use Rattle.part_regions.specs.declared.Region.{Region}
-use Rattle.part_regions.specs.Regions.{region_of, has_begun, name_of, named, after_operation, empty_region}
+use Rattle.part_regions.specs.Regions.{region_of, has_begun, name_of, region_of_serial, after_operation, empty_region}
 use Rattle.node_core.specs.ClientRules.{rules}
 use Rattle.wire_message.specs.Content.{Content, content_of}
 use Rattle.wire_message.specs.Message.{Message}
@@ -19,13 +19,13 @@ use Rattle.part_handlers.specs.Runs.{Meaning}
 use Rattle.part_handlers.specs.declared.message.Which.{Which}
 use Rattle.part_handlers.specs.declared.rules.Forbidden.{Forbidden}
 use Rattle.part_handlers.specs.declared.table.Entry.{Entry as TableEntry}
-use Rattle.node_core.specs.Library.{note_handler}
+use Rattle.node_core.specs.Library.{notification_handler}
 use Rattle.node_rules.specs.EndpointLocal.{EndpointLocal, invalid}
 use Rattle.node_rules.specs.EndpointRules.{OtherCall, OnBarrier, OnCore, OnTransfers, RecordEvent, Records, after_sent}
 use Rattle.node_rules.specs.EndpointRules.{at_the_opening, does_call, endpoint_rules, job_of, unless_forbidden}
 use Rattle.node_rules.specs.TransferCalls.{TransferCall, Begin, BeginImplicit, IsIssued, Sync, SyncHandle, SyncAll}
 use Rattle.node_rules.specs.TransferCalls.{SyncSome, SyncImplicit, RegionBegin, RegionEnd, Caller, after_beginning}
-use Rattle.node_rules.specs.TransferCalls.{begin_says, begun_as, ended, implicit_mode, is_at_once, transfer_does}
+use Rattle.node_rules.specs.TransferCalls.{begin_says, begun_as, after_region, implicit_mode, is_at_once, transfer_does}
 use Rattle.node_rules.specs.TransferCalls.{transfer_fault, unless_bad, with_name}
 use Rattle.node_rules.specs.declared.answer.Answer.{Answer}
 use Rattle.node_rules.specs.declared.answer.Answer.TheVariants as answers
@@ -36,11 +36,11 @@ use Rattle.spec_node.specs.NodeStep.{Asks as NodeAsks, Does as NodeDoes, Comes a
 use Rattle.spec_node.specs.NodeStep.{OfCall, node_after, site_of}
 use Rattle.spec_node.specs.Record.{Node}
 use Rattle.spec_node.specs.Step.{Site, TickChoice, Retransmits, Rests, Runs, Returns, Sends, Verdict, after_delivery}
-use Rattle.spec_node.specs.Step.{after_request, after_tick, request_answer, said, tick_choice, verdict, with_asked}
+use Rattle.spec_node.specs.Step.{after_request, after_tick, request_answer, request_content, tick_choice, verdict, with_asked}
 use Rattle.spec_node.specs.Step.{is_exhausted, with_itself, with_sender}
 use Rattle.spec_node.specs.declared.answer.Asked.{Asked}
 use Rattle.spec_node.specs.declared.answer.Asked.TheVariants as asked
-use Rattle.spec_network.specs.World.{Fall, OfNode, Timed, after_at, falls, run, world_after, world_answer}
+use Rattle.spec_network.specs.World.{Fall, OfNode, EventAt, after_at, falls, run, world_after, world_answer}
 use Rattle.part_transfers.specs.Operation.{Operation, after_begin, come_back, fresh, has_next, is_full, issue}
 use Rattle.part_transfers.specs.Operation.{region_of as region_by, target, with_back}
 use Rattle.part_transfers.specs.Syncs.{Choice, after_handle, chosen, go, handle_answer, in_region, is_empty, is_name, left_by}
@@ -51,7 +51,7 @@ use Rattle.part_transfers.specs.declared.operation.Mode.TheVariants.{Explicit, I
 use Rattle.part_transfers.specs.declared.operation.Synced.{Synced}
 use Rattle.part_transfers.specs.declared.operation.Synced.TheVariants as synced
 use Rattle.part_transfers.specs.declared.operation.Transfer.{Transfer}
-use Rattle.law_transfers.specs.TransferLaws.{called, members_by}
+use Rattle.law_transfers.specs.TransferLaws.{transfer_event, members_by}
 use Rattle.law_transfers.proofs.Begins.{allowed_there, begun_same, caller_of, left_there, told_there}
 use Rattle.node_rules.specs.declared.answer.Region.TheVariants as region
 
@@ -271,16 +271,16 @@ named_found regions thread serial by name there = by_region (region_of regions t
     After found = elim found [
       | None ↦ regions
       | Some region ↦ elim region.name [
-        | None ↦ slice_set regions thread (Some (named serial))
+        | None ↦ slice_set regions thread (Some (region_of_serial serial))
         | Some first ↦ regions
       ]
     ]
 
     by_name : (found : Option ℕ) → name_of (elim found [
-      | None ↦ slice_set regions thread (Some (named serial))
+      | None ↦ slice_set regions thread (Some (region_of_serial serial))
       | Some first ↦ regions
     ]) by ≡ Some name → (name ≡ serial) ⊎ (name_of regions by ≡ Some name)
-    by_name None is = elim (name_found regions thread (Some (named serial)) by name is) [
+    by_name None is = elim (name_found regions thread (Some (region_of_serial serial)) by name is) [
       | inl new ↦ inl (sym (same_Some serial name new))
       | inr old ↦ inr old
     ]
@@ -353,7 +353,7 @@ fewer Base Fact operations regions at new none H =
 
 ended_holds : (Base : ℕ → Type 0) (Fact : (count name : ℕ) → Type 0) (caller : Caller) (register : ℕ)
     (was : Option Region) (local : EndpointLocal) → HoldsOf Base Fact local
-    → HoldsOf Base Fact (ended caller register was local).1
+    → HoldsOf Base Fact (after_region caller register was local).1
 ended_holds Base Fact caller register None local H = H
 ended_holds Base Fact caller register (Some was) local H = by_name was.name
   where
@@ -463,7 +463,7 @@ asks_holds : (Base : ℕ → Type 0) (Fact : (count name : ℕ) → Type 0) (set
 asks_holds Base Fact settings table meaning me now node ask (asked.Accepted to slot number) H = H
 asks_holds Base Fact settings table meaning me now node ask asked.Ran H =
     let out = (endpoint_rules settings table meaning).run (with_itself me)
-    (said (site_at settings table meaning me) node ask) node.local in
+    (request_content (site_at settings table meaning me) node ask) node.local in
     taken Base Fact settings table meaning (with_itself me) out.1 out.0 H
 asks_holds Base Fact settings table meaning me now node ask (asked.BadArg part) H = H
 asks_holds Base Fact settings table meaning me now node ask (asked.Forbidden forbidden) H = H
@@ -483,7 +483,7 @@ comes_holds Base Fact settings table meaning me node message so H = H
 sent_holds : (Base : ℕ → Type 0) (Fact : (count name : ℕ) → Type 0) (settings : Parameters) (contact : Contact)
     (content : Content) (local : EndpointLocal) → HoldsOf Base Fact local
     → HoldsOf Base Fact (after_sent settings contact content local)
-sent_holds Base Fact settings contact content local H = elim (cases_Bool (content.handler == note_handler)) [
+sent_holds Base Fact settings contact content local H = elim (cases_Bool (content.handler == notification_handler)) [
   | inl note ↦ rw note H
   | inr chunk ↦ rw chunk (marked_holds Base Fact local _
       (names_issue contact.peer contact.slot contact.number content.payload local.operations) H)
@@ -533,7 +533,7 @@ fall_holds Base Fact rule settings table meaning world now node (Some fall) H =
 
 -- what holds of a node's names holds after any events
 pub run_holds : (Base : ℕ → Type 0) (Fact : (count name : ℕ) → Type 0) → IsRule Base Fact → (settings : Parameters)
-    (table : List (Option TableEntry)) (meaning : Meaning) (events : List (Timed OtherCall)) (world : Records)
+    (table : List (Option TableEntry)) (meaning : Meaning) (events : List (EventAt OtherCall)) (world : Records)
     (node : ℕ) → HoldsOf Base Fact (world node).local
     → HoldsOf Base Fact (run (job_of settings table meaning) events world node).local
 run_holds Base Fact rule settings table meaning [] world node H = H
@@ -623,15 +623,15 @@ begun_holds caller register transfer local number is H =
 
 -- after an explicit transfer began, its number is the name of no region, from then on
 pub number_is_free : (settings : Parameters) (table : List (Option TableEntry)) (meaning : Meaning)
-    (before events : List (Timed OtherCall)) (now node thread number : ℕ) (register : Option ℕ) (transfer : Transfer)
+    (before events : List (EventAt OtherCall)) (now node thread number : ℕ) (register : Option ℕ) (transfer : Transfer)
     → world_answer (job_of settings table meaning)
     (run (job_of settings table meaning) before (at_the_opening settings))
-    (called now node thread (Begin register transfer))
+    (transfer_event now node thread (Begin register transfer))
     ≡ OfNode (OfCall (answers.Begun (begun.Handle (record { serial = number }))))
     → HoldsOf (AreThere number) (IsOther number)
     (run (job_of settings table meaning) events (world_after (job_of settings table meaning)
     (run (job_of settings table meaning) before (at_the_opening settings))
-    (called now node thread (Begin register transfer))) node).local
+    (transfer_event now node thread (Begin register transfer))) node).local
 number_is_free settings table meaning before events now node thread number register transfer is =
     let job = job_of settings table meaning in
     let world = run job before (at_the_opening settings) in
@@ -646,7 +646,7 @@ number_is_free settings table meaning before events now node thread number regis
     let left = left_there settings table meaning world now node thread call
     ∙ ap (λ (out : Answer × EndpointLocal). out.1) does in
     run_holds (AreThere number) (IsOther number) (other_rule number) settings table meaning events
-    (world_after job world (called now node thread call)) node
+    (world_after job world (transfer_event now node thread call)) node
     (subst (HoldsOf (AreThere number) (IsOther number)) (sym left)
     (begun_holds (caller_of settings world node thread) register transfer (world node).local number says given))
   where
@@ -704,7 +704,7 @@ some_chosen exhausted thread (first ∷ later) ok = refl
 -- the operation of the handle's number, which is complete, and wasn't synchronised before
 pub record IsTheOne (local : EndpointLocal) (number : ℕ) : Type 0 where
   pub operation : Operation
-  pub there : numbered local.operations number ≡ Some operation
+  pub there : element_at local.operations number ≡ Some operation
   pub unmarked : operation.synced ≡ false
   pub chosen_so : members_by number local.operations number operation ≡ true
 
@@ -726,7 +726,7 @@ the_one exhausted thread number local some H ok =
     let same : suc it.0 ≡ number = let e = eqb-true (1 + it.0) number parts.1 in omega (arith, e) in
     record {
       operation = it.1;
-      there = ap (numbered operations) (sym same) ∙ it.2;
+      there = ap (element_at operations) (sym same) ∙ it.2;
       unmarked = was_not it.1.synced parts.0;
       chosen_so = ap (λ (b : Bool). not b && members number operations number it.1) (ne_eqb number 0 some)
           ∙ members_are number it.1

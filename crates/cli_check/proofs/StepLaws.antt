@@ -38,8 +38,8 @@ use Rattle.law_traces.specs.declared.script_answer.ScriptAnswer.{ScriptAnswer}
 use Rattle.law_traces.specs.declared.script_answer.ScriptAnswer.TheVariants as said
 use Rattle.text_script.specs.Bodies.{script_meaning}
 use Rattle.base_text.specs.LineTexts.{Line}
-use Rattle.text_script.specs.Registration.{handlers_of, registered}
-use Rattle.spec_network.specs.World.{Timed, IsAmong, OfNode, WorldAnswer, run, world_answer}
+use Rattle.text_script.specs.Registration.{handlers_of, registry_of}
+use Rattle.spec_network.specs.World.{EventAt, IsAmong, OfNode, WorldAnswer, run, world_answer}
 use Rattle.part_transfers.specs.Syncs.{handle_answer}
 use Rattle.part_transfers.specs.declared.operation.Handle.{Handle}
 use Rattle.part_transfers.specs.declared.operation.Synced.{Synced}
@@ -48,7 +48,7 @@ use Rattle.part_transfers.specs.declared.operation.Transfer.{Transfer}
 use Rattle.proc_steps.specs.Forms.{as_synced, begun_handle, is_not_ready, step_form, sync_of}
 use Rattle.law_transfers.specs.Chunks.{EndpointJob, state_after}
 use Rattle.law_transfers.proofs.Begins.{allowed_there, begins_last, told_there}
-use Rattle.law_transfers.specs.TransferLaws.{Beginning, Synchronises, TransfersHold, called, since}
+use Rattle.law_transfers.specs.TransferLaws.{Beginning, Synchronises, TransfersHold, transfer_event, since}
 use Rattle.cli_check.specs.StepLines.{StepAt}
 use Rattle.cli_check.specs.StepsTold.{BarrierIsTried, EndsAsTried, EndsAtCall, EndsLater, IsCallMade, IsMadeSince}
 use Rattle.cli_check.specs.StepsTold.{IsReply}
@@ -80,13 +80,13 @@ told_is : (b : Bool) (told answer : Answer) (step : ScriptAnswer) → unless b t
 told_is b told answer step ends is = call_same told answer (sym (unless_same b told step ends) ∙ is)
 
 -- a call with an answer that is another one
-abbrev since_so : (job : JobState) (past run : List (Timed OtherCall)) (at : StepAt) (call : ThreadCall)
+abbrev since_so : (job : JobState) (past run : List (EventAt OtherCall)) (at : StepAt) (call : ThreadCall)
     (told answer : Answer) → told ≡ answer → IsMadeSince job past run at call told
     → IsMadeSince job past run at call answer
 since_so job past run at call told answer is made = subst (IsMadeSince job past run at call) is made
 
 -- a call that ended a step whose answer is its own
-made_so : (job : JobState) (past run : List (Timed OtherCall)) (at : StepAt) (call : ThreadCall) (waits : Answer → Bool)
+made_so : (job : JobState) (past run : List (EventAt OtherCall)) (at : StepAt) (call : ThreadCall) (waits : Answer → Bool)
     (answer : Answer) (step : ScriptAnswer) → EndsAtCall job past run at call (λ told. unless (waits told) told) step
     → step ≡ said.Call answer → IsMadeSince job past run at call answer
 made_so job past run at call waits answer step it is =
@@ -94,47 +94,47 @@ made_so job past run at call waits answer step it is =
 
 -- ---- events among the nodes
 
-front_among : (job : JobState) (first : List (Timed OtherCall)) (event : Timed OtherCall) (later : List (Timed OtherCall))
-    → AllByRecursion (λ (one : Timed OtherCall). IsAmong job.settings one.event) (first ++ event ∷ later)
-    → AllByRecursion (λ (one : Timed OtherCall). IsAmong job.settings one.event) first
+prefix_among : (job : JobState) (first : List (EventAt OtherCall)) (event : EventAt OtherCall) (later : List (EventAt OtherCall))
+    → AllByRecursion (λ (one : EventAt OtherCall). IsAmong job.settings one.event) (first ++ event ∷ later)
+    → AllByRecursion (λ (one : EventAt OtherCall). IsAmong job.settings one.event) first
     × IsAmong job.settings event.event
-    × AllByRecursion (λ (one : Timed OtherCall). IsAmong job.settings one.event) later
-front_among job [] event later among = (tt, among.0, among.1)
-front_among job (one ∷ first) event later among =
-    let it = front_among job first event later among.1 in ((among.0, it.0), it.1, it.2)
+    × AllByRecursion (λ (one : EventAt OtherCall). IsAmong job.settings one.event) later
+prefix_among job [] event later among = (tt, among.0, among.1)
+prefix_among job (one ∷ first) event later among =
+    let it = prefix_among job first event later among.1 in ((among.0, it.0), it.1, it.2)
 
-abbrev AreAmong : JobState → List (Timed OtherCall) → Type 0
-AreAmong job run = AllByRecursion (λ (one : Timed OtherCall). IsAmong job.settings one.event) run
+abbrev AreAmong : JobState → List (EventAt OtherCall) → Type 0
+AreAmong job run = AllByRecursion (λ (one : EventAt OtherCall). IsAmong job.settings one.event) run
 
-all_front : (job : JobState) (first later : List (Timed OtherCall)) → AreAmong job (first ++ later) → AreAmong job first
+all_prefix : (job : JobState) (first later : List (EventAt OtherCall)) → AreAmong job (first ++ later) → AreAmong job first
     × AreAmong job later
-all_front job [] later among = (tt, among)
-all_front job (one ∷ first) later among = let it = all_front job first later among.1 in ((among.0, it.0), it.1)
+all_prefix job [] later among = (tt, among)
+all_prefix job (one ∷ first) later among = let it = all_prefix job first later among.1 in ((among.0, it.0), it.1)
 
 -- those of the first turns
-turns_among : (job : JobState) (count : ℕ) (turns : List (List (Timed OtherCall))) → AreAmong job (joined_events turns)
+turns_among : (job : JobState) (count : ℕ) (turns : List (List (EventAt OtherCall))) → AreAmong job (joined_events turns)
     → AreAmong job (first_turns count turns)
 turns_among job zero turns among = tt
 turns_among job (suc count) [] among = tt
 turns_among job (suc count) (turn ∷ turns) among =
-    let it = all_front job turn (joined_events turns) among in
-    all_append (λ (one : Timed OtherCall). IsAmong job.settings one.event) turn (first_turns count turns) it.0
+    let it = all_prefix job turn (joined_events turns) among in
+    all_append (λ (one : EventAt OtherCall). IsAmong job.settings one.event) turn (first_turns count turns) it.0
     (turns_among job count turns it.1)
 
 -- ---- the laws
 
-abbrev sync_done : (job : JobState) (past run : List (Timed OtherCall)) (at : StepAt) (call : TransferCall)
-    → TransfersHold job.settings (registered (handlers_of job)).table (script_meaning (handlers_of job))
+abbrev sync_done : (job : JobState) (past run : List (EventAt OtherCall)) (at : StepAt) (call : TransferCall)
+    → TransfersHold job.settings (registry_of (handlers_of job)).table (script_meaning (handlers_of job))
     → AreAmong job run → IsMadeSince job past run at (on_transfer_call call) (answers.Synced synced.Ok)
     → SyncIsMade job past run at call
 sync_done job past run at call holds among since_past = record {
   made = since_past;
   done = λ beginning events is syncs.
       let made = since_past.made in
-      let first = called beginning.now beginning.node beginning.thread beginning.call in
-      let before = (front_among job made.before (call_event at made.now (on_transfer_call call)) made.later
+      let first = transfer_event beginning.now beginning.node beginning.thread beginning.call in
+      let before = (prefix_among job made.before (call_event at made.now (on_transfer_call call)) made.later
       (subst (AreAmong job) made.run_is among)).0 in
-      let parts = front_among job beginning.before first events (subst (AreAmong job) is before) in
+      let parts = prefix_among job beginning.before first events (subst (AreAmong job) is before) in
       let there : records_after job made.before ≡ state_after (rules_of job) (since (rules_of job) beginning events) =
       ap (records_after job) is
       ∙ run_append (rules_of job) beginning.before (first ∷ events) (at_the_opening job.settings) in
@@ -143,15 +143,15 @@ sync_done job past run at call holds among since_past = record {
       beginning.node beginning.number) there syncs);
 }
 
-barrier_done : (job : JobState) (past run : List (Timed OtherCall)) (at : StepAt) (id : ℤ) (flags : ℕ)
+barrier_done : (job : JobState) (past run : List (EventAt OtherCall)) (at : StepAt) (id : ℤ) (flags : ℕ)
     (answer : BarrierAnswer)
-    → BarrierHolds job.settings (registered (handlers_of job)).table (script_meaning (handlers_of job))
+    → BarrierHolds job.settings (registry_of (handlers_of job)).table (script_meaning (handlers_of job))
     → AreAmong job run → EndsPhase answer
     → IsMadeSince job past run at (tries_barrier id flags) (answers.Barrier answer)
     → BarrierIsTried job past run at id flags answer
 barrier_done job past run at id flags answer holds among ends since_past =
     let made = since_past.made in
-    let parts = front_among job made.before (call_event at made.now (tries_barrier id flags)) made.later
+    let parts = prefix_among job made.before (call_event at made.now (tries_barrier id flags)) made.later
     (subst (AreAmong job) made.run_is among) in
     record {
       made = since_past;
@@ -163,7 +163,7 @@ barrier_done job past run at id flags answer holds among ends since_past =
 -- ---- by the step
 
 -- a step that waits for transfers
-wait_made : (job : JobState) (past run : List (Timed OtherCall)) (at : StepAt) (wait : WaitingStep) (call : TransferCall)
+wait_made : (job : JobState) (past run : List (EventAt OtherCall)) (at : StepAt) (wait : WaitingStep) (call : TransferCall)
     (context : StepContext) (node : Node EndpointLocal) (began : Option Answer) (answer : Answer)
     (said_so : ScriptAnswer) → sync_waited wait ≡ Some call
     → EndsAsTried job past run at (step_form (step.Waiting wait) context node) began said_so
@@ -194,17 +194,17 @@ reply_same : (one other : Answer) → ◌≡◌ {A = WorldAnswer Answer} (OfNode
     → one ≡ other
 reply_same one other same = cc
 
-begin_synced : (job : JobState) (run : List (Timed OtherCall)) (at : StepAt) (transfer : Transfer) (says : Synced)
+begin_synced : (job : JobState) (run : List (EventAt OtherCall)) (at : StepAt) (transfer : Transfer) (says : Synced)
     → IsCallMade job run at (on_transfer_call (Begin None transfer)) (answers.Synced says) → ⊥
 begin_synced job run at transfer says made =
     let local = (records_after job made.before at.rank).local in
     let settings = job.settings in
-    never_synced settings (registered (handlers_of job)).table (script_meaning (handlers_of job)) at.thread
-    ((endpoint_rules settings (registered (handlers_of job)).table (script_meaning (handlers_of job))).judges at.thread
+    never_synced settings (registry_of (handlers_of job)).table (script_meaning (handlers_of job)) at.thread
+    ((endpoint_rules settings (registry_of (handlers_of job)).table (script_meaning (handlers_of job))).judges at.thread
     (transfer_kind (Begin None transfer)) local) local _ _ says (reply_same _ _ made.answered)
 
 -- a blocking transfer that is told as Ok, and had no second call, was done in its first one
-at_once : (job : JobState) (run : List (Timed OtherCall)) (at : StepAt) (transfer : Transfer) (first : Answer)
+at_once : (job : JobState) (run : List (EventAt OtherCall)) (at : StepAt) (transfer : Transfer) (first : Answer)
     → IsCallMade job run at (on_transfer_call (Begin None transfer)) first → as_synced first ≡ answers.Synced synced.Ok
     → first ≡ answers.Begun begun.Done
 at_once job run at transfer (answers.Begun begun.Done) made ok = refl
@@ -232,17 +232,17 @@ never_started : (settings : Parameters) (table : List (Option TableEntry)) (mean
 never_started settings table meaning thread (Ok allowed) local left begun_so other same = cc
 never_started settings table meaning thread (Err forbidden) local left begun_so other same = cc
 
-begin_started : (job : JobState) (run : List (Timed OtherCall)) (at : StepAt) (transfer : Transfer) (other : Begun)
+begin_started : (job : JobState) (run : List (EventAt OtherCall)) (at : StepAt) (transfer : Transfer) (other : Begun)
     → IsCallMade job run at (on_transfer_call (Begin None transfer)) (answers.Started other) → ⊥
 begin_started job run at transfer other made =
     let local = (records_after job made.before at.rank).local in
     let settings = job.settings in
-    never_started settings (registered (handlers_of job)).table (script_meaning (handlers_of job)) at.thread
-    ((endpoint_rules settings (registered (handlers_of job)).table (script_meaning (handlers_of job))).judges at.thread
+    never_started settings (registry_of (handlers_of job)).table (script_meaning (handlers_of job)) at.thread
+    ((endpoint_rules settings (registry_of (handlers_of job)).table (script_meaning (handlers_of job))).judges at.thread
     (transfer_kind (Begin None transfer)) local) local _ _ other (reply_same _ _ made.answered)
 
 -- so that answer is the beginning's
-begun_so : (job : JobState) (run : List (Timed OtherCall)) (at : StepAt) (transfer : Transfer) (first : Answer)
+begun_so : (job : JobState) (run : List (EventAt OtherCall)) (at : StepAt) (transfer : Transfer) (first : Answer)
     (handle : Handle) → IsCallMade job run at (on_transfer_call (Begin None transfer)) first
     → begun_handle first ≡ Some handle → first ≡ answers.Begun (begun.Handle handle)
 begun_so job run at transfer (answers.Begun (begun.Handle found)) handle made is =
@@ -267,17 +267,17 @@ sync_begun : (settings : Parameters) (table : List (Option TableEntry)) (meaning
 sync_begun settings table meaning thread (Ok allowed) local left says begun_as same = cc
 sync_begun settings table meaning thread (Err forbidden) local left says begun_as same = cc
 
-sync_not_begun : (job : JobState) (run : List (Timed OtherCall)) (at : StepAt) (handle : Handle) (begun_as : Begun)
+sync_not_begun : (job : JobState) (run : List (EventAt OtherCall)) (at : StepAt) (handle : Handle) (begun_as : Begun)
     → IsCallMade job run at (on_transfer_call (SyncHandle handle)) (answers.Begun begun_as) → ⊥
 sync_not_begun job run at handle begun_as made =
     let local = (records_after job made.before at.rank).local in
     let settings = job.settings in
-    sync_begun settings (registered (handlers_of job)).table (script_meaning (handlers_of job)) at.thread
-    ((endpoint_rules settings (registered (handlers_of job)).table (script_meaning (handlers_of job))).judges at.thread
+    sync_begun settings (registry_of (handlers_of job)).table (script_meaning (handlers_of job)) at.thread
+    ((endpoint_rules settings (registry_of (handlers_of job)).table (script_meaning (handlers_of job))).judges at.thread
     (transfer_kind (SyncHandle handle)) local) local _ _ begun_as (reply_same _ _ made.answered)
 
 -- a call that is another one, with an answer that is another one
-abbrev remade : (job : JobState) (run : List (Timed OtherCall)) (at : StepAt) (call other : ThreadCall)
+abbrev remade : (job : JobState) (run : List (EventAt OtherCall)) (at : StepAt) (call other : ThreadCall)
     (told answer : Answer) → call ≡ other → told ≡ answer → IsCallMade job run at call told
     → IsCallMade job run at other answer
 remade job run at call other told answer same is made = record {
@@ -291,7 +291,7 @@ remade job run at call other told answer same is made = record {
       (world_answer (rules_of job) (records_after job made.before) (call_event at made.now c))) same made.answered);
 }
 
-abbrev remade_since : (job : JobState) (past run : List (Timed OtherCall)) (at : StepAt) (call other : ThreadCall)
+abbrev remade_since : (job : JobState) (past run : List (EventAt OtherCall)) (at : StepAt) (call other : ThreadCall)
     (told answer : Answer) → call ≡ other → told ≡ answer → IsMadeSince job past run at call told
     → IsMadeSince job past run at other answer
 remade_since job past run at call other told answer same is made = record {
@@ -313,7 +313,7 @@ sync_says : (job : JobState) (world : Records) (at : StepAt) (now : ℕ) (handle
     ≡ synced.Ok
 sync_says job world at now handle answered =
     let settings = job.settings in
-    let table = (registered (handlers_of job)).table in
+    let table = (registry_of (handlers_of job)).table in
     let meaning = script_meaning (handlers_of job) in
     let told = told_there settings table meaning world now at.rank at.thread (SyncHandle handle)
     (answers.Synced synced.Ok) answered in
@@ -330,8 +330,8 @@ some_number number count is none = absurd (omega (arith, is, none))
 
 -- so a sync of it that is answered Ok synchronises it
 synchronises : (job : JobState) (at : StepAt) (transfer : Transfer) (handle : Handle)
-    (before events : List (Timed OtherCall)) (begun_at now : ℕ)
-    → TransfersHold job.settings (registered (handlers_of job)).table (script_meaning (handlers_of job))
+    (before events : List (EventAt OtherCall)) (begun_at now : ℕ)
+    → TransfersHold job.settings (registry_of (handlers_of job)).table (script_meaning (handlers_of job))
     → world_answer (rules_of job) (records_after job before)
     (call_event at begun_at (on_transfer_call (Begin None transfer)))
     ≡ OfNode (OfCall (answers.Begun (begun.Handle handle)))
@@ -342,7 +342,7 @@ synchronises : (job : JobState) (at : StepAt) (transfer : Transfer) (handle : Ha
     → Synchronises (rules_of job) world (call_event at now (on_transfer_call (SyncHandle handle))) at.rank handle.serial
 synchronises job at transfer handle before events begun_at now holds began answered =
     let settings = job.settings in
-    let table = (registered (handlers_of job)).table in
+    let table = (registry_of (handlers_of job)).table in
     let meaning = script_meaning (handlers_of job) in
     let call = call_event at begun_at (on_transfer_call (Begin None transfer)) in
     let world = records_after job (before ++ call ∷ events) in
@@ -383,8 +383,8 @@ synchronises job at transfer handle before events begun_at now holds began answe
     events_job = rules_of job
 
 -- a second call, behind the first one
-later_made : (job : JobState) (past run : List (Timed OtherCall)) (at : StepAt)
-    → TransfersHold job.settings (registered (handlers_of job)).table (script_meaning (handlers_of job))
+later_made : (job : JobState) (past run : List (EventAt OtherCall)) (at : StepAt)
+    → TransfersHold job.settings (registry_of (handlers_of job)).table (script_meaning (handlers_of job))
     → AreAmong job run → (transfer : Transfer) (answer : ScriptAnswer)
     → EndsLater job past run at (on_transfer_call (Begin None transfer)) sync_of
     (λ told. unless (is_not_ready told) (as_synced told)) answer
@@ -404,9 +404,9 @@ later_made job past run at holds among transfer answer later same =
     let sync = sync_done job past run at (SyncHandle it.0) holds among since_past in
     let first = remade job made.before at begin begin later.first (answers.Begun (begun.Handle it.0)) refl
     (begun_so job made.before at transfer later.first it.0 later.begun it.1) later.begun in
-    let parts = front_among job first.before (call_event at first.now begin) first.later
+    let parts = prefix_among job first.before (call_event at first.now begin) first.later
     (subst (AreAmong job) first.run_is
-    (front_among job made.before (call_event at made.now call) made.later (subst (AreAmong job) made.run_is among)).0) in
+    (prefix_among job made.before (call_event at made.now call) made.later (subst (AreAmong job) made.run_is among)).0) in
     let beginning : Beginning (rules_of job) = record {
       before = first.before;
       among = parts.0;
@@ -422,7 +422,7 @@ later_made job past run at holds among transfer answer later same =
     let answered : world_answer (rules_of job)
     (records_after job (first.before ++ call_event at first.now begin ∷ first.later)) (call_event at made.now call)
     ≡ OfNode (OfCall (answers.Synced synced.Ok)) =
-    subst (λ (b : List (Timed OtherCall)). world_answer (rules_of job) (records_after job b) (call_event at made.now call)
+    subst (λ (b : List (EventAt OtherCall)). world_answer (rules_of job) (records_after job b) (call_event at made.now call)
     ≡ OfNode (OfCall (answers.Synced synced.Ok))) first.run_is made.answered in
     record {
       handle = it.0;
@@ -436,13 +436,13 @@ later_made job past run at holds among transfer answer later same =
       events = first.later;
       before_is = first.run_is;
       done = sync.done beginning first.later first.run_is
-          (subst (λ (b : List (Timed OtherCall)). Synchronises (rules_of job) (records_after job b)
+          (subst (λ (b : List (EventAt OtherCall)). Synchronises (rules_of job) (records_after job b)
           (call_event at made.now call) at.rank it.0.serial) (sym first.run_is)
           (synchronises job at transfer it.0 first.before first.later first.now made.now holds first.answered answered));
     }
 
-transfer_made : (job : JobState) (past run : List (Timed OtherCall)) (at : StepAt)
-    → TransfersHold job.settings (registered (handlers_of job)).table (script_meaning (handlers_of job))
+transfer_made : (job : JobState) (past run : List (EventAt OtherCall)) (at : StepAt)
+    → TransfersHold job.settings (registry_of (handlers_of job)).table (script_meaning (handlers_of job))
     → AreAmong job run → (transfer : Transfer) (began : Option Answer) (answer : ScriptAnswer)
     → EndsAsTried job past run at
     (Twice (on_transfer_call (Begin None transfer)) sync_of is_not_ready as_synced) began answer
@@ -482,7 +482,7 @@ ends_of job traces order line words told one same =
     subst (λ (s : ScriptStep). EndsAsTried job (past_of told) (run_told told) told.at (form_of told s)
     (begun_before (machine_of told) told.at) told.answer) same told.ends
 
-pub lines_tell : (job : JobState) (traces : List Trace) (ranks : List ℕ) (turns : List (List (Timed OtherCall)))
+pub lines_tell : (job : JobState) (traces : List Trace) (ranks : List ℕ) (turns : List (List (EventAt OtherCall)))
     → IsRunOf job (order_by job (entries_of traces) ranks) turns
     → ((rank : ℕ) (entries : List Entry) → slice_get (entries_of traces) rank ≡ Some entries
     → own_entries rank (order_by job (entries_of traces) ranks) ≡ entries)

@@ -22,13 +22,13 @@ use Rattle.spec_node.specs.Record.{Node}
 use Rattle.law_traces.specs.Actions.{Form, Once, Again, Until, Twice, Looks, Several, OwnScripts, Progress, calls_of, ended_by}
 use Rattle.law_traces.specs.Actions.{StepContext, begins, unless, progress_after, next_calls, tried_step}
 use Rattle.law_traces.specs.Order.{NodeEntry, Machines, after_entry as after_item, after_all, turn_of}
-use Rattle.law_traces.specs.Scripts.{ThreadCall, Tried}
+use Rattle.law_traces.specs.Scripts.{ThreadCall, TryResult}
 use Rattle.law_traces.specs.Turn.{MachineState, events_of, first_answer, first_events, node_run}
 use Rattle.law_traces.specs.Turn.{turn_events}
 use Rattle.law_traces.specs.WorldRun.{AreEvents, AreTurns}
 use Rattle.law_traces.specs.declared.script_answer.ScriptAnswer.{ScriptAnswer}
 use Rattle.law_traces.specs.declared.script_answer.ScriptAnswer.TheVariants as said
-use Rattle.spec_network.specs.World.{Timed, run}
+use Rattle.spec_network.specs.World.{EventAt, run}
 use Rattle.part_collective_area.specs.declared.shape.Shape.{Shape}
 use Rattle.proc_collective_steps.specs.Parts.{first_part, later_part}
 use Rattle.node_collectives.specs.CollectivesState.{CollectivesState}
@@ -46,32 +46,32 @@ Machine = MachineState EndpointLocal (OwnScripts ScriptStep)
 -- ---- how a try of a form ends the step
 
 -- what was begun before by a step of this form, with this answer
-abbrev pub WasBegun : JobState → List (Timed OtherCall) → StepAt → Form EndpointLocal → Answer → Type 0
+abbrev pub WasBegun : JobState → List (EventAt OtherCall) → StepAt → Form EndpointLocal → Answer → Type 0
 WasBegun job run at (Twice begin next waits says) first = IsCallMade job run at begin first
 WasBegun job run at (Looks begin ready) first = IsCallMade job run at begin first
 WasBegun job run at form first = Unit {0}
 
 -- the call at the head of those of a try, if there is one, was made, with the answer of the try; what was made before it
 -- stands before it
-pub record FirstMade (job : JobState) (past happened : List (Timed OtherCall)) (at : StepAt) (call : ThreadCall)
+pub record FirstMade (job : JobState) (past happened : List (EventAt OtherCall)) (at : StepAt) (call : ThreadCall)
     (answer : Option Answer) : Type 0 where
   pub told : Answer
   pub is : answer ≡ Some told
   pub behind : IsMadeSince job past (past ++ happened) at call told
 
 -- each call of a try was made
-abbrev pub AllMade : JobState → (past run : List (Timed OtherCall)) → StepAt → List ThreadCall → Type 0
+abbrev pub AllMade : JobState → (past run : List (EventAt OtherCall)) → StepAt → List ThreadCall → Type 0
 AllMade job past run at calls =
     (place : ℕ) (call : ThreadCall) → slice_get calls place ≡ Some call
     → (told : Answer) × IsMadeSince job past run at call told
 
 -- so the first of them was
-abbrev pub HeadMade : JobState → (past happened : List (Timed OtherCall)) → StepAt → List ThreadCall → Option Answer
+abbrev pub HeadMade : JobState → (past happened : List (EventAt OtherCall)) → StepAt → List ThreadCall → Option Answer
     → Type 0
 HeadMade job past happened at [] answer = answer ≡ None
 HeadMade job past happened at (call ∷ calls) answer = FirstMade job past happened at call answer
 
-ended_call : (job : JobState) (past happened : List (Timed OtherCall)) (at : StepAt) (call : ThreadCall)
+ended_call : (job : JobState) (past happened : List (EventAt OtherCall)) (at : StepAt) (call : ThreadCall)
     (given : Option Answer) (ends : Answer → Option ScriptAnswer) (answer : ScriptAnswer)
     → (first : FirstMade job past happened at call given) → ends first.told ≡ Some answer
     → EndsAtCall job past (past ++ happened) at call ends answer
@@ -90,7 +90,7 @@ unless_sure : (b : Bool) (told : Answer) (answer : ScriptAnswer) → unless b to
 unless_sure true told answer same = absurd (cc)
 unless_sure false told answer same = cc
 
-pub ends_as : (job : JobState) (past happened : List (Timed OtherCall)) (at : StepAt) (form : Form EndpointLocal)
+pub ends_as : (job : JobState) (past happened : List (EventAt OtherCall)) (at : StepAt) (form : Form EndpointLocal)
     (began : Option Answer) (after : Node EndpointLocal) (given : Option Answer) (answer : ScriptAnswer)
     → ((first : Answer) → began ≡ Some first → WasBegun job past at form first)
     → HeadMade job past happened at (calls_of form began) given
@@ -127,7 +127,7 @@ ends_as job past happened at (Twice begin next waits says) (Some first) after gi
       next_is = some;
       told = made.told;
       made = made.behind;
-      begun = subst (λ (events : List (Timed OtherCall)). IsCallMade job events at begin first)
+      begun = subst (λ (events : List (EventAt OtherCall)). IsCallMade job events at begin first)
           (sym made.behind.before_is) (made_before job past made.behind.between at begin first begun);
       ended = given_as Ends given made.told _ made.is ends;
     }
@@ -149,7 +149,7 @@ ends_as job past happened at (Several first later) began after given answer was 
 
 -- ---- more events follow
 
-begun_more : (job : JobState) (run more : List (Timed OtherCall)) (at : StepAt) (form : Form EndpointLocal)
+begun_more : (job : JobState) (run more : List (EventAt OtherCall)) (at : StepAt) (form : Form EndpointLocal)
     (first : Answer) → WasBegun job run at form first → WasBegun job (run ++ more) at form first
 begun_more job run more at (Once call) first it = tt
 begun_more job run more at (Again waits call) first it = tt
@@ -161,18 +161,18 @@ begun_more job run more at (Several start later) first it = tt
 -- ---- steps that begin something are read alike at each try
 
 -- whatever the node's record is by then
-abbrev pub StepBegun : JobState → List (Timed OtherCall) → StepAt → ScriptStep → Answer → Type 0
+abbrev pub StepBegun : JobState → List (EventAt OtherCall) → StepAt → ScriptStep → Answer → Type 0
 StepBegun job run at one first =
     (context : StepContext) (node : Node EndpointLocal) → WasBegun job run at (step_form one context node) first
 
-while_begins : (job : JobState) (run : List (Timed OtherCall)) (at : StepAt) (waits : Option (Answer → Bool))
+while_begins : (job : JobState) (run : List (EventAt OtherCall)) (at : StepAt) (waits : Option (Answer → Bool))
     (call other : ThreadCall) (first : Answer) → begins (tried_while waits call) ≡ true
     → WasBegun job run at (tried_while waits other) first
 while_begins job run at None call other first is = absurd (cc)
 while_begins job run at (Some waits) call other first is = absurd (cc)
 
 -- what a step began that runs collectives says nothing of a call
-collective_begun : (job : JobState) (run : List (Timed OtherCall)) (at : StepAt) (call : CollectiveText)
+collective_begun : (job : JobState) (run : List (EventAt OtherCall)) (at : StepAt) (call : CollectiveText)
     (first : Answer) (context : StepContext) (node : Node EndpointLocal)
     → WasBegun job run at (collective_form call context node) first
 collective_begun job run at call first context node = by_state context.collectives
@@ -182,7 +182,7 @@ collective_begun job run at call first context node = by_state context.collectiv
     by_state None = tt
     by_state (Some it) = tt
 
-whole_begun : (job : JobState) (run : List (Timed OtherCall)) (at : StepAt) (shape : Shape) (from dest : ℕ)
+whole_begun : (job : JobState) (run : List (EventAt OtherCall)) (at : StepAt) (shape : Shape) (from dest : ℕ)
     (first : Answer) (context : StepContext) (node : Node EndpointLocal)
     → WasBegun job run at (whole_form shape from dest context node) first
 whole_begun job run at shape from dest first context node = by_state context.collectives
@@ -199,7 +199,7 @@ whole_begun job run at shape from dest first context node = by_state context.col
     by_state None = tt
     by_state (Some it) = by_me it (it.me == context.place.me)
 
-begun_alike : (job : JobState) (run : List (Timed OtherCall)) (at : StepAt) (one : ScriptStep) (first : Answer)
+begun_alike : (job : JobState) (run : List (EventAt OtherCall)) (at : StepAt) (one : ScriptStep) (first : Answer)
     (context : StepContext) (node : Node EndpointLocal) → begins (step_form one context node) ≡ true
     → WasBegun job run at (step_form one context node) first → StepBegun job run at one first
 begun_alike job run at (step.Call call) first context node is was = λ other record_then.
@@ -222,13 +222,13 @@ begun_alike job run at (step.Waiting (waiting.WaitImplicit which)) first context
 begun_alike job run at (step.Waiting (waiting.BarrierWait id flags)) first context node is was = absurd (cc)
 
 -- where a step of a thread has begun, that is an event of the past
-abbrev pub IsPending : JobState → List (Timed OtherCall) → StepAt → Progress ScriptStep → Type 0
+abbrev pub IsPending : JobState → List (EventAt OtherCall) → StepAt → Progress ScriptStep → Type 0
 IsPending job past at progress =
     (first : Answer) → progress.began ≡ Some first → (one : ScriptStep) (rest : List ScriptStep)
     → progress.left ≡ one ∷ rest → StepBegun job past at one first
 
 -- of all threads of all nodes
-abbrev pub ArePending : JobState → List (Timed OtherCall) → Machines EndpointLocal (OwnScripts ScriptStep) → Type 0
+abbrev pub ArePending : JobState → List (EventAt OtherCall) → Machines EndpointLocal (OwnScripts ScriptStep) → Type 0
 ArePending job past machines =
     (rank thread : ℕ)
     → IsPending job past (record { rank = rank; thread = thread }) ((machines rank).own.threads thread)
@@ -238,7 +238,7 @@ head_same : (one other : ScriptStep) (rest later : List ScriptStep) → ◌≡�
 head_same one other rest later same = cc
 
 -- what a try of the form begins
-form_begins : (job : JobState) (past happened : List (Timed OtherCall)) (at : StepAt) (form : Form EndpointLocal)
+form_begins : (job : JobState) (past happened : List (EventAt OtherCall)) (at : StepAt) (form : Form EndpointLocal)
     (given : Option Answer) (first : Answer) → given ≡ Some first
     → HeadMade job past happened at (calls_of form None) given → begins form ≡ true
     → WasBegun job (past ++ happened) at form first
@@ -252,7 +252,7 @@ form_begins job past happened at (Looks call ready) given first is head begin =
 form_begins job past happened at (Several start later) given first is head begin = tt
 
 -- the script of the thread after a try of its step
-step_pending : (job : JobState) (past happened : List (Timed OtherCall)) (at : StepAt) (one : ScriptStep)
+step_pending : (job : JobState) (past happened : List (EventAt OtherCall)) (at : StepAt) (one : ScriptStep)
     (rest : List ScriptStep) (began : Option Answer) (context : StepContext) (before : Node EndpointLocal)
     (given : Option Answer) (ended : Option ScriptAnswer)
     → IsPending job past at (record { left = one ∷ rest; began = began })
@@ -290,7 +290,7 @@ step_pending job past happened at one rest began context before given None old h
 -- ---- the calls of a turn
 
 split_at : (calls : List ThreadCall) (place : ℕ) (call : ThreadCall) → slice_get calls place ≡ Some call
-    → (front : List ThreadCall) × (rest : List ThreadCall) × (calls ≡ front ++ call ∷ rest)
+    → (prefix : List ThreadCall) × (rest : List ThreadCall) × (calls ≡ prefix ++ call ∷ rest)
 split_at [] place call there = absurd (cc)
 split_at (one ∷ calls) zero call there =
     ([], calls, ap (λ (c : ThreadCall). c ∷ calls) (same_Some one call there))
@@ -299,8 +299,8 @@ split_at (one ∷ calls) (suc place) call there =
     (one ∷ it.0, it.1, ap (λ (cs : List ThreadCall). one ∷ cs) it.2)
 
 -- the events of a turn: the first ones, and those of these calls
-abbrev HaveCalls : JobState → (past : List (Timed OtherCall)) → StepAt → (now : ℕ) → (first : List RecordEvent)
-    → (calls : List ThreadCall) → (happened : List (Timed OtherCall)) → Type 0
+abbrev HaveCalls : JobState → (past : List (EventAt OtherCall)) → StepAt → (now : ℕ) → (first : List RecordEvent)
+    → (calls : List ThreadCall) → (happened : List (EventAt OtherCall)) → Type 0
 HaveCalls job past at now first calls happened =
     AreEvents (rules_of job) (records_after job past) at.rank now (first ++ events_of at.thread calls) happened
 
@@ -308,8 +308,8 @@ HaveCalls job past at now first calls happened =
 abbrev answer_of_first : JobState → StepAt → (now : ℕ) → List ThreadCall → Node EndpointLocal → Option Answer
 answer_of_first job at now calls node = first_answer (rules_of job) at.rank at.thread now calls node
 
-head_made : (job : JobState) (past : List (Timed OtherCall)) (at : StepAt) (now : ℕ) (first : List RecordEvent)
-    (calls : List ThreadCall) (happened : List (Timed OtherCall)) (node : Node EndpointLocal)
+head_made : (job : JobState) (past : List (EventAt OtherCall)) (at : StepAt) (now : ℕ) (first : List RecordEvent)
+    (calls : List ThreadCall) (happened : List (EventAt OtherCall)) (node : Node EndpointLocal)
     → records_after job past at.rank ≡ node → HaveCalls job past at now first calls happened
     → HeadMade job past happened at calls
     (answer_of_first job at now calls (node_run (rules_of job) at.rank now first node))
@@ -320,19 +320,19 @@ head_made job past at now first (call ∷ calls) happened node is are = record {
   behind = made_at job past at now first call (events_of at.thread calls) happened node is are;
 }
 
-all_made : (job : JobState) (past : List (Timed OtherCall)) (at : StepAt) (now : ℕ) (first : List RecordEvent)
-    (calls : List ThreadCall) (happened : List (Timed OtherCall)) (node : Node EndpointLocal)
+all_made : (job : JobState) (past : List (EventAt OtherCall)) (at : StepAt) (now : ℕ) (first : List RecordEvent)
+    (calls : List ThreadCall) (happened : List (EventAt OtherCall)) (node : Node EndpointLocal)
     → records_after job past at.rank ≡ node → HaveCalls job past at now first calls happened
     → AllMade job past (past ++ happened) at calls
 all_made job past at now first calls happened node is are place call there =
     let it = split_at calls place call there in
-    let front = first ++ events_of at.thread it.0 in
-    let same : first ++ events_of at.thread calls ≡ front ++ node_event at.thread call ∷ events_of at.thread it.1 =
+    let prefix = first ++ events_of at.thread it.0 in
+    let same : first ++ events_of at.thread calls ≡ prefix ++ node_event at.thread call ∷ events_of at.thread it.1 =
     ap (λ (cs : List ThreadCall). first ++ events_of at.thread cs) it.2
     ∙ ap (λ (es : List RecordEvent). first ++ es) (map-append (node_event at.thread) it.0 (call ∷ it.1))
     ∙ sym (append_assoc first (events_of at.thread it.0) (events_of at.thread (call ∷ it.1))) in (
       _,
-      (made_at job past at now front call (events_of at.thread it.1) happened node is
+      (made_at job past at now prefix call (events_of at.thread it.1) happened node is
           (subst (λ (es : List RecordEvent). AreEvents (rules_of job) (records_after job past) at.rank now es happened) same
           are)),
     )
@@ -358,7 +358,7 @@ after_then job at machine entry left =
     node_run (rules_of job) at.rank entry.now
     (first_of job machine entry ++ events_of at.thread (calls_then job at machine entry left)) machine.node
 
-abbrev pub tried_then : JobState → StepAt → Machine → Entry → List ScriptStep → Tried (Progress ScriptStep)
+abbrev pub tried_then : JobState → StepAt → Machine → Entry → List ScriptStep → TryResult (Progress ScriptStep)
 tried_then job at machine entry left =
     tried_step step_form (tried_at job at machine entry.now) (machine.own.threads at.thread).began left
     (before_of job at.rank machine entry) (after_then job at machine entry left) (given_then job at machine entry left)
@@ -368,14 +368,14 @@ abbrev pub at_entry : (rank : ℕ) → Entry → StepAt
 at_entry rank entry = record { rank = rank; thread = entry.thread }
 
 -- the events of the turn happened behind the past
-pub record Happened (job : JobState) (past happened : List (Timed OtherCall)) (rank : ℕ) (machine : Machine)
+pub record Happened (job : JobState) (past happened : List (EventAt OtherCall)) (rank : ℕ) (machine : Machine)
     (entry : Entry) : Type 0 where
   pub node_is : records_after job past rank ≡ machine.node
   pub are : AreEvents (rules_of job) (records_after job past) rank entry.now
       (turn_events (script_job job) rank machine entry.thread entry.now entry.got) happened
 
 -- a step that ended in a turn behind the past, where the run is that up to the end of the turn
-pub record EndsInTurn (job : JobState) (past run : List (Timed OtherCall)) (rank : ℕ) (machine : Machine)
+pub record EndsInTurn (job : JobState) (past run : List (EventAt OtherCall)) (rank : ℕ) (machine : Machine)
     (entry : Entry) (left : List ScriptStep) (answer : ScriptAnswer) : Type 0 where
   pub step : ScriptStep
   pub rest : List ScriptStep
@@ -384,7 +384,7 @@ pub record EndsInTurn (job : JobState) (past run : List (Timed OtherCall)) (rank
       (step_form step (tried_at job (at_entry rank entry) machine entry.now) (before_of job rank machine entry))
       (begun_before machine (at_entry rank entry)) answer
 
-ends_by_left : (job : JobState) (past happened : List (Timed OtherCall)) (rank : ℕ) (machine : Machine) (entry : Entry)
+ends_by_left : (job : JobState) (past happened : List (EventAt OtherCall)) (rank : ℕ) (machine : Machine) (entry : Entry)
     (left : List ScriptStep) (answer : ScriptAnswer) → (machine.own.threads entry.thread).left ≡ left
     → Happened job past happened rank machine entry
     → IsPending job past (at_entry rank entry) (machine.own.threads entry.thread)
@@ -412,7 +412,7 @@ ends_by_left job past happened rank machine entry (one ∷ rest) answer same H p
     }
 
 -- so it is of the answer of the turn
-pub turn_ends : (job : JobState) (past happened : List (Timed OtherCall)) (rank : ℕ) (machine : Machine) (entry : Entry)
+pub turn_ends : (job : JobState) (past happened : List (EventAt OtherCall)) (rank : ℕ) (machine : Machine) (entry : Entry)
     (answer : ScriptAnswer) → Happened job past happened rank machine entry
     → IsPending job past (at_entry rank entry) (machine.own.threads entry.thread)
     → answer_of_step job rank machine entry ≡ Some answer
@@ -421,7 +421,7 @@ turn_ends job past happened rank machine entry answer H pending ends =
     ends_by_left job past happened rank machine entry (machine.own.threads entry.thread).left answer refl H pending ends
 
 -- what is left of the thread's script, and what its step began
-left_pending : (job : JobState) (past happened : List (Timed OtherCall)) (rank : ℕ) (machine : Machine) (entry : Entry)
+left_pending : (job : JobState) (past happened : List (EventAt OtherCall)) (rank : ℕ) (machine : Machine) (entry : Entry)
     (left : List ScriptStep) → (machine.own.threads entry.thread).left ≡ left
     → Happened job past happened rank machine entry
     → IsPending job past (at_entry rank entry) (machine.own.threads entry.thread)
@@ -458,13 +458,13 @@ pub scripts_apart : (job : JobState) (rank thread : ℕ) (machine : Machine) (en
 scripts_apart job rank thread machine entry apart = put_other machine.own.threads entry.thread
     (tried_then job (at_entry rank entry) machine entry (machine.own.threads entry.thread).left).left thread apart
 
-pending_more : (job : JobState) (past more : List (Timed OtherCall)) (at : StepAt) (progress : Progress ScriptStep)
+pending_more : (job : JobState) (past more : List (EventAt OtherCall)) (at : StepAt) (progress : Progress ScriptStep)
     → IsPending job past at progress → IsPending job (past ++ more) at progress
 pending_more job past more at progress old = λ first is one rest left context node.
     begun_more job past more at (step_form one context node) first (old first is one rest left context node)
 
 -- of a node whose turn it is
-turn_pending : (job : JobState) (past happened : List (Timed OtherCall)) (rank : ℕ) (machine : Machine) (entry : Entry)
+turn_pending : (job : JobState) (past happened : List (EventAt OtherCall)) (rank : ℕ) (machine : Machine) (entry : Entry)
     → Happened job past happened rank machine entry
     → ((thread : ℕ) → IsPending job past (record { rank = rank; thread = thread }) (machine.own.threads thread))
     → (thread : ℕ) → IsPending job (past ++ happened) (record { rank = rank; thread = thread })
@@ -488,7 +488,7 @@ turn_pending job past happened rank machine entry H old thread = elim (cases_eq 
 
 -- what is known between two entries: the records are those of the machines, and what their steps began stands in the
 -- events of the past
-pub record Stands (job : JobState) (past : List (Timed OtherCall)) (machines : Machines EndpointLocal (OwnScripts ScriptStep))
+pub record Stands (job : JobState) (past : List (EventAt OtherCall)) (machines : Machines EndpointLocal (OwnScripts ScriptStep))
     : Type 0 where
   pub nodes : (rank : ℕ) → records_after job past rank ≡ (machines rank).node
   pub pending : ArePending job past machines
@@ -506,7 +506,7 @@ machine_apart : (job : JobState) (machines : Machines EndpointLocal (OwnScripts 
 machine_apart job machines item rank apart =
     put_other machines item.node (turn_of (script_job job) machines item).after rank apart
 
-pub stands_on : (job : JobState) (past happened : List (Timed OtherCall))
+pub stands_on : (job : JobState) (past happened : List (EventAt OtherCall))
     (machines : Machines EndpointLocal (OwnScripts ScriptStep)) (item : NodeEntry) → Stands job past machines
     → Happened job past happened item.node (machines item.node) item.entry
     → Stands job (past ++ happened) (after_item (script_job job) machines item)
@@ -545,13 +545,13 @@ stands_on job past happened machines item S H = record {
     events = turn_events (script_job job) item.node (machines item.node) item.entry.thread item.entry.now item.entry.got
 
 -- a step that ended in the turn of an item
-pub record EndsInRun (job : JobState) (past run : List (Timed OtherCall)) (rank : ℕ) (machine : Machine) (entry : Entry)
+pub record EndsInRun (job : JobState) (past run : List (EventAt OtherCall)) (rank : ℕ) (machine : Machine) (entry : Entry)
     (answer : ScriptAnswer) : Type 0 where
   pub ends : EndsInTurn job past run rank machine entry (machine.own.threads entry.thread).left answer
   pub node_is : records_after job run rank ≡ (machine_after job rank machine entry).node
 
-pub items_end : (job : JobState) (items : List NodeEntry) (turns : List (List (Timed OtherCall)))
-    (past : List (Timed OtherCall)) (machines : Machines EndpointLocal (OwnScripts ScriptStep))
+pub items_end : (job : JobState) (items : List NodeEntry) (turns : List (List (EventAt OtherCall)))
+    (past : List (EventAt OtherCall)) (machines : Machines EndpointLocal (OwnScripts ScriptStep))
     → AreTurns (script_job job) machines (records_after job past) items turns → Stands job past machines
     → (place : ℕ) (item : NodeEntry) → slice_get items place ≡ Some item → (answer : ScriptAnswer)
     → answer_of_step job item.node (after_all (script_job job) machines (take place items) item.node) item.entry
@@ -581,18 +581,18 @@ items_end job (first ∷ items) (happened ∷ turns) past machines are S zero it
     here : answer_of_step job first.node (machines first.node) first.entry ≡ Some answer
         → EndsInRun job (past ++ []) (past ++ (happened ++ [])) first.node (machines first.node) first.entry answer
     here is =
-        subst (λ (before : List (Timed OtherCall)). EndsInRun job before (past ++ (happened ++ [])) first.node
+        subst (λ (before : List (EventAt OtherCall)). EndsInRun job before (past ++ (happened ++ [])) first.node
         (machines first.node) first.entry answer) (sym (append-nil past))
-        (subst (λ (last : List (Timed OtherCall)). EndsInRun job past (past ++ last) first.node (machines first.node)
+        (subst (λ (last : List (EventAt OtherCall)). EndsInRun job past (past ++ last) first.node (machines first.node)
         first.entry answer) (sym (append-nil happened)) (turned is))
 items_end job (first ∷ items) (happened ∷ turns) past machines are S (suc place) item there answer ends =
     let H : Happened job past happened first.node (machines first.node) first.entry =
     record { node_is = S.nodes first.node; are = are.0.events } in
     let machine = after_all (script_job job) (after_item (script_job job) machines first) (take place items) item.node in
-    subst (λ (before : List (Timed OtherCall)). EndsInRun job before
+    subst (λ (before : List (EventAt OtherCall)). EndsInRun job before
     (past ++ (happened ++ first_turns (suc place) turns)) item.node machine item.entry answer)
     (append_assoc past happened (first_turns place turns))
-    (subst (λ (run : List (Timed OtherCall)). EndsInRun job ((past ++ happened) ++ first_turns place turns) run item.node
+    (subst (λ (run : List (EventAt OtherCall)). EndsInRun job ((past ++ happened) ++ first_turns place turns) run item.node
     machine item.entry answer) (append_assoc past happened (first_turns (suc place) turns))
     (items_end job items turns (past ++ happened) (after_item (script_job job) machines first)
     (subst (λ (w : Records). AreTurns (script_job job) (after_item (script_job job) machines first) w items turns)

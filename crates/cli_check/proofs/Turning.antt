@@ -17,15 +17,15 @@ use Rattle.text_job.specs.declared.job.Job.{Job as JobState}
 use Rattle.base_turns.specs.declared.entry.Entry.{Entry}
 use Rattle.base_turns.specs.declared.turns.Turned.{Turned}
 use Rattle.proc_machine.specs.Kept.{MachineKept}
-use Rattle.proc_machine.specs.NodeState.{NodeState, NodeStands, after_turn, opening_state, script_job, turned}
+use Rattle.proc_machine.specs.NodeState.{NodeState, NodeStands, after_turn, opening_state, script_job, turn_result}
 use Rattle.spec_node.specs.Executed.{slots_run}
-use Rattle.spec_node.specs.Held.{held, held_with}
+use Rattle.spec_node.specs.Held.{held_buffers, held_with}
 use Rattle.spec_node.specs.Record.{Node as Record}
 use Rattle.law_traces.specs.Turn.{is_some_there, try_of, turn}
 use Rattle.text_script.specs.AnswersTold.{sight_at}
 use Rattle.text_script.specs.AnswerWords.{sight_of}
 use Rattle.base_text.specs.LineTexts.{Line, line_text, spell}
-use Rattle.text_script.specs.Registration.{handlers_of, registered}
+use Rattle.text_script.specs.Registration.{handlers_of, registry_of}
 use Rattle.law_traces.specs.declared.script_answer.ScriptAnswer.{ScriptAnswer}
 use Rattle.cli_check.specs.Merging.{IsOfItsJob}
 use Rattle.cli_check.specs.Recording.{BeginningsNameNothing, RecordedState, RecorderKept, RecorderStands, ScriptedNode}
@@ -42,7 +42,7 @@ pub text_more : (old new : Gathering SinkState) (bytes : List ℕ)
     → Gathers (outbox (λ s. Some s.taken) (λ s. s.faults) old) (outbox (λ s. Some s.taken) (λ s. s.faults) new) bytes
     → text_of new ≡ text_of old ++ bytes
 text_more old new bytes gathers =
-    ap (λ (front : List ℕ). front ++ new.pending) gathers.given
+    ap (λ (prefix : List ℕ). prefix ++ new.pending) gathers.given
     ∙ append_assoc old.inner.taken gathers.gone new.pending
     ∙ ap (λ (rest : List ℕ). old.inner.taken ++ rest) (sym gathers.whole)
     ∙ sym (append_assoc old.inner.taken old.pending bytes)
@@ -53,7 +53,7 @@ text_more old new bytes gathers =
 pub record Turns (entry : Entry) (old new : MachineKept) (told : Turned) : Type 0 where
   pub after : (state : NodeState) → NodeStands old state
       → NodeStands new (after_turn state entry.thread entry.now entry.got)
-  pub tells : (state : NodeState) → NodeStands old state → told ≡ turned state entry.thread entry.now entry.got
+  pub tells : (state : NodeState) → NodeStands old state → told ≡ turn_result state entry.thread entry.now entry.got
 
 none_of : {A : Type 0} (found : Option A) → is_some found ≡ false → found ≡ None
 none_of None is = refl
@@ -159,13 +159,13 @@ module _ (entry : Entry) (old new : MachineKept) (told : Turned) (turns : Turns 
 
 -- what the endpoint of a machine holds is what its state does
 pub held_so : (kept : MachineKept) (state : NodeState) (value : ℕ) → NodeStands kept state → IsOfItsJob kept
-    → ForItsRecord kept.endpoint (λ node. value ≡ held kept.endpoint.core.settings kept.endpoint.core.me node)
+    → ForItsRecord kept.endpoint (λ node. value ≡ held_buffers kept.endpoint.core.settings kept.endpoint.core.me node)
     → value ≡ held_in state
 held_so kept state value stands own holds =
     holds state.ranked.state.node stands.node
-    ∙ ap (λ (s : Parameters). held s kept.endpoint.core.me state.ranked.state.node)
+    ∙ ap (λ (s : Parameters). held_buffers s kept.endpoint.core.me state.ranked.state.node)
     (own.settings_are ∙ ap (λ (one : JobState). one.settings) (sym stands.job_is))
-    ∙ ap (λ n. held state.job.settings n state.ranked.state.node) (sym stands.me_is)
+    ∙ ap (λ n. held_buffers state.job.settings n state.ranked.state.node) (sym stands.me_is)
 
 at_most : (a b : ℕ) → b ≤ max a b
 at_most a b = omega arith
@@ -177,34 +177,34 @@ no_more a b less = omega arith
 
 -- what the turn of an entry does to it
 pub record Records (entry : Entry) (old new : RecorderKept) (turned : Turned) : Type 0 where
-  pub turns : Turns entry old.node new.node turned
+  pub turns : Turns entry old.node new.node turn_result
   pub own : IsOfItsJob new.node
   pub rank_is : new.rank ≡ old.rank
   pub told : Bool
-  pub tells : TellsStep (record { rank = old.rank; thread = entry.thread }) turned.stepped new.node old.text new.text
+  pub tells : TellsStep (record { rank = old.rank; thread = entry.thread }) turn_result.stepped new.node old.text new.text
       told
   pub whole_is : new.whole ≡ true → (old.whole ≡ true) × (told ≡ true)
   pub value : ℕ
   pub holds : ForItsRecord new.node.endpoint (λ node.
-      value ≡ held new.node.endpoint.core.settings new.node.endpoint.core.me node)
+      value ≡ held_buffers new.node.endpoint.core.settings new.node.endpoint.core.me node)
   pub most_is : new.most ≡ max old.most value
 
 -- so it is where the endpoint of the node told this
 pub own_node : (kept : MachineKept) (endpoint : EndpointState) → endpoint ≡ kept.endpoint
-    → IsNodeOf kept.job.settings (registered (handlers_of kept.job)).table endpoint.core.me endpoint → IsOfItsJob kept
+    → IsNodeOf kept.job.settings (registry_of (handlers_of kept.job)).table endpoint.core.me endpoint → IsOfItsJob kept
 own_node kept endpoint same node =
     subst
-    (λ (one : EndpointState). IsNodeOf kept.job.settings (registered (handlers_of kept.job)).table one.core.me one)
+    (λ (one : EndpointState). IsNodeOf kept.job.settings (registry_of (handlers_of kept.job)).table one.core.me one)
     same node
 
 pub own_held : (kept : MachineKept) (endpoint : EndpointState) (value : ℕ) → endpoint ≡ kept.endpoint
-    → ForItsRecord endpoint (λ node. value ≡ held endpoint.core.settings endpoint.core.me node)
-    → ForItsRecord kept.endpoint (λ node. value ≡ held kept.endpoint.core.settings kept.endpoint.core.me node)
+    → ForItsRecord endpoint (λ node. value ≡ held_buffers endpoint.core.settings endpoint.core.me node)
+    → ForItsRecord kept.endpoint (λ node. value ≡ held_buffers kept.endpoint.core.settings kept.endpoint.core.me node)
 own_held kept endpoint value same holds =
-    subst (λ (one : EndpointState). ForItsRecord one (λ node. value ≡ held one.core.settings one.core.me node)) same
+    subst (λ (one : EndpointState). ForItsRecord one (λ node. value ≡ held_buffers one.core.settings one.core.me node)) same
     holds
 
-module _ (entry : Entry) (old new : RecorderKept) (turned : Turned) (records : Records entry old new turned)
+module _ (entry : Entry) (old new : RecorderKept) (turned : Turned) (records : Records entry old new turn_result)
     (state : RecordedState) (stands : RecorderStands old state) where
   -- it is that of the state after the turn
   pub recorded : RecorderStands new (record_after state entry.thread entry.now entry.got)
@@ -223,12 +223,12 @@ module _ (entry : Entry) (old new : RecorderKept) (turned : Turned) (records : R
         text_is = λ whole.
             let both = records.whole_is whole in
             let after = (state_then state.node entry).ranked.state.node in
-            let told = if turned.stepped then lines_told (record { rank = old.rank; thread = entry.thread })
+            let told = if turn_result.stepped then lines_told (record { rank = old.rank; thread = entry.thread })
             (sight_at new.node.endpoint after) new.node.answer else [] in
             records.tells both.1 after node.node
             ∙ ap (λ (text : List ℕ). text ++ spell told) (stands.text_is both.0)
             ∙ ap (λ (lines : List Line). spell state.lines ++ spell lines)
-            (lines_so entry old.node new.node turned records.turns state.node stands.node old.rank stands.rank_is
+            (lines_so entry old.node new.node turn_result records.turns state.node stands.node old.rank stands.rank_is
             records.own)
             ∙ sym (flat_map-append line_text state.lines (lines_in state.node entry));
         most_is = most;
@@ -236,7 +236,7 @@ module _ (entry : Entry) (old new : RecorderKept) (turned : Turned) (records : R
       }
 
   -- where it ended no step and left the state of the node, it is that of the state before it
-  pub still : turned.stepped ≡ false → NodeStands new.node state.node → RecorderStands new state
+  pub still : turn_result.stepped ≡ false → NodeStands new.node state.node → RecorderStands new state
   still none node =
       let value = held_so new.node state.node records.value node records.own records.holds in
       record {
@@ -308,7 +308,7 @@ runs_none zero = refl
 runs_none (suc n) = let before = runs_none n in omega arith
 
 -- a node that did nothing holds nothing
-opening_holds : (settings : Parameters) (me : ℕ) → held settings me (at_the_opening settings me) ≤ 0
+opening_holds : (settings : Parameters) (me : ℕ) → held_buffers settings me (at_the_opening settings me) ≤ 0
 opening_holds settings me =
     let none = sum_none (held_with settings me (at_the_opening settings me)) settings.nodes
     (λ peer. zero-add (slots_run [] (credits_of settings peer me)) ∙ runs_none (credits_of settings peer me)) in
@@ -318,7 +318,7 @@ opening_holds settings me =
 pub no_text : (sink : Gathering SinkState) (inner : SinkState) → sink.inner ≡ inner → sink.pending ≡ []
     → inner.taken ≡ [] → text_of sink ≡ []
 no_text sink inner same none nothing =
-    ap₂ (λ (front back : List ℕ). front ++ back) (ap (λ (it : SinkState). it.taken) same ∙ nothing) none
+    ap₂ (λ (prefix back : List ℕ). prefix ++ back) (ap (λ (it : SinkState). it.taken) same ∙ nothing) none
 
 pub opened : (job : JobState) (rank : ℕ) (node : MachineKept) (text : List ℕ)
     → NodeStands node (opening_state job rank) → text ≡ []

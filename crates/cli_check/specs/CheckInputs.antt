@@ -17,9 +17,9 @@ use Rattle.text_trace.specs.declared.fault.TraceFault.TheVariants as tracefaults
 use Rattle.text_trace.specs.declared.output.Output.{Output}
 use Rattle.text_trace.specs.declared.output.Wanted.{Wanted}
 use Rattle.text_trace.specs.declared.trace.Trace.{Trace}
-use Rattle.text_job.specs.JobReading.{BadLine, front_of}
+use Rattle.text_job.specs.JobReading.{BadLine, prefix_of}
 use Rattle.text_job.specs.JobText.{BeginsWith, IsJob, job_text}
-use Rattle.text_job.specs.Refusals.{FrontMeans}
+use Rattle.text_job.specs.Refusals.{PrefixMeans}
 use Rattle.base_text.specs.declared.why.LineWhy.{LineWhy}
 use Rattle.base_text.specs.declared.why.LineWhy.TheVariants as why
 use Rattle.text_job.specs.declared.job.Job.{Job as JobState}
@@ -108,10 +108,10 @@ all_of job bytes (Ok read) =
     else Ok (job, read.0)
 all_of job bytes (Err bad) = Err bad
 
--- the job's text at the front is bad at this line
-pub record IsBadFront (bytes : List ℕ) (line : ℕ) (reason : LineWhy) : Type 0 where
-  pub read : front_of bytes ≡ Err (record { line = line; why = reason })
-  pub means : FrontMeans bytes line reason
+-- the job's text at the prefix is bad at this line
+pub record IsBadPrefix (bytes : List ℕ) (line : ℕ) (reason : LineWhy) : Type 0 where
+  pub read : prefix_of bytes ≡ Err (record { line = line; why = reason })
+  pub means : PrefixMeans bytes line reason
 
 -- where outputs are read: of the nodes of a job, from this place of the bytes on
 pub record OutputsOf : Type 0 where
@@ -152,19 +152,19 @@ pub record HasMoreBehind (place : OutputsOf) (line : ℕ) (reason : LineWhy) : T
 pub record IsMeantBehind (bytes : List ℕ) (line : ℕ) (reason : LineWhy) : Type 0 where
   pub job : JobState
   pub size : ℕ
-  pub front : BeginsWith job size bytes
+  pub prefix : BeginsWith job size bytes
   pub means : IsBadOutput (record { job = job; bytes = bytes; from = size }) line reason
       ⊎ HasMoreBehind (record { job = job; bytes = bytes; from = size }) line reason
 
 -- what a refusal of an input at a line means, apart from the reader
 abbrev pub InputMeans : List ℕ → (line : ℕ) → LineWhy → Type 0
-InputMeans bytes line reason = FrontMeans bytes line reason ⊎ IsMeantBehind bytes line reason
+InputMeans bytes line reason = PrefixMeans bytes line reason ⊎ IsMeantBehind bytes line reason
 
 -- the bytes begin with a job's text, and an output behind it is bad at this line, or it is a line behind all outputs
 pub record IsBadBehind (bytes : List ℕ) (line : ℕ) (reason : LineWhy) : Type 0 where
   pub job : JobState
   pub size : ℕ
-  pub front : BeginsWith job size bytes
+  pub prefix : BeginsWith job size bytes
   pub read : all_of job bytes (outputs_at job bytes size 0 job.settings.nodes)
       ≡ Err (record { line = line; why = reason })
 
@@ -223,7 +223,7 @@ pub record IsInput (bytes : List ℕ) (job : JobState) (outputs : List Output) :
 -- the bytes are none, by this line, for this reason, and by no other, and aren't too many
 pub record IsBadInput (bytes : List ℕ) (line : ℕ) (reason : LineWhy) : Type 0 where
   pub within : length bytes ≤ input_limit
-  pub line_is : IsBadFront bytes line reason ⊎ IsBadBehind bytes line reason
+  pub line_is : IsBadPrefix bytes line reason ⊎ IsBadBehind bytes line reason
   pub means : InputMeans bytes line reason
   pub only : (other : ℕ) (why : LineWhy) → InputMeans bytes other why → (line ≡ other) × (reason ≡ why)
   pub none : IsNoInput bytes

@@ -1,6 +1,6 @@
 pub mod CheckInputs
 pub mod Statuses
-pub mod Struck
+pub mod Rejected
 pub mod TracesRun
 pub mod StepLines
 pub mod Recording

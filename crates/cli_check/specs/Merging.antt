@@ -10,7 +10,7 @@ use Rattle.text_trace.specs.declared.trace.Trace.{Trace}
 use Rattle.text_job.specs.declared.job.Job.{Job as JobState}
 use Rattle.proc_machine.specs.Kept.{MachineKept}
 use Rattle.base_text.specs.LineTexts.{spell}
-use Rattle.text_script.specs.Registration.{handlers_of, registered}
+use Rattle.text_script.specs.Registration.{handlers_of, registry_of}
 use Rattle.cli_check.specs.Recording.{RecorderKept, RecorderStands, opening_record}
 use Rattle.cli_check.specs.StepLines.{most_held, step_lines}
 use Rattle.cli_check.specs.Machines.{first_machine}
@@ -28,7 +28,8 @@ pub record AreFirstRecorders (job : JobState) (recorders : List RecorderKept) : 
 -- the endpoint of a machine is that of a node of its job
 abbrev pub IsOfItsJob : MachineKept → Type 0
 IsOfItsJob machine =
-    IsNodeOf machine.job.settings (registered (handlers_of machine.job)).table machine.endpoint.core.me machine.endpoint
+    IsNodeOf machine.job.settings
+    (registry_of (handlers_of machine.job)).table machine.endpoint.core.me machine.endpoint
 
 -- these are the endpoint of a recorder whose text is whole, and what was recorded
 pub record ClosesRecorder (kept : RecorderKept) (endpoint : EndpointState) (report : NodeReport) : Type 0 where

@@ -7,7 +7,7 @@ use Rattle.node_endpoint.specs.EndpointState.{ForItsRecord}
 use Rattle.text_trace.specs.declared.output.Output.{Output}
 use Rattle.text_job.specs.declared.job.Job.{Job as JobState}
 use Rattle.base_lists.specs.Sums.{sum_below}
-use Rattle.base_turns.specs.Replay.{replayed}
+use Rattle.base_turns.specs.Replay.{replay_state}
 use Rattle.base_turns.specs.declared.entry.Entry.{Entry}
 use Rattle.proc_machine.specs.Kept.{are_done}
 use Rattle.spec_node.specs.Record.{Node}
@@ -16,7 +16,7 @@ use Rattle.spec_node.specs.declared.answer.Side.TheVariants as side
 use Rattle.text_replay.specs.Sending.{sent_from}
 use Rattle.text_replay.specs.declared.replaying.Replayed.{Replayed}
 use Rattle.cli_check.specs.Recording.{RecordedState, RecorderKept, RecorderStands, opening_record, record_steps}
-use Rattle.cli_check.specs.Struck.{refused_turns, struck_entries, struck_trace}
+use Rattle.cli_check.specs.Rejected.{refused_turns, rejected_entries, rejected_trace}
 use Rattle.cli_check.specs.declared.node_replay.NodeReplay.{NodeReplay}
 
 -- ---- requests
@@ -44,14 +44,14 @@ open_requests settings me node = open_among settings me node 256
 -- the node of this rank after the first of these entries, less what it refuses
 abbrev pub state_after : JobState → (rank turns : ℕ) → List Entry → RecordedState
 state_after job rank turns entries =
-    replayed record_steps (opening_record job rank) (take turns (struck_entries job rank entries))
+    replay_state record_steps (opening_record job rank) (take turns (rejected_entries job rank entries))
 
 -- this is what the output of the node of this rank tells: what its machine keeps after the turns that it took, which
 -- may be fewer than all, with the lines of the steps that ended in them and what they sent
 pub record ReplaysOutput (job : JobState) (rank : ℕ) (output : Output) (found : NodeReplay)
     (turns : Replayed) : Type 0 where
   pub status_is : found.status ≡ output.status
-  pub trace_is : found.trace ≡ struck_trace job rank output.trace
+  pub trace_is : found.trace ≡ rejected_trace job rank output.trace
   pub refused_is : found.refused ≡ refused_turns job rank output.trace.entries
   pub within : turns.turns ≤ length found.trace.entries
   pub kept : RecorderKept
@@ -61,7 +61,7 @@ pub record ReplaysOutput (job : JobState) (rank : ℕ) (output : Output) (found 
   pub steps_are : found.steps.taken ≡ kept.text
   pub over_is : found.over ≡ are_done kept.node.scripts
   pub open_is : ForItsRecord found.node (λ node.
-      found.unreturned ≡ open_requests found.node.core.settings found.node.core.me node)
+      found.outstanding ≡ open_requests found.node.core.settings found.node.core.me node)
   pub sent_is : turns.sent.items
       ≡ sent_from record_steps (opening_record job rank) 1
-      (take turns.turns (struck_entries job rank output.trace.entries))
+      (take turns.turns (rejected_entries job rank output.trace.entries))

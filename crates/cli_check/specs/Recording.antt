@@ -8,8 +8,9 @@ use Rattle.text_steps.specs.declared.steps.ScriptStep.{ScriptStep}
 use Rattle.base_turns.specs.declared.entry.Entry.{Entry}
 use Rattle.base_turns.specs.Replay.{Steps}
 use Rattle.proc_machine.specs.Kept.{MachineKept}
-use Rattle.proc_machine.specs.NodeState.{NodeState, NodeStands, after_turn, opening_state, polls_in, sent, turned}
-use Rattle.spec_node.specs.Held.{held}
+use Rattle.proc_machine.specs.NodeState.{NodeState, NodeStands, after_turn, opening_state, polls_in, sent_datagrams}
+use Rattle.proc_machine.specs.NodeState.{turn_result}
+use Rattle.spec_node.specs.Held.{held_buffers}
 use Rattle.law_traces.specs.Actions.{OwnScripts}
 use Rattle.law_traces.specs.Turn.{MachineState}
 use Rattle.base_text.specs.LineTexts.{Line, spell}
@@ -38,7 +39,7 @@ pub record RecordedState : Type 0 where
 
 -- how many it holds
 abbrev pub held_in : NodeState → ℕ
-held_in state = held state.job.settings state.ranked.me state.ranked.state.node
+held_in state = held_buffers state.job.settings state.ranked.me state.ranked.state.node
 
 -- the state after the turn of a thread at a time, with a datagram that was got or none
 abbrev pub record_after : RecordedState → (thread now : ℕ) → Option (List ℕ) → RecordedState
@@ -54,8 +55,8 @@ abbrev pub record_steps : Steps RecordedState
 record_steps = record {
   polls = λ state. polls_in state.node;
   after = record_after;
-  turned = λ state. turned state.node;
-  sent = λ state. sent state.node;
+  turned = λ state. turn_result state.node;
+  sent = λ state. sent_datagrams state.node;
 }
 
 -- the node of this rank before all turns

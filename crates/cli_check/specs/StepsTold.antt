@@ -10,7 +10,7 @@ use Rattle.node_rules.specs.BarrierCalls.{TryBarrier}
 use Rattle.node_rules.specs.Called.{Requests, Performs, event_at}
 use Rattle.node_rules.specs.EndpointLocal.{EndpointLocal}
 use Rattle.node_rules.specs.EndpointRules.{OtherCall, OnBarrier, OnTransfers, Records, asked_answer, at_the_opening}
-use Rattle.node_rules.specs.EndpointRules.{job_of, timed}
+use Rattle.node_rules.specs.EndpointRules.{job_of, timed_event}
 use Rattle.node_rules.specs.TransferCalls.{TransferCall, Begin, Sync, SyncAll, SyncHandle, SyncImplicit, SyncSome}
 use Rattle.node_rules.specs.declared.answer.Begun.TheVariants as begun
 use Rattle.node_rules.specs.declared.answer.Answer.{Answer}
@@ -34,14 +34,14 @@ use Rattle.law_traces.specs.declared.script_answer.ScriptAnswer.{ScriptAnswer}
 use Rattle.law_traces.specs.declared.script_answer.ScriptAnswer.TheVariants as said
 use Rattle.text_script.specs.Bodies.{script_meaning}
 use Rattle.base_text.specs.LineTexts.{Line}
-use Rattle.text_script.specs.Registration.{handlers_of, registered}
-use Rattle.spec_network.specs.World.{Timed, WorldAnswer, OfNode, run, world_answer}
+use Rattle.text_script.specs.Registration.{handlers_of, registry_of}
+use Rattle.spec_network.specs.World.{EventAt, WorldAnswer, OfNode, run, world_answer}
 use Rattle.part_transfers.specs.declared.operation.Handle.{Handle}
 use Rattle.part_transfers.specs.declared.operation.Synced.TheVariants as synced
 use Rattle.part_transfers.specs.declared.operation.Transfer.{Transfer}
 use Rattle.proc_steps.specs.Forms.{step_form}
 use Rattle.law_transfers.specs.Chunks.{EndpointJob}
-use Rattle.law_transfers.specs.TransferLaws.{Beginning, IsDoneSince, Synchronises, called}
+use Rattle.law_transfers.specs.TransferLaws.{Beginning, IsDoneSince, Synchronises, transfer_event}
 use Rattle.cli_check.specs.StepLines.{StepAt, machine_after, answer_of_step, step_line, step_lines, steps_from}
 use Rattle.cli_check.specs.Machines.{first_machine}
 
@@ -49,10 +49,10 @@ use Rattle.cli_check.specs.Machines.{first_machine}
 
 -- the rules of the job, as the laws of its runs have them
 abbrev pub rules_of : JobState → EndpointJob
-rules_of job = job_of job.settings (registered (handlers_of job)).table (script_meaning (handlers_of job))
+rules_of job = job_of job.settings (registry_of (handlers_of job)).table (script_meaning (handlers_of job))
 
 -- the records of its nodes after these events from the opening on
-abbrev pub records_after : JobState → List (Timed OtherCall) → Records
+abbrev pub records_after : JobState → List (EventAt OtherCall) → Records
 records_after job events = run (rules_of job) events (at_the_opening job.settings)
 
 -- the world's answer to a call is this one
@@ -62,30 +62,30 @@ IsReply (Requests to asking) answer reply =
 IsReply (Performs call) answer reply = reply ≡ OfNode (OfCall answer)
 
 -- the event of a call of a thread at this time
-abbrev pub call_event : StepAt → (now : ℕ) → ThreadCall → Timed OtherCall
-call_event at now call = timed now (event_at at.rank at.thread call)
+abbrev pub call_event : StepAt → (now : ℕ) → ThreadCall → EventAt OtherCall
+call_event at now call = timed_event now (event_at at.rank at.thread call)
 
 -- an event of the run is that the thread makes this call, and there it is answered so
-pub record IsCallMade (job : JobState) (run : List (Timed OtherCall)) (at : StepAt) (call : ThreadCall)
+pub record IsCallMade (job : JobState) (run : List (EventAt OtherCall)) (at : StepAt) (call : ThreadCall)
     (answer : Answer)
     : Type 0 where
-  pub before : List (Timed OtherCall)
+  pub before : List (EventAt OtherCall)
   pub now : ℕ
-  pub later : List (Timed OtherCall)
+  pub later : List (EventAt OtherCall)
   pub run_is : run ≡ before ++ call_event at now call ∷ later
   pub answered : IsReply call answer (world_answer (rules_of job) (records_after job before) (call_event at now call))
 
 -- so it is of an event behind the first ones of the run
-pub record IsMadeSince (job : JobState) (past run : List (Timed OtherCall)) (at : StepAt) (call : ThreadCall)
+pub record IsMadeSince (job : JobState) (past run : List (EventAt OtherCall)) (at : StepAt) (call : ThreadCall)
     (answer : Answer) : Type 0 where
   pub made : IsCallMade job run at call answer
-  pub between : List (Timed OtherCall)
+  pub between : List (EventAt OtherCall)
   pub before_is : made.before ≡ past ++ between
 
 -- ---- how a step ended, in a turn behind these events of the past, where the run is that up to the end of the turn
 
 -- one call was made in the turn, and its answer ended the step
-pub record EndsAtCall (job : JobState) (past run : List (Timed OtherCall)) (at : StepAt) (call : ThreadCall)
+pub record EndsAtCall (job : JobState) (past run : List (EventAt OtherCall)) (at : StepAt) (call : ThreadCall)
     (ends : Answer → Option ScriptAnswer) (answer : ScriptAnswer) : Type 0 where
   pub told : Answer
   pub made : IsMadeSince job past run at call told
@@ -93,7 +93,7 @@ pub record EndsAtCall (job : JobState) (past run : List (Timed OtherCall)) (at :
 
 -- a call began something, in an event before that of the call in the turn which ended the step; what that call is the
 -- answer of the first one says
-pub record EndsLater (job : JobState) (past run : List (Timed OtherCall)) (at : StepAt) (begin : ThreadCall)
+pub record EndsLater (job : JobState) (past run : List (EventAt OtherCall)) (at : StepAt) (begin : ThreadCall)
     (next : Answer → Option ThreadCall) (ends : Answer → Option ScriptAnswer) (answer : ScriptAnswer) : Type 0 where
   pub first : Answer
   pub call : ThreadCall
@@ -104,21 +104,21 @@ pub record EndsLater (job : JobState) (past run : List (Timed OtherCall)) (at : 
   pub ended : ends told ≡ Some answer
 
 -- a call began something, and its answer is the step's
-pub record EndsAsBegun (job : JobState) (run : List (Timed OtherCall)) (at : StepAt) (begin : ThreadCall)
+pub record EndsAsBegun (job : JobState) (run : List (EventAt OtherCall)) (at : StepAt) (begin : ThreadCall)
     (answer : ScriptAnswer) : Type 0 where
   pub first : Answer
   pub begun : IsCallMade job run at begin first
   pub ended : answer ≡ said.Call first
 
 -- the calls of this part of the step were made in the turn, and it ends the step with this answer
-pub record EndsAfterAll (job : JobState) (past run : List (Timed OtherCall)) (at : StepAt) (part : Part)
+pub record EndsAfterAll (job : JobState) (past run : List (EventAt OtherCall)) (at : StepAt) (part : Part)
     (answer : ScriptAnswer) : Type 0 where
   pub each : (place : ℕ) (call : ThreadCall) → slice_get part.calls place ≡ Some call
       → (told : Answer) × IsMadeSince job past run at call told
   pub ended : part.ended ≡ Some answer
 
 -- so it is of a step that is tried in this form, where an earlier try began it with this answer, if one did
-abbrev pub EndsAsTried : JobState → (past run : List (Timed OtherCall)) → StepAt → Form EndpointLocal
+abbrev pub EndsAsTried : JobState → (past run : List (EventAt OtherCall)) → StepAt → Form EndpointLocal
     → (began : Option Answer) → ScriptAnswer → Type 0
 EndsAsTried job past run at (Once call) began answer =
     EndsAtCall job past run at call (λ told. Some (said.Call told)) answer
@@ -168,7 +168,7 @@ abbrev pub before_of : JobState → (rank : ℕ) → MachineState EndpointLocal 
 before_of job rank machine entry = as_tried (script_job job) rank machine entry.thread entry.now entry.got
 
 -- the events of the first so many turns
-abbrev pub first_turns : (count : ℕ) → List (List (Timed OtherCall)) → List (Timed OtherCall)
+abbrev pub first_turns : (count : ℕ) → List (List (EventAt OtherCall)) → List (EventAt OtherCall)
 first_turns zero turns = []
 first_turns (suc count) [] = []
 first_turns (suc count) (turn ∷ turns) = turn ++ first_turns count turns
@@ -176,7 +176,7 @@ first_turns (suc count) (turn ∷ turns) = turn ++ first_turns count turns
 -- a run of traces: its entries in their order, and the events of the turn of each
 pub record RunOrder : Type 0 where
   pub items : List NodeEntry
-  pub turns : List (List (Timed OtherCall))
+  pub turns : List (List (EventAt OtherCall))
 
 -- what this line, counted from 0, tells of the run of these traces: in the turn of its entry, the one of this number of
 -- the run, counted from 0, the step of this number of the thread's script, counted from 0, ended so, by what happened
@@ -212,7 +212,7 @@ pub record IsStepTold (job : JobState) (traces : List Trace) (order : RunOrder) 
 -- events of the later one
 pub record IsLater (order : RunOrder) (turn later : ℕ) : Type 0 where
   pub more : turn < later
-  pub between : List (Timed OtherCall)
+  pub between : List (EventAt OtherCall)
   pub is : first_turns later order.turns ≡ first_turns (suc turn) order.turns ++ between
 
 -- ---- what an answer of a sync and of the barrier says
@@ -226,12 +226,12 @@ tries_barrier id flags = Performs (OnBarrier (TryBarrier id flags))
 
 -- where a sync of the turn was answered Ok, each transfer that began before and that it synchronises was done in
 -- between
-pub record SyncIsMade (job : JobState) (past run : List (Timed OtherCall)) (at : StepAt) (call : TransferCall)
+pub record SyncIsMade (job : JobState) (past run : List (EventAt OtherCall)) (at : StepAt) (call : TransferCall)
     : Type 0 where
   pub made : IsMadeSince job past run at (on_transfer_call call) (answers.Synced synced.Ok)
-  pub done : (beginning : Beginning (rules_of job)) (events : List (Timed OtherCall))
+  pub done : (beginning : Beginning (rules_of job)) (events : List (EventAt OtherCall))
       → made.made.before
-      ≡ beginning.before ++ called beginning.now beginning.node beginning.thread beginning.call ∷ events
+      ≡ beginning.before ++ transfer_event beginning.now beginning.node beginning.thread beginning.call ∷ events
       → Synchronises (rules_of job) (records_after job made.made.before)
       (call_event at made.made.now (on_transfer_call call))
       beginning.node beginning.number
@@ -239,7 +239,7 @@ pub record SyncIsMade (job : JobState) (past run : List (Timed OtherCall)) (at :
 
 -- a transfer was begun by the thread, a sync of its handle in the turn was answered Ok, and in between the transfer was
 -- done
-pub record TransferIsMade (job : JobState) (past run : List (Timed OtherCall)) (at : StepAt) (transfer : Transfer)
+pub record TransferIsMade (job : JobState) (past run : List (EventAt OtherCall)) (at : StepAt) (transfer : Transfer)
     : Type 0 where
   pub handle : Handle
   pub sync : SyncIsMade job past run at (SyncHandle handle)
@@ -249,13 +249,13 @@ pub record TransferIsMade (job : JobState) (past run : List (Timed OtherCall)) (
   pub call_is : beginning.call ≡ Begin None transfer
   pub number_is : beginning.number ≡ handle.serial
   pub transfer_is : beginning.transfer ≡ transfer
-  pub events : List (Timed OtherCall)
+  pub events : List (EventAt OtherCall)
   pub before_is : sync.made.made.before
-      ≡ beginning.before ++ called beginning.now beginning.node beginning.thread beginning.call ∷ events
+      ≡ beginning.before ++ transfer_event beginning.now beginning.node beginning.thread beginning.call ∷ events
   pub done : IsDoneSince (rules_of job) beginning events
 
 -- a try of the barrier in the turn was answered so, which tells the outcome of the notifies of all nodes
-pub record BarrierIsTried (job : JobState) (past run : List (Timed OtherCall)) (at : StepAt) (id : ℤ) (flags : ℕ)
+pub record BarrierIsTried (job : JobState) (past run : List (EventAt OtherCall)) (at : StepAt) (id : ℤ) (flags : ℕ)
     (answer : BarrierAnswer) : Type 0 where
   pub made : IsMadeSince job past run at (tries_barrier id flags) (answers.Barrier answer)
   pub tells : TellsOutcome job.settings (records_after job made.made.before)
@@ -273,11 +273,11 @@ sync_waited other = None
 
 -- what happened before the turn of a line, and up to its end
 abbrev pub past_of : {job : JobState} {traces : List Trace} {order : RunOrder} {line : ℕ} {words : Line}
-    → IsStepTold job traces order line words → List (Timed OtherCall)
+    → IsStepTold job traces order line words → List (EventAt OtherCall)
 past_of {job} {traces} {order} told = first_turns told.turn order.turns
 
 abbrev pub run_told : {job : JobState} {traces : List Trace} {order : RunOrder} {line : ℕ} {words : Line}
-    → IsStepTold job traces order line words → List (Timed OtherCall)
+    → IsStepTold job traces order line words → List (EventAt OtherCall)
 run_told {job} {traces} {order} told = first_turns (suc told.turn) order.turns
 
 -- each line of the steps of a run of these traces tells how its step ended. So an `ok` of a step that waits for

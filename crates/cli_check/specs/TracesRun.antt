@@ -7,13 +7,13 @@ use Rattle.text_trace.specs.Merged.{IsFirstLeft}
 use Rattle.text_trace.specs.declared.trace.Trace.{Trace}
 use Rattle.text_job.specs.declared.job.Job.{Job as JobState}
 use Rattle.base_turns.specs.declared.entry.Entry.{Entry}
-use Rattle.base_turns.specs.Fronts.{Node, IsRun, IsStuck, Reaches, full}
+use Rattle.base_turns.specs.Prefixes.{Node, IsRun, IsStuck, Reaches, full}
 use Rattle.proc_machine.specs.Laws.{IsRunOf, nodes_of_job, order_by}
 use Rattle.proc_machine.specs.NodeState.{NodeState, state_steps}
 use Rattle.law_traces.specs.Order.{own_entries}
-use Rattle.text_script.specs.Registration.{handlers_of, registered}
+use Rattle.text_script.specs.Registration.{handlers_of, registry_of}
 use Rattle.node_rules.specs.EndpointRules.{OtherCall}
-use Rattle.spec_network.specs.World.{Timed}
+use Rattle.spec_network.specs.World.{EventAt}
 use Rattle.cli_check.specs.Machines.{last_record}
 use Rattle.cli_check.specs.StepsTold.{LinesTell}
 
@@ -29,13 +29,13 @@ first_nodes job traces = nodes_of_job job (entries_of traces)
 abbrev pub AreARun : JobState → List Trace → Type 0
 AreARun job traces = IsRun state_steps (first_nodes job traces)
 
--- they are none. At the one front that is reached and where entries are left, but none can go, this node is the
+-- they are none. At the one prefix that is reached and where entries are left, but none can go, this node is the
 -- smallest with an entry left, and this is the number of that entry, counted from 1
 pub record AreNoRun (job : JobState) (traces : List Trace) (node entry : ℕ) : Type 0 where
-  pub front : List ℕ
-  pub stuck : IsStuck state_steps (first_nodes job traces) front
-  pub first : IsFirstLeft (first_nodes job traces) front node
-  pub entry_is : entry ≡ slice_index front node + 1
+  pub prefix : List ℕ
+  pub stuck : IsStuck state_steps (first_nodes job traces) prefix
+  pub first : IsFirstLeft (first_nodes job traces) prefix node
+  pub entry_is : entry ≡ slice_index prefix node + 1
   pub none : AreARun job traces → ⊥
 
 -- they are one: the entries, in the order of these ranks, are a run of the job's world, with all that holds of every
@@ -44,7 +44,7 @@ pub record AreNoRun (job : JobState) (traces : List Trace) (node entry : ℕ) : 
 pub record RunOfTraces (job : JobState) (traces : List Trace) : Type 0 where
   pub ranks : List ℕ
   pub reached : Reaches state_steps (first_nodes job traces) ranks (full (first_nodes job traces))
-  pub turns : List (List (Timed OtherCall))
+  pub turns : List (List (EventAt OtherCall))
   pub run : IsRunOf job (order_by job (entries_of traces) ranks) turns
   pub own : (rank : ℕ) (entries : List Entry) → slice_get (entries_of traces) rank ≡ Some entries
       → own_entries rank (order_by job (entries_of traces) ranks) ≡ entries
@@ -54,7 +54,7 @@ pub record RunOfTraces (job : JobState) (traces : List Trace) : Type 0 where
 
 -- the endpoint is that node, after its trace
 pub record IsNodeAfter (job : JobState) (rank : ℕ) (trace : Trace) (endpoint : EndpointState) : Type 0 where
-  pub node : IsNodeOf job.settings (registered (handlers_of job)).table rank endpoint
+  pub node : IsNodeOf job.settings (registry_of (handlers_of job)).table rank endpoint
   pub stands : EndpointStands endpoint (last_record job rank trace.entries)
 
 -- they are the nodes of the job after their traces, in rising order of ranks

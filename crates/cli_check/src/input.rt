@@ -11,7 +11,7 @@ use base_io::{MAX_OUTPUT, ReadAll, Source, read_all};
 use base_text::LineWhy;
 use std::alloc::Global;
 use std::fmt;
-use text_job::{Job, JobFault, read_job_front};
+use text_job::{Job, JobFault, read_job_prefix};
 use text_trace::{Output, TraceFault, Wanted, read_output};
 
 /// The most bytes of an input: as many as the output of a child may have.
@@ -120,8 +120,8 @@ pub fn input_of(alloc: Global, bytes: &[u8]) -> Result<CheckInput, InputFault>
     ensures { MatchResult result (λ input. IsInput bytes.now input.job input.outputs.items)
         (IsRefused bytes.now) }
 {
-    let (job, from) = match read_job_front(alloc, bytes) {
-        Ok(front) => front,
+    let (job, from) = match read_job_prefix(alloc, bytes) {
+        Ok(prefix) => prefix,
         Err(JobFault::Bad { line, why }) => return Err(InputFault::Bad { line, why }),
         Err(JobFault::NoMemory) => return Err(InputFault::NoMemory),
     };

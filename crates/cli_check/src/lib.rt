@@ -6,20 +6,20 @@
 //!   nodes exactly where they are the text of such (`InputText`), as that; else the fault names the first bad line,
 //!   counted over all of them, and the first reason that applies to it (`IsBadInput`), and they are the text of none;
 //!   or the source failed, or memory ran out. What a refusal means apart from the reader: of the job's text
-//!   `FrontMeans` of `text_job`; behind it outputs of some nodes, and the next one is refused as `Means` of
+//!   `PrefixMeans` of `text_job`; behind it outputs of some nodes, and the next one is refused as `Means` of
 //!   `text_trace` says (`IsBadOutput`); or those of all, and a byte behind them (`HasMoreBehind`). It means that of
 //!   this line and this reason alone [`only`], and of an input that was read of none [`unrefused`].
 //! - `first_failed` [`IsFirstFailed`, `AreOver`] is the smallest rank of a node that ended with a status other than 0
 //!   and 1.
-//! - `run_traces` [`EndsTraces`]: bytes that their node refuses, whatever it did before, are struck from the traces
-//!   first (`struck_traces`): an entry that got such bytes is one that got nothing. How many those are is told to
-//!   `Notes` (`refused_turns`). It ends as `NotARun` only where the struck traces are no run (`AreNoRun`), with the
-//!   smallest node with an entry left at the one stuck front. Else it ends as `Done`, and what is written is the text
+//! - `run_traces` [`EndsTraces`]: bytes that their node refuses, whatever it did before, are rejected from the traces
+//!   first (`rejected_traces`): an entry that got such bytes is one that got nothing. How many those are is told to
+//!   `Notes` (`refused_turns`). It ends as `NotARun` only where the rejected traces are no run (`AreNoRun`), with the
+//!   smallest node with an entry left at the one stuck prefix. Else it ends as `Done`, and what is written is the text
 //!   of the run (`run_lines`: the answer of each step of a script, where it ended, and the lines of each node), or as
-//!   the sink failed, a front of it. Then the struck traces are a run of the world (`RunOfTraces`, with all that
+//!   the sink failed, a prefix of it. Then the rejected traces are a run of the world (`RunOfTraces`, with all that
 //!   `IsWorldRun` of `law_traces` says: the headline, the laws of transfers and of the barrier), and the endpoints that
-//!   are given stand for the records that this run leaves its nodes [`nodes_of_run`]. By the law of `law_refused` these
-//!   are the records that each node's trace leaves as it was read [`nodes_after`: `AreNodesAfter`]. Or it ends as
+//!   are given stand for the records that this run leaves its nodes [`nodes_of_run`]. By the law of `law_rejected`
+//!   these are the records that each node's trace leaves as it was read [`nodes_after`: `AreNodesAfter`]. Or it ends as
 //!   `NoMemory`: the body writes nothing then, but the clause allows whole lines of a run (`EndsHalfway`). Each line of
 //!   a step tells which step of which thread ended, in which turn of the run, by which calls and with what answers
 //!   (`LinesTell`): so an `ok` of a sync, of a blocking transfer and of the barrier is that of a call of that very
@@ -44,10 +44,10 @@ mod node_replay;
 mod notes;
 mod outputs;
 mod recorder;
+mod rejecting;
 mod requests;
 mod run;
 mod steps;
-mod striking;
 
 pub use checks::{Failed, first_failed, traces_of};
 pub use input::{CheckInput, InputFault, read_input};

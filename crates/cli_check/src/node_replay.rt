@@ -3,12 +3,12 @@
 ghost use Rattle.std.specs.Prelude.{◌≡◌, ◌<◌, IfOk, IfSome, IsSomeAnd, is_some, slice_get, true};
 ghost use Rattle.text_job.specs.JobText.{IsJob};
 ghost use Rattle.cli_check.specs.NodeReplays.{ReplaysOutput};
-ghost use Rattle.cli_check.specs.Struck.{OfItsNode, is_refusal, refuses_at, refuses_got};
+ghost use Rattle.cli_check.specs.Rejected.{OfItsNode, is_refusal, refuses_at, refuses_got};
 
 use crate::notes::NoNotes;
 use crate::recorder::Recorder;
+use crate::rejecting::{refused_turns, rejected_trace};
 use crate::requests::open_requests;
-use crate::striking::{refused_turns, struck_trace};
 use base_io::MemorySink;
 use base_turns::{Entry, Machine};
 use node_endpoint::Endpoint;
@@ -43,7 +43,7 @@ pub struct NodeReplay {
     /// Whether no script has a step left after it.
     pub over: bool,
     /// How many requests of the node aren't back after it.
-    pub unreturned: usize,
+    pub outstanding: usize,
     /// The node after it.
     pub node: Endpoint,
 }
@@ -108,7 +108,7 @@ pub fn replay_output(
     let mut recorder = Recorder::new(alloc, job, rank)?;
     let refused = refused_turns(recorder.endpoint(), trace.entries.as_slice());
     let first_refused = first_refused(recorder.endpoint(), trace.entries.as_slice());
-    let Ok(trace) = struck_trace(alloc, recorder.endpoint(), trace, &mut NoNotes) else {
+    let Ok(trace) = rejected_trace(alloc, recorder.endpoint(), trace, &mut NoNotes) else {
         drop(recorder);
         return Err(AllocError);
     };
@@ -125,7 +125,7 @@ pub fn replay_output(
         first_refused,
         steps: report.text,
         over,
-        unreturned: open_requests(&node),
+        outstanding: open_requests(&node),
         node,
     };
     Ok((found, replayed))

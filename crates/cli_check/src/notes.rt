@@ -4,7 +4,7 @@
 pub trait Notes {
     /// The node of this rank refused the bytes that so many of its turns got, whatever it did before: the traces are
     /// judged without them.
-    fn struck(&mut self, rank: u16, turns: usize);
+    fn rejected(&mut self, rank: u16, turns: usize);
 }
 
 /// Nobody is told anything.
@@ -13,5 +13,5 @@ pub struct NoNotes;
 
 impl Notes for NoNotes {
     /// Nothing.
-    fn struck(&mut self, _rank: u16, _turns: usize) {}
+    fn rejected(&mut self, _rank: u16, _turns: usize) {}
 }

@@ -5,7 +5,7 @@ ghost use Rattle.text_job.specs.JobText.{IsJob};
 ghost use Rattle.text_job.specs.declared.job.Job.{Job as JobState};
 ghost use Rattle.cli_check.specs.Merging.{ClosesRecorder};
 ghost use Rattle.cli_check.specs.Recording.{RecorderStands, opening_record, text_of};
-ghost use Rattle.cli_check.specs.Struck.{IsEndpointAt};
+ghost use Rattle.cli_check.specs.Rejected.{IsEndpointAt};
 
 use crate::steps::{StepAt, tell_step};
 use base_io::{BufferedSink, MemorySink, Wrote};
@@ -126,7 +126,7 @@ impl<'a> Recorder<'a> {
 
 impl<'a> Machine for Recorder<'a> {
     ghost use Rattle.proc_machine.specs.Kept.{are_done, polls_at};
-    ghost use Rattle.proc_machine.specs.NodeState.{polls_in, sent, turned};
+    ghost use Rattle.proc_machine.specs.NodeState.{polls_in, sent_datagrams, turn_result};
     ghost use Rattle.cli_check.specs.Recording.{RecordedState, RecorderStands, record_after};
 
     ghost State = { RecordedState };
@@ -143,9 +143,9 @@ impl<'a> Machine for Recorder<'a> {
 
     ghost after = { record_after };
 
-    ghost turned = { λ state. turned state.node };
+    ghost turned = { λ state. turn_result state.node };
 
-    ghost sent = { λ state. sent state.node };
+    ghost sent = { λ state. sent_datagrams state.node };
 
     fn threads(&self) -> u16 {
         self.node.threads()
@@ -160,17 +160,17 @@ impl<'a> Machine for Recorder<'a> {
     }
 
     fn turn(&mut self, thread: u16, now: u64, got: Option<&[u8]>) -> Turned {
-        let turned = self.node.turn(thread, now, got);
+        let turn_result = self.node.turn(thread, now, got);
         self.most = self.most.max(self.node.endpoint().held());
         let rank = self.rank;
         let told = tell_step(
             StepAt { rank, thread },
-            turned.stepped,
+            turn_result.stepped,
             &self.node,
             &mut self.text,
         );
         self.whole = self.whole && told;
-        turned
+        turn_result
     }
 
     fn outgoing(&self, i: u8) -> Option<(u16, &[u8])> {

@@ -7,7 +7,7 @@ ghost use Rattle.text_job.specs.JobText.{IsJob};
 ghost use Rattle.text_job.specs.declared.job.Job.{Job as JobState};
 ghost use Rattle.cli_check.specs.CheckInputs.{IsTraceOf};
 ghost use Rattle.cli_check.specs.Merging.{CanBeWritten, IsMerged};
-ghost use Rattle.cli_check.specs.Struck.{struck_traces};
+ghost use Rattle.cli_check.specs.Rejected.{rejected_traces};
 ghost use Rattle.cli_check.specs.TracesEnds.{EndsTraces};
 
 use crate::ending::{any_violation, write_ends, write_texts};
@@ -36,7 +36,7 @@ pub enum TracesEnd {
         /// That entry, counted from 1.
         entry: u32,
     },
-    /// They are a run, and the sink failed: a front of the text of its lines was written.
+    /// They are a run, and the sink failed: a prefix of the text of its lines was written.
     Fault,
     /// Memory ran out. Nothing was written; the clause allows whole lines of a run that is known by then.
     NoMemory,
@@ -46,7 +46,7 @@ pub enum TracesEnd {
 fn tell_run<K: Sink>(report: RunReport, sink: &mut BufferedSink<K>) -> TracesEnd
     requires { CanBeWritten report }
     ensures { (job : JobState) (traces : List TraceState)
-        → IsMerged job (struck_traces job traces) report
+        → IsMerged job (rejected_traces job traces) report
         → EndsTraces job traces (outbox K.taken K.faults sink.old)
         (outbox K.taken K.faults sink.new) result }
 {
@@ -67,7 +67,7 @@ fn tell_run<K: Sink>(report: RunReport, sink: &mut BufferedSink<K>) -> TracesEnd
 /// lines of that run: for each node and each of its entries, where a step of a script ended in it, the rank, the thread
 /// and the answer of the step; then the lines of each node at the end.
 ///
-/// Bytes that their node refuses, whatever it did before, are struck from the traces before: an entry that got such
+/// Bytes that their node refuses, whatever it did before, are rejected from the traces before: an entry that got such
 /// bytes is read as one that got nothing. How many of a node's turns got such bytes is told to `notes`. Each node that
 /// is left is the one that its trace leaves, read so or as it is.
 pub fn run_traces<K: Sink, N: Notes>(

@@ -9,7 +9,7 @@ use Rattle.base_io.specs.declared.clock.Clock.{Ghosts as ClockGhosts}
 use Rattle.base_text.specs.Lines.{Word}
 use Rattle.cli_commands.specs.Commands.{IsAsked, code_of}
 use Rattle.cli_commands.specs.HowEnds.{EndMeans}
-use Rattle.cli_commands.specs.Outsides.{Call, Course, Spawning, call_between, course_in, course_over, given_with, seen}
+use Rattle.cli_commands.specs.Outsides.{Call, Course, Spawning, call_between, course_in, course_over, given_with, outside_view}
 use Rattle.cli_commands.specs.Outsides.{spawning_in, spawning_over, took_in}
 use Rattle.cli_commands.specs.TopCall.{IsSaid}
 use Rattle.cli_commands.specs.TopParts.{Closes, Ends, EndsAs, EndsBy, KeepsOutside, StandsOver, with_sink}
@@ -43,7 +43,7 @@ module _ {S K L P C G : Type 0} (sources : SourceGhosts S) (sinks : SinkGhosts K
       (outbox sinks.taken sinks.faults first.sink) (outbox sinks.taken sinks.faults last.sink) ended
 
   abbrev pub call_over : (first last : Outside S K L P C G) → Given → Call
-  call_over first last given = call_between (seen sources sinks links spawners clocks) words first last given
+  call_over first last given = call_between (outside_view sources sinks links spawners clocks) words first last given
 
   pub closed_call : (outside back : Outside S K L P C G) (first last : Outside S (Gathering K) L P C G) (ended : EndedCommand)
       (status : Status) → IsAsked words asked → StandsOver outside first → RanOver first last ended

@@ -7,7 +7,7 @@ use Rattle.sim_drill.specs.Rounds.{drill_job}
 use Rattle.sim_drill.specs.Summary.{drill_lines}
 use Rattle.cli_commands.specs.Outsides.{Call, took_in}
 use Rattle.cli_commands.specs.Commands.{code_of, end_of}
-use Rattle.cli_commands.specs.HowEnds.{After, EndMeans, gives, unasked}
+use Rattle.cli_commands.specs.HowEnds.{After, EndMeans, gives, claims_nothing}
 use Rattle.cli_commands.specs.RunReports.{EndsRun}
 use Rattle.cli_commands.specs.DrillCommand.{DrillCompletes, DrillEnds, DrillMeans}
 use Rattle.cli_commands.specs.declared.ending.CommandEnd.{CommandEnd}
@@ -42,7 +42,7 @@ drill_runs seed laws calm = record {
   laws = laws;
   weak = weak_drill seed;
   whole = λ violated given said. drill_whole seed (gives given) violated said calm;
-  cut = λ violated said. drill_whole seed unasked violated said calm;
+  cut = λ violated said. drill_whole seed claims_nothing violated said calm;
   left = λ said left. left;
 }
 

@@ -3,13 +3,13 @@ use Rattle.std.proofs.Common.{◌≡◌, ℕ, List, [], ◌++◌, refl, sym, sub
 use Rattle.base_io.specs.Buffered.{Outbox, Gathers, GathersAll, Flushes}
 use Rattle.base_io.specs.declared.writing.Wrote.{Wrote}
 use Rattle.base_io.specs.declared.writing.Wrote.TheVariants as wrote
-use Rattle.base_io.proofs.Outboxes.{flushed, front_given, gathers_more}
+use Rattle.base_io.proofs.Outboxes.{flushed, prefix_given, gathers_more}
 use Rattle.base_io.proofs.Outboxes.{gathers_none, gathers_then, rose_later}
 use Rattle.base_text.specs.LineTexts.{Line, spell, line_text}
 use Rattle.sim_drill.proofs.LinesWritten.{one_more}
 use Rattle.cli_commands.specs.Outsides.{Output, TakesBytes}
 use Rattle.cli_commands.specs.Commands.{status_line}
-use Rattle.cli_commands.specs.HowEnds.{After, Cut, EndsHow, EndMeans, SaysAlone, Told, gives, nothing, said_last, unasked}
+use Rattle.cli_commands.specs.HowEnds.{After, Cut, EndsHow, EndMeans, SaysAlone, IsToldEnd, gives, nothing, said_last, claims_nothing}
 use Rattle.cli_commands.specs.TopParts.{EndsBy, GivesOn, SaysEnd}
 use Rattle.cli_commands.specs.declared.ending.CommandEnd.{CommandEnd}
 use Rattle.cli_commands.specs.declared.ending.CommandEnd.TheVariants as ends
@@ -20,10 +20,10 @@ use Rattle.cli_commands.specs.declared.ending.Given.{Given}
 
 -- what a command says where something is claimed of what it gives it says where nothing is
 abbrev pub Weakens : EndsHow → Type 0
-Weakens Ends = (end : CommandEnd) (given : Given) (said : List ℕ) → Ends end (gives given) said → Ends end unasked said
+Weakens Ends = (end : CommandEnd) (given : Given) (said : List ℕ) → Ends end (gives given) said → Ends end claims_nothing said
 
 pub weak_alone : (end : CommandEnd) (given : Given) (said : List ℕ) → SaysAlone end (gives given) said
-    → SaysAlone end unasked said
+    → SaysAlone end claims_nothing said
 weak_alone end given said h = record { nothing_given = tt; said_is = h.said_is }
 
 -- ---- the last line
@@ -35,29 +35,29 @@ IsSaid _ = Unit {0}
 
 -- all that it says went in
 all_told : (Ends : EndsHow) (took : List ℕ → Wrote → Type 0) (end : CommandEnd) (given : Given) → IsSaid end
-    → Told Ends took end given → EndMeans Ends took given end
+    → IsToldEnd Ends took end given → EndMeans Ends took given end
 all_told Ends took ends.WriteFault given said h = absurd said
 all_told Ends took end given said h = h
 
 -- a command says the line of such an end behind these lines
-pub says_last : (Ends : EndsHow) (old middle new : Outbox) (front : List Line) (end : CommandEnd) (given : Given)
+pub says_last : (Ends : EndsHow) (old middle new : Outbox) (prefix : List Line) (end : CommandEnd) (given : Given)
     (ended : EndedCommand)
-    → Weakens Ends → IsSaid end → Ends end (gives given) (said_last front end) → Gathers old middle (spell front)
+    → Weakens Ends → IsSaid end → Ends end (gives given) (said_last prefix end) → Gathers old middle (spell prefix)
     → SaysEnd end given middle new ended → EndsBy Ends old new ended
-says_last Ends old middle new front end given ended weak is_said ends_so h says = elim says [
+says_last Ends old middle new prefix end given ended weak is_said ends_so h says = elim says [
   | inl done ↦ subst (λ (e : EndedCommand). EndsBy Ends old new e) (sym done.0)
       (all_told Ends (GathersAll old new) end given is_said (record {
-        said = said_last front end;
+        said = said_last prefix end;
         ends = ends_so;
-        written = rw (one_more front (status_line end))
-            (gathers_more old middle new (spell front) (line_text (status_line end)) h done.1);
+        written = rw (one_more prefix (status_line end))
+            (gathers_more old middle new (spell prefix) (line_text (status_line end)) h done.1);
       }))
   | inr failed ↦ subst (λ (e : EndedCommand). EndsBy Ends old new e) (sym failed.0) (record {
     end = end;
-    said = said_last front end;
-    ends = weak end given (said_last front end) ends_so;
-    cut = rw (one_more front (status_line end))
-        (gathers_then old middle new (spell front) (line_text (status_line end)) wrote.Fault h failed.1);
+    said = said_last prefix end;
+    ends = weak end given (said_last prefix end) ends_so;
+    cut = rw (one_more prefix (status_line end))
+        (gathers_then old middle new (spell prefix) (line_text (status_line end)) wrote.Fault h failed.1);
     nothing_given = refl;
   })
 ]
@@ -73,7 +73,7 @@ pub widened : (part whole : EndsHow) (took : List ℕ → Wrote → Type 0) (giv
 widened part whole took given ends.WriteFault wide h = record {
   end = h.end;
   said = h.said;
-  ends = wide h.end unasked h.said h.ends;
+  ends = wide h.end claims_nothing h.said h.ends;
   cut = h.cut;
   nothing_given = h.nothing_given;
 }
@@ -123,10 +123,10 @@ cut_after Ends took other given end weak other_end by h = record {
 abbrev pub behind : Outbox → Output
 behind out = record { taken = out.given; faults = out.faults }
 
--- a front of the bytes went in where nothing waited: the sink behind took a front of them
-took_front : (old new : Outbox) (bytes : List ℕ) → old.pending ≡ [] → GathersAll old new bytes wrote.Fault
+-- a prefix of the bytes went in where nothing waited: the sink behind took a prefix of them
+took_prefix : (old new : Outbox) (bytes : List ℕ) → old.pending ≡ [] → GathersAll old new bytes wrote.Fault
     → TakesBytes (behind old) (behind new) bytes wrote.Fault
-took_front old new bytes none h = (h.rose, new.pending ++ h.rest, front_given old new bytes h.rest none h.went)
+took_prefix old new bytes none h = (h.rose, new.pending ++ h.rest, prefix_given old new bytes h.rest none h.went)
 
 -- all went in where nothing waited, and then not all was given on
 took_some : (old middle new : Outbox) (bytes : List ℕ) → old.pending ≡ [] → Gathers old middle bytes
@@ -146,9 +146,9 @@ means Ends old middle new before after weak none h given =
       | inl failed ↦ subst So (sym failed.1)
           (means_by Ends (GathersAll old middle) took before.given before.end
           (λ other. absurd (other failed.0))
-          (λ is bytes front.
+          (λ is bytes prefix.
           subst (λ (out : Outbox). TakesBytes (behind old) (behind out) bytes wrote.Fault) (sym failed.2)
-          (took_front old middle bytes none front)) h)
+          (took_prefix old middle bytes none prefix)) h)
       | inr (inl done) ↦ subst So (sym done.1)
           (means_by Ends (GathersAll old middle) took before.given before.end
           (λ other bytes whole. flushed old middle new bytes wrote.Done none whole done.2)

@@ -12,7 +12,7 @@ use Rattle.cli_launch.specs.declared.fault.LaunchFault.{LaunchFault}
 use Rattle.cli_launch.specs.declared.fault.LaunchFault.TheVariants as launches
 use Rattle.cli_commands.specs.Outsides.{Call, Input, IsFaultless, Reading, Spawning, read_in, spawning_in, took_in}
 use Rattle.cli_commands.specs.Commands.{code_of}
-use Rattle.cli_commands.specs.HowEnds.{After, EndMeans, gives, nothing, unasked}
+use Rattle.cli_commands.specs.HowEnds.{After, EndMeans, gives, nothing, claims_nothing}
 use Rattle.cli_commands.specs.JobReads.{GivesJob, ReadsJob}
 use Rattle.cli_commands.specs.LaunchCommand.{ChecksLaunch, HoldsLaunch, IsUnused, LaunchCompletes, LaunchEnds, LaunchMeans}
 use Rattle.cli_commands.specs.LaunchCommand.{ReadsLaunch, TellsRun, launch_of}
@@ -30,7 +30,7 @@ use Rattle.cli_commands.proofs.Statuses.{code_means}
 use Rattle.cli_commands.proofs.TracesTold.{weak_traces}
 
 weak_checked : (port : ℕ) (reading : Reading) (spawning : Spawning) (end : CommandEnd) (given : Given) (said : List ℕ)
-    → ChecksLaunch port reading spawning end (gives given) said → ChecksLaunch port reading spawning end unasked said
+    → ChecksLaunch port reading spawning end (gives given) said → ChecksLaunch port reading spawning end claims_nothing said
 weak_checked port reading spawning end given said h = record {
   reads = h.reads;
   outputs = h.outputs;

@@ -2,7 +2,7 @@
 use Rattle.std.proofs.Common.{◌≡◌, ◌⊎◌, ℕ, List, [], ◌∷◌, Bool, true, false, Option, Some, refl, sym}
 use Rattle.std.proofs.Common.{ap, subst, inl, inr, lit<, ◌∙◌, true≢false}
 use Rattle.std.specs.List.{Contains}
-use Rattle.base_io.specs.Buffered.{Outbox, GathersFront}
+use Rattle.base_io.specs.Buffered.{Outbox, GathersPrefix}
 use Rattle.base_io.specs.Faults.{Rose}
 use Rattle.base_io.proofs.Outboxes.{gathers_first, rose_later}
 use Rattle.base_turns.specs.declared.entry.Entry.{Entry}
@@ -17,7 +17,7 @@ use Rattle.proc_node.specs.NodeEnds.{EndsNode as NodeEndsSo}
 use Rattle.sim_drill.proofs.LinesWritten.{one_more}
 use Rattle.cli_commands.specs.Outsides.{Call, Course, Input, course_in, took_in}
 use Rattle.cli_commands.specs.Commands.{code_of, end_of, status_line}
-use Rattle.cli_commands.specs.HowEnds.{After, EndMeans, gives, node_given, nothing, said_last, unasked}
+use Rattle.cli_commands.specs.HowEnds.{After, EndMeans, gives, node_given, nothing, said_last, claims_nothing}
 use Rattle.cli_commands.specs.JobReads.{GivesJob, ReadsJob}
 use Rattle.cli_commands.specs.NodeCommand.{HoldsNode, LosesLink, NodeCompletes, NodeEnds, NodeMeans, has_node_place}
 use Rattle.cli_commands.specs.NodeCommand.{RunsNode, StopsAt}
@@ -32,7 +32,7 @@ use Rattle.cli_commands.proofs.RunTold.{end_said}
 use Rattle.cli_commands.proofs.Statuses.{code_means}
 
 abbrev weak_runs : (rank port : ℕ) (course : Course) (station : StationEnd) (end : CommandEnd) (given : Given) (said : List ℕ)
-    → RunsNode rank port course station end (gives given) said → RunsNode rank port course station end unasked said
+    → RunsNode rank port course station end (gives given) said → RunsNode rank port course station end claims_nothing said
 weak_runs rank port course station end given said h = record {
   job = h.job;
   read = h.read;
@@ -164,50 +164,50 @@ module _ (rank port : ℕ) (course : Course) (job : JobState) (read : GivesJob c
       says_last (NodeEnds rank port course) old middle new (node_lines (post_of job rank port) h.run.journal) end
       (node_given left) ended (weak_node rank port course) is_said so h.written says
 
-  -- a front of the lines of a run that ended so, and nothing behind it
+  -- a prefix of the lines of a run that ended so, and nothing behind it
   untold_by : (lines : List Line) (old new : Outbox) (end : CommandEnd)
-      → NodeEnds rank port course end unasked (said_last lines end) → GathersFront old new (spell lines)
+      → NodeEnds rank port course end claims_nothing (said_last lines end) → GathersPrefix old new (spell lines)
       → EndsBy (NodeEnds rank port course) old new cut_short
-  untold_by lines old new end so front = record {
+  untold_by lines old new end so prefix = record {
     end = end;
     said = said_last lines end;
     ends = so;
     cut = rw (one_more lines (status_line end))
-        (gathers_first old new (spell lines) (line_text (status_line end)) front);
+        (gathers_first old new (spell lines) (line_text (status_line end)) prefix);
     nothing_given = refl;
   }
 
   -- the sink failed at an entry, or before all
   stopped : (journal : List Entry) (old new : Outbox) → StopsAt (post_of job rank port) course journal
-      → GathersFront old new (spell (node_lines (post_of job rank port) journal))
+      → GathersPrefix old new (spell (node_lines (post_of job rank port) journal))
       → EndsBy (NodeEnds rank port course) old new cut_short
-  stopped journal old new stops front = record {
+  stopped journal old new stops prefix = record {
     end = ends.WriteFault;
     said = spell (node_lines (post_of job rank port) journal);
     ends = record { job = job; read = read; place = place; journal = journal; stops = stops; said_is = refl };
-    cut = front;
+    cut = prefix;
     nothing_given = refl;
   }
 
-  -- a front of a trace, and nothing behind it
+  -- a prefix of a trace, and nothing behind it
   untold : (station : StationEnd) (old new : Outbox) → (station ≡ stations.NoMemory → ⊥)
       → (run : RunsTo (post_of job rank port) course.before course.after station)
-      → GathersFront old new (spell (node_lines (post_of job rank port) run.journal))
+      → GathersPrefix old new (spell (node_lines (post_of job rank port) run.journal))
       → EndsBy (NodeEnds rank port course) old new cut_short
-  untold stations.Over old new other run front =
+  untold stations.Over old new other run prefix =
       let noted = has_noted (record_after (post_of job rank port) run.journal) in
       untold_by (node_lines (post_of job rank port) run.journal) old new (end_of noted)
-      (over noted unasked run refl tt) front
-  untold stations.Stuck old new other run front =
+      (over noted claims_nothing run refl tt) prefix
+  untold stations.Stuck old new other run prefix =
       untold_by (node_lines (post_of job rank port) run.journal) old new ends.Stuck
-      (ran stations.Stuck ends.Stuck unasked run tt) front
-  untold stations.LinkFault old new other run front =
-      untold_by (node_lines (post_of job rank port) run.journal) old new ends.LinkFault (lost unasked run tt) front
-  untold stations.JournalFull old new other run front =
+      (ran stations.Stuck ends.Stuck claims_nothing run tt) prefix
+  untold stations.LinkFault old new other run prefix =
+      untold_by (node_lines (post_of job rank port) run.journal) old new ends.LinkFault (lost claims_nothing run tt) prefix
+  untold stations.JournalFull old new other run prefix =
       untold_by (node_lines (post_of job rank port) run.journal) old new ends.JournalFull
-      (ran stations.JournalFull ends.JournalFull unasked run tt) front
-  untold stations.WriteFault old new other run front = stopped run.journal old new (inl (run, refl)) front
-  untold stations.NoMemory old new other run front = absurd (other refl)
+      (ran stations.JournalFull ends.JournalFull claims_nothing run tt) prefix
+  untold stations.WriteFault old new other run prefix = stopped run.journal old new (inl (run, refl)) prefix
+  untold stations.NoMemory old new other run prefix = absurd (other refl)
 
   -- memory ran out as the node ran
   open_told : (old middle new : Outbox) (ended : EndedCommand)

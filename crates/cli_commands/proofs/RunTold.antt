@@ -12,7 +12,7 @@ use Rattle.sim_drill.specs.RunEnd.{RunEnd}
 use Rattle.sim_drill.specs.RunEnd.TheVariants as runs
 use Rattle.sim_drill.proofs.LinesWritten.{one_more}
 use Rattle.cli_commands.specs.Commands.{end_of, status_line}
-use Rattle.cli_commands.specs.HowEnds.{EndsHow, gives, nothing, said_last, unasked, world_given}
+use Rattle.cli_commands.specs.HowEnds.{EndsHow, gives, nothing, said_last, claims_nothing, world_given}
 use Rattle.cli_commands.specs.RunReports.{EndsRun, LeavesRun}
 use Rattle.cli_commands.specs.TopParts.{EndsBy, SaysRun}
 use Rattle.cli_commands.specs.declared.ending.CommandEnd.TheVariants as ends
@@ -21,15 +21,15 @@ use Rattle.cli_commands.specs.declared.ending.Given.{Given}
 use Rattle.cli_commands.proofs.LastLine.{IsSaid, Weakens, says_last}
 
 pub weak_run : (job : JobState) (lines : List Line) (violated : Bool) (given : Given) (said : List ℕ)
-    → EndsRun job lines violated (gives given) said → EndsRun job lines violated unasked said
+    → EndsRun job lines violated (gives given) said → EndsRun job lines violated claims_nothing said
 weak_run job lines violated given said h =
     record { laws = h.laws; violated_is = h.violated_is; said_is = h.said_is; world_after = tt }
 
 pub weak_left : (job : JobState) (lines : List Line) (given : Given) (said : List ℕ)
-    → LeavesRun job lines (gives given) said → LeavesRun job lines unasked said
+    → LeavesRun job lines (gives given) said → LeavesRun job lines claims_nothing said
 weak_left job lines given said h = record {
   laws = h.laws;
-  front = h.front;
+  prefix = h.prefix;
   rest = h.rest;
   whole = h.whole;
   said_is = h.said_is;
@@ -42,8 +42,8 @@ pub record Runs (Ends : EndsHow) (job : JobState) (lines : List Line) : Type 0 w
   pub weak : Weakens Ends
   pub whole : (violated : Bool) (given : Given) (said : List ℕ)
       → EndsRun job lines violated (gives given) said → Ends (end_of violated) (gives given) said
-  pub cut : (violated : Bool) (said : List ℕ) → EndsRun job lines violated unasked said
-      → Ends (end_of violated) unasked said
+  pub cut : (violated : Bool) (said : List ℕ) → EndsRun job lines violated claims_nothing said
+      → Ends (end_of violated) claims_nothing said
   pub left : (said : List ℕ) → LeavesRun job lines (gives nothing) said → Ends ends.NoMemory (gives nothing) said
 
 pub end_said : (violated : Bool) → IsSaid (end_of violated)
@@ -78,10 +78,10 @@ run_told Ends job lines old middle new runs.Fault ended by h says =
       nothing_given = refl;
     })
 run_told Ends job lines old middle new runs.NoMemory ended by h says =
-    says_last Ends old middle new h.1.front ends.NoMemory nothing ended by.weak tt
-    (by.left (said_last h.1.front ends.NoMemory) (record {
+    says_last Ends old middle new h.1.prefix ends.NoMemory nothing ended by.weak tt
+    (by.left (said_last h.1.prefix ends.NoMemory) (record {
       laws = by.laws;
-      front = h.1.front;
+      prefix = h.1.prefix;
       rest = h.0;
       whole = h.1.whole;
       said_is = refl;

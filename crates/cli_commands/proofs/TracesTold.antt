@@ -8,12 +8,12 @@ use Rattle.text_job.specs.declared.job.Job.{Job as JobState}
 use Rattle.base_text.specs.LineTexts.{spell, line_text}
 use Rattle.sim_drill.proofs.LinesWritten.{one_more}
 use Rattle.cli_launch.specs.StepLines.{is_violated, run_lines}
-use Rattle.cli_launch.specs.Struck.{struck_traces}
+use Rattle.cli_launch.specs.Rejected.{rejected_traces}
 use Rattle.cli_launch.specs.TracesEnds.{EndsTraces}
 use Rattle.cli_launch.specs.TracesEnd.{TracesEnd}
 use Rattle.cli_launch.specs.TracesEnd.TheVariants as traces
 use Rattle.cli_commands.specs.Commands.{end_of, status_line}
-use Rattle.cli_commands.specs.HowEnds.{After, gives, nodes_given, nothing, said_last, unasked}
+use Rattle.cli_commands.specs.HowEnds.{After, gives, nodes_given, nothing, said_last, claims_nothing}
 use Rattle.cli_commands.specs.TopParts.{EndsBy, SaysEnd, SaysTraces}
 use Rattle.cli_commands.specs.TracesReports.{RunsTraces, TracesEnds}
 use Rattle.cli_commands.specs.declared.ending.CommandEnd.TheVariants as ends
@@ -41,7 +41,7 @@ weak_traces job these ends.Violations given said h =
 weak_traces job these ends.NoMemory given said (inl alone) = inl (weak_alone ends.NoMemory given said alone)
 weak_traces job these ends.NoMemory given said (inr left) = inr (record {
   run = left.run;
-  front = left.front;
+  prefix = left.prefix;
   rest = left.rest;
   whole = left.whole;
   said_is = left.said_is;
@@ -77,10 +77,10 @@ pub traces_told : (job : JobState) (these : List Trace) (old middle new : Outbox
     → EndsTraces job these old middle end → SaysTraces end middle new ended
     → EndsBy (TracesEnds job these) old new ended
 traces_told job these old middle new (traces.Done violated nodes) ended told says =
-    says_last (TracesEnds job these) old middle new (run_lines job (struck_traces job these)) (end_of violated) (nodes_given nodes) ended
+    says_last (TracesEnds job these) old middle new (run_lines job (rejected_traces job these)) (end_of violated) (nodes_given nodes) ended
     (weak_traces job these) (end_said violated)
     (by_end job these violated (gives (nodes_given nodes))
-    (said_last (run_lines job (struck_traces job these)) (end_of violated)) (record {
+    (said_last (run_lines job (rejected_traces job these)) (end_of violated)) (record {
       run = told.run;
       violated_is = sym told.violated_is;
       said_is = refl;
@@ -92,15 +92,15 @@ traces_told job these old middle new (traces.NotARun node entry) ended told says
     (record { none = told.none; alone = alone (ends.NotARun node entry) })
     (subst (λ (out : Outbox). SaysEnd (ends.NotARun node entry) nothing out new ended) told.same says)
 traces_told job these old middle new traces.Fault ended told says =
-    let violated = is_violated job (struck_traces job these) in
+    let violated = is_violated job (rejected_traces job these) in
     let end = end_of violated in
-    let lines = run_lines job (struck_traces job these) in
+    let lines = run_lines job (rejected_traces job these) in
     let went : GathersAll old new (spell lines) wrote.Fault =
     subst (λ (out : Outbox). GathersAll old out (spell lines) wrote.Fault) (sym says.1) told.lines in
     subst (λ (e : EndedCommand). EndsBy (TracesEnds job these) old new e) (sym says.0) (record {
       end = end;
       said = said_last lines end;
-      ends = by_end job these violated unasked (said_last lines end)
+      ends = by_end job these violated claims_nothing (said_last lines end)
           (record { run = told.run; violated_is = refl; said_is = refl; nodes_of_run = tt; nodes_after = tt });
       cut = rw (one_more lines (status_line end))
           (gathers_first old new (spell lines) (line_text (status_line end)) went);
@@ -110,11 +110,11 @@ traces_told job these old middle new traces.NoMemory ended (inl same) says =
     traces_unknown job these old new ended
     (subst (λ (out : Outbox). SaysEnd ends.NoMemory nothing out new ended) same says)
 traces_told job these old middle new traces.NoMemory ended (inr told) says =
-    says_last (TracesEnds job these) old middle new told.lines.front ends.NoMemory nothing ended
+    says_last (TracesEnds job these) old middle new told.lines.prefix ends.NoMemory nothing ended
     (weak_traces job these) tt
     (inr (record {
       run = told.run;
-      front = told.lines.front;
+      prefix = told.lines.prefix;
       rest = told.rest;
       whole = told.lines.whole;
       said_is = refl;

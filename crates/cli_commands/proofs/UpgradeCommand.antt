@@ -8,7 +8,7 @@ use Rattle.text_job.specs.JobText.{job_text}
 use Rattle.sim_versions.specs.Upgraded.{in_version}
 use Rattle.cli_commands.specs.Outsides.{Call, Reading, read_in, took_in}
 use Rattle.cli_commands.specs.Commands.{code_of}
-use Rattle.cli_commands.specs.HowEnds.{After, EndMeans, gives, nothing, unasked}
+use Rattle.cli_commands.specs.HowEnds.{After, EndMeans, gives, nothing, claims_nothing}
 use Rattle.cli_commands.specs.JobReads.{GivesJob}
 use Rattle.cli_commands.specs.TopParts.{EndsBy, cut_short}
 use Rattle.cli_commands.specs.UpgradeCommand.{UpgradeCompletes, UpgradeEnds, UpgradeMeans, UpgradesJob}
@@ -80,7 +80,7 @@ pub upgrade_cut : (reading : Reading) (job : JobState) (old new : Outbox) → Gi
 upgrade_cut reading job old new read h = record {
   end = ends.Done;
   said = job_text (in_version job 2);
-  ends = upgrades reading job unasked read tt;
+  ends = upgrades reading job claims_nothing read tt;
   cut = h;
   nothing_given = refl;
 }

@@ -4,9 +4,9 @@ use Rattle.std.proofs.Common.{sym, ap, ◌∙◌, arith, codes, length-append, a
 use Rattle.std.proofs.lemmas.Fmt.{decimal_digit}
 use Rattle.std.specs.Prelude.{decimal}
 use Rattle.wire_message.specs.Content.{is_version}
-use Rattle.wire_message.specs.Parameters.{Parameters, credits_in_all, credits_of, upgraded}
+use Rattle.wire_message.specs.Parameters.{Parameters, credits_in_all, credits_of, as_version_2}
 use Rattle.wire_message.proofs.Keeping.{upgraded_range}
-use Rattle.wire_message.proofs.Noted.{each_version}
+use Rattle.wire_message.proofs.Notified.{each_version}
 use Rattle.text_job.specs.declared.job.Job.{Job as JobState}
 use Rattle.text_steps.specs.declared.steps.TimedEvent.{TimedEvent}
 use Rattle.text_job.specs.Scopes.{scope_of}
@@ -72,7 +72,7 @@ begun_length one other rest same =
     omega arith
 
 same_schedule : (settings : Parameters) (schedule : Option (List TimedEvent))
-    → schedule_lines (upgraded settings) schedule ≡ schedule_lines settings schedule
+    → schedule_lines (as_version_2 settings) schedule ≡ schedule_lines settings schedule
 same_schedule settings None = refl
 same_schedule settings (Some events) = refl
 

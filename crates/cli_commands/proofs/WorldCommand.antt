@@ -6,7 +6,7 @@ use Rattle.sim_drill.specs.RunText.{run_lines}
 use Rattle.sim_drill.specs.RunLaws.{RunLaws}
 use Rattle.cli_commands.specs.Outsides.{Call, Reading, read_in, took_in}
 use Rattle.cli_commands.specs.Commands.{code_of, end_of}
-use Rattle.cli_commands.specs.HowEnds.{After, EndMeans, gives, unasked}
+use Rattle.cli_commands.specs.HowEnds.{After, EndMeans, gives, claims_nothing}
 use Rattle.cli_commands.specs.JobReads.{GivesJob}
 use Rattle.cli_commands.specs.RunReports.{EndsRun}
 use Rattle.cli_commands.specs.WorldCommand.{WorldCompletes, WorldEnds, WorldMeans}
@@ -67,7 +67,7 @@ world_runs reading job read laws = record {
   laws = laws;
   weak = weak_world reading;
   whole = λ violated given said. world_whole reading job (gives given) violated said read;
-  cut = λ violated said. world_whole reading job unasked violated said read;
+  cut = λ violated said. world_whole reading job claims_nothing violated said read;
   left = λ said left. inr (record { job = job; read = read; run = left });
 }
 

@@ -64,8 +64,8 @@ gives given = record {
 }
 
 -- nothing is claimed
-abbrev pub unasked : After
-unasked = record {
+abbrev pub claims_nothing : After
+claims_nothing = record {
   ran = λ job. Unit {0};
   left = λ node. Unit {0};
   checked = λ job traces. Unit {0};
@@ -87,30 +87,30 @@ pub record SaysAlone (end : CommandEnd) (after : After) (said : List ℕ) : Type
   pub nothing_given : after.none
   pub said_is : said ≡ said_last [] end
 
--- ---- what is written; `took` is what the sink took of some bytes: all of them, or a front of them where it failed
+-- ---- what is written; `took` is what the sink took of some bytes: all of them, or a prefix of them where it failed
 
 -- it ended so, gave this, and all that it says was taken
-pub record Told (Ends : EndsHow) (took : List ℕ → Wrote → Type 0) (end : CommandEnd) (given : Given) : Type 0 where
+pub record IsToldEnd (Ends : EndsHow) (took : List ℕ → Wrote → Type 0) (end : CommandEnd) (given : Given) : Type 0 where
   pub said : List ℕ
   pub ends : Ends end (gives given) said
   pub written : took said wrote.Done
 
--- the sink failed, and took a front of what some end says; nothing is given
+-- the sink failed, and took a prefix of what some end says; nothing is given
 pub record Cut (Ends : EndsHow) (took : List ℕ → Wrote → Type 0) (given : Given) : Type 0 where
   pub end : CommandEnd
   pub said : List ℕ
-  pub ends : Ends end unasked said
+  pub ends : Ends end claims_nothing said
   pub cut : took said wrote.Fault
   pub nothing_given : given ≡ nothing
 
 -- how a command ended, by what its sink took, and what was given
 abbrev pub EndMeans : EndsHow → (took : List ℕ → Wrote → Type 0) → Given → CommandEnd → Type 0
 EndMeans Ends took given ends.WriteFault = Cut Ends took given
-EndMeans Ends took given end = Told Ends took end given
+EndMeans Ends took given end = IsToldEnd Ends took end given
 
 -- the call ended so
 abbrev pub TellsEnd : Call → EndsHow → CommandEnd → Type 0
-TellsEnd call Ends end = Told Ends (took_in call) end call.given
+TellsEnd call Ends end = IsToldEnd Ends (took_in call) end call.given
 
 -- it ended as its sink failed
 abbrev pub IsCutShort : Call → EndsHow → Type 0

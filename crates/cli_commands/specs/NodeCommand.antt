@@ -65,7 +65,7 @@ StopsAt post course journal =
     ((run : RunsTo post course.before course.after stations.WriteFault) × (run.journal ≡ journal))
     ⊎ ((course.after ≡ course.before) × (journal ≡ []))
 
--- its sink failed as its node ran, or before: the trace of its journal, of which the sink took a front
+-- its sink failed as its node ran, or before: the trace of its journal, of which the sink took a prefix
 pub record LosesSink (rank port : ℕ) (course : Course) (said : List ℕ) : Type 0 where
   pub job : JobState
   pub read : GivesJob course.reading job

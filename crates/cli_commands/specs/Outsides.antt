@@ -34,15 +34,15 @@ abbrev pub output : {K : Type 0} → (taken : K → Option (List ℕ)) → (faul
 output taken faults sink = record { taken = taken sink; faults = faults sink }
 
 -- an outside: what is seen of its source, of its sink, of what a node runs over, and of its spawner
-pub record Seen : Type 0 where
+pub record OutsideView : Type 0 where
   pub source : Input
   pub sink : Output
   pub devices : DevicesSeen
   pub spawner : SpawnerSeen
 
-abbrev pub seen : {S K L P C G : Type 0} → SourceGhosts S → SinkGhosts K → LinkGhosts L → SpawnerGhosts P
-    → ClockGhosts C → Outside S K L P C G → Seen
-seen sources sinks links spawners clocks outside = record {
+abbrev pub outside_view : {S K L P C G : Type 0} → SourceGhosts S → SinkGhosts K → LinkGhosts L → SpawnerGhosts P
+    → ClockGhosts C → Outside S K L P C G → OutsideView
+outside_view sources sinks links spawners clocks outside = record {
   source = input sources.left sources.faults outside.source;
   sink = output sinks.taken sinks.faults outside.sink;
   devices = devices_seen links clocks outside.link outside.clock;
@@ -54,15 +54,16 @@ seen sources sinks links spawners clocks outside = record {
 -- its words, its outside before and after it, and what it gives besides its exit status
 pub record Call : Type 0 where
   pub words : List Word
-  pub before : Seen
-  pub after : Seen
+  pub before : OutsideView
+  pub after : OutsideView
   pub given : Given
 
-abbrev pub call_of : List Word → (before after : Seen) → Given → Call
+abbrev pub call_of : List Word → (before after : OutsideView) → Given → Call
 call_of words before after given = record { words = words; before = before; after = after; given = given }
 
 -- a call over a place of which so much is seen
-abbrev pub call_between : {Place : Type 0} → (see : Place → Seen) → List Word → (before after : Place) → Given → Call
+abbrev pub call_between : {Place : Type 0} → (see : Place → OutsideView) → List Word → (before after : Place) → Given
+    → Call
 call_between see words before after given = call_of words (see before) (see after) given
 
 -- what a call gives besides its exit status
@@ -121,7 +122,7 @@ spawning_over spawners before after = spawning_of (spawner_seen spawners before)
 abbrev pub spawning_in : Call → Spawning
 spawning_in call = spawning_of call.before.spawner call.after.spawner
 
--- what a sink took of some bytes: all of them; or it failed, and a front of them
+-- what a sink took of some bytes: all of them; or it failed, and a prefix of them
 abbrev pub TakesBytes : (old new : Output) → List ℕ → Wrote → Type 0
 TakesBytes old new bytes wrote.Done = Appends old.taken new.taken bytes
 TakesBytes old new bytes wrote.Fault =

@@ -20,8 +20,8 @@ pub record EndsRun (job : JobState) (lines : List Line) (violated : Bool) (after
 -- memory ran out in the run of a job, whose laws hold: whole lines of it, up to the rest, and the status line
 pub record LeavesRun (job : JobState) (lines : List Line) (after : After) (said : List ℕ) : Type 0 where
   pub laws : RunLaws job
-  pub front : List Line
+  pub prefix : List Line
   pub rest : List Line
-  pub whole : lines ≡ front ++ rest
-  pub said_is : said ≡ said_last front ends.NoMemory
+  pub whole : lines ≡ prefix ++ rest
+  pub said_is : said ≡ said_last prefix ends.NoMemory
   pub nothing_given : after.none

@@ -1,6 +1,6 @@
 -- The parts of the top call.
 use Rattle.std.specs.Prelude.{◌≡◌, ◌⊎◌, ℕ, Bool, List, [], Option, Some, None, Result, Ok, Err, ⊤}
-use Rattle.base_io.specs.Buffered.{Outbox, Gathering, Gathers, GathersAll, GathersFront, Flushes, outbox}
+use Rattle.base_io.specs.Buffered.{Outbox, Gathering, Gathers, GathersAll, GathersPrefix, Flushes, outbox}
 use Rattle.base_io.specs.declared.writing.Wrote.TheVariants as wrote
 use Rattle.base_io.specs.Faults.{Rose}
 use Rattle.base_text.specs.Lines.{Word}
@@ -136,12 +136,12 @@ end_of_fault launches.NoMemory = ends.NoMemory
 abbrev pub cut_short : EndedCommand
 cut_short = record { end = ends.WriteFault; given = nothing }
 
--- the status line of this end went in, and so the command ended, and gave this; or the sink failed, and a front of that
--- line went in
+-- the status line of this end went in, and so the command ended, and gave this; or the sink failed, and a prefix of
+-- that line went in
 abbrev pub SaysEnd : CommandEnd → Given → (old new : Outbox) → EndedCommand → Type 0
 SaysEnd end given old new ended =
     ((ended ≡ record { end = end; given = given }) × Gathers old new (line_text (status_line end)))
-    ⊎ ((ended ≡ cut_short) × GathersFront old new (line_text (status_line end)))
+    ⊎ ((ended ≡ cut_short) × GathersPrefix old new (line_text (status_line end)))
 
 -- what is said behind the lines of a run that ended so: the status line, with the world after the run; nothing where
 -- the sink failed

@@ -27,16 +27,16 @@
 //!     comes also where a job was read that has no node of this rank, or no port for each node; 3 and 4 as above.
 //!   - `check` (`CheckMeans`): with 0 and 1 the bytes read are the text of a job with an output of each of its nodes
 //!     behind it (`InputText`), and of no others, each node ended with 0 or 1, their traces, without the bytes that
-//!     their nodes refuse (`struck_traces` of `cli_check`), are a run of the world (`RunOfTraces`: the headline, the
+//!     their nodes refuse (`rejected_traces` of `cli_check`), are a run of the world (`RunOfTraces`: the headline, the
 //!     laws of transfers and of the barrier hold of it, and each line of its steps tells how its step ended in it:
 //!     `LinesTell`), the bytes written are its text (`run_lines` of `cli_check`)
 //!     and the status line, and the nodes that the call returns stand for its end, which is what the traces leave as
 //!     they were read. It is 1 exactly where one of them noted a violation; with 11 each node ended with 0 or 1, and
-//!     their struck traces are no run (`AreNoRun`); 12 names the smallest rank of a node that ended otherwise, and the
-//!     status in its output.
-//!     3 comes only where no job with outputs has the bytes read as its text, and its line and word are the first bad
-//!     line and the first reason that applies to it, with what that means apart from the reader
-//!     (`InputMeans`), of that line and reason alone (`only`), or `0 size` for more than 67,108,864 bytes; 4 as above.
+//!     their rejected traces are no run (`AreNoRun`); 12 names the smallest rank of a node that ended otherwise, and
+//!     the status in its output. 3 comes only where no job with outputs has the bytes read as its text, and its line
+//!     and word are the first bad line and the first reason that applies to it, with what that means apart from the
+//!     reader (`InputMeans`), of that line and reason alone (`only`), or `0 size` for more than 67,108,864 bytes; 4 as
+//!     above.
 //!   - `launch PORT` (`LaunchMeans`): with 0, 1 and 11 the bytes read are the text of a job, as of `world`, that has a
 //!     port for each node, and of the outputs that children gave all holds that `check` says of those it read. Where
 //!     the spawner tells its calls, and told no finish of these ranks before, it told, behind what it told before, a
@@ -60,7 +60,7 @@
 //!   8; `node` has 0, 1, 8, 9 or 10 where that job has a place for it, and the link's count didn't rise either;
 //!   `launch` has 0, 1, 8, 11 or 12 where it has a port for each node, and the spawner's count didn't rise either. The
 //!   drill has 0 or 8. Where they are the text of a job with outputs, `check` has 0, 1, 8, 11 or 12; it has 0, 1 or 8
-//!   where moreover each of these nodes ended with 0 or 1, and their struck traces are a run (`AreARun`), and so has
+//!   where moreover each of these nodes ended with 0 or 1, and their rejected traces are a run (`AreARun`), and so has
 //!   `launch` where the spawner tells such outputs of its children, and told no finish of their ranks before
 //!   (`TellsRun`).
 //! - **What a call leaves alone** [`leaves`: `LeavesAlone`]. What is seen of the spawner stands after the call as it

@@ -1,7 +1,7 @@
 //! Readers and writers of std as sources and sinks that count their errors.
 
 ghost use Rattle.std.specs.Prelude.{◌≡◌, ◌≤◌, length};
-ghost use Rattle.cli_commands.specs.Standard.{Counted};
+ghost use Rattle.cli_commands.specs.Standard.{DeviceWithFaults};
 
 use base_io::{Got, Put, Sink, Source};
 use std::io::{Read, Write};
@@ -16,9 +16,9 @@ pub struct ReaderSource<R> {
 }
 
 impl<R> Model for ReaderSource<R> {
-    ghost use Rattle.cli_commands.specs.Standard.{Counted};
+    ghost use Rattle.cli_commands.specs.Standard.{DeviceWithFaults};
 
-    ghost Value = { Counted R };
+    ghost Value = { DeviceWithFaults R };
 
     ghost view = { λ s. record { device = s.reader; faults = s.faults } };
 }
@@ -26,7 +26,7 @@ impl<R> Model for ReaderSource<R> {
 impl<R: Read> ReaderSource<R> {
     /// A source before the reader's first error.
     pub fn new(reader: R) -> ReaderSource<R>
-        ensures { let made : Counted R = record { device = reader; faults = 0 } in result ≡ made }
+        ensures { let made : DeviceWithFaults R = record { device = reader; faults = 0 } in result ≡ made }
     {
         ReaderSource { reader, faults: 0 }
     }
@@ -58,9 +58,9 @@ pub struct WriterSink<W> {
 }
 
 impl<W> Model for WriterSink<W> {
-    ghost use Rattle.cli_commands.specs.Standard.{Counted};
+    ghost use Rattle.cli_commands.specs.Standard.{DeviceWithFaults};
 
-    ghost Value = { Counted W };
+    ghost Value = { DeviceWithFaults W };
 
     ghost view = { λ s. record { device = s.writer; faults = s.faults } };
 }
@@ -68,7 +68,7 @@ impl<W> Model for WriterSink<W> {
 impl<W: Write> WriterSink<W> {
     /// A sink before the writer's first error.
     pub fn new(writer: W) -> WriterSink<W>
-        ensures { let made : Counted W = record { device = writer; faults = 0 } in result ≡ made }
+        ensures { let made : DeviceWithFaults W = record { device = writer; faults = 0 } in result ≡ made }
     {
         WriterSink { writer, faults: 0 }
     }

@@ -4,7 +4,7 @@ ghost use Rattle.std.specs.Prelude.{◌≡◌, IfOk, drop, map, string_bytes};
 ghost use Rattle.std.specs.Process.{exit_status};
 ghost use Rattle.std.specs.Vec.Iter.{into_iter_items};
 ghost use Rattle.cli_commands.specs.declared.ending.Given.{Given};
-ghost use Rattle.cli_commands.specs.Standard.{streams_seen, uncounted};
+ghost use Rattle.cli_commands.specs.Standard.{streams_seen, before_faults};
 ghost use Rattle.cli_commands.specs.Outsides.{call_between};
 ghost use Rattle.cli_commands.specs.Told.{AreTold};
 ghost use Rattle.cli_commands.specs.TopCall.{IsComplete, LeavesAlone, StatusMeans};
@@ -46,15 +46,15 @@ pub fn run_streams<
 )
     ensures means { (given : Given) × StatusMeans (call_between
         (streams_seen R.remaining W.contents L.Link P.Spawner C.Clock)
-        (map string_bytes words.now) (uncounted streams) result.1 given)
+        (map string_bytes words.now) (before_faults streams) result.1 given)
         (exit_status result.0) }
     ensures complete { (given : Given) × IsComplete (call_between
         (streams_seen R.remaining W.contents L.Link P.Spawner C.Clock)
-        (map string_bytes words.now) (uncounted streams) result.1 given)
+        (map string_bytes words.now) (before_faults streams) result.1 given)
         (exit_status result.0) }
     ensures leaves { (given : Given) × LeavesAlone (call_between
         (streams_seen R.remaining W.contents L.Link P.Spawner C.Clock)
-        (map string_bytes words.now) (uncounted streams) result.1 given) }
+        (map string_bytes words.now) (before_faults streams) result.1 given) }
 {
     let Outside {
         source,

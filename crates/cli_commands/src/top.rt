@@ -2,7 +2,7 @@
 
 ghost use Rattle.std.specs.Prelude.{◌≡◌, ℕ, IfErr, IfOk, MatchOption, map, string_bytes};
 ghost use Rattle.base_io.specs.Buffered.{outbox};
-ghost use Rattle.cli_commands.specs.Outsides.{call_between, given_with, seen};
+ghost use Rattle.cli_commands.specs.Outsides.{call_between, given_with, outside_view};
 ghost use Rattle.cli_commands.specs.TopCall.{AsksNode, IsComplete, IsSaid, LeavesAlone, StatusMeans};
 ghost use Rattle.cli_commands.specs.TopParts.{Closes, GivesOn, IsNoNode, StandsOver};
 
@@ -152,7 +152,7 @@ pub fn returning_call<S: Source, K: Sink, L: Link, P: Spawner, C: Clock, G, N: N
     notes: &mut N,
 ) -> Result<(Status, Outside<S, K, L, P, C, G>), (NodeAddress, Outside<S, K, L, P, C, G>)>
     ensures said { IfOk result (λ done. IsSaid
-        (call_between (seen S.Source K.Sink L.Link P.Spawner C.Clock)
+        (call_between (outside_view S.Source K.Sink L.Link P.Spawner C.Clock)
         (map string_bytes words.now) outside done.1 (given_with done.0)) done.0.code) }
     ensures returns { IfOk result (λ done. (rank port : ℕ)
         → AsksNode (map string_bytes words.now) rank port → ⊥) }
@@ -222,13 +222,13 @@ pub fn gasnet<
     notes: &mut N,
 ) -> (Status, Outside<S, K, L, P, C, G>)
     // What each exit status says of what was read, what was written, and what is given.
-    ensures means { StatusMeans (call_between (seen S.Source K.Sink L.Link P.Spawner C.Clock)
+    ensures means { StatusMeans (call_between (outside_view S.Source K.Sink L.Link P.Spawner C.Clock)
         (map string_bytes words.now) outside result.1 (given_with result.0)) result.0.code }
     // A job that could be read is run, or written, unless memory runs out.
-    ensures complete { IsComplete (call_between (seen S.Source K.Sink L.Link P.Spawner C.Clock)
+    ensures complete { IsComplete (call_between (outside_view S.Source K.Sink L.Link P.Spawner C.Clock)
         (map string_bytes words.now) outside result.1 (given_with result.0)) result.0.code }
     // What the words don't ask for stands as it did.
-    ensures leaves { LeavesAlone (call_between (seen S.Source K.Sink L.Link P.Spawner C.Clock)
+    ensures leaves { LeavesAlone (call_between (outside_view S.Source K.Sink L.Link P.Spawner C.Clock)
         (map string_bytes words.now) outside result.1 (given_with result.0)) }
 {
     match returning_call(alloc, words, outside, notes) {

@@ -1,6 +1,6 @@
 //! Why a line of a job's text is refused, for a person.
 
-use crate::forms::{FRONT, Form, form_in, names};
+use crate::forms::{Form, PREFIX, form_in, names};
 use crate::kinds::{fits, range_text};
 use crate::places::Reading;
 use crate::tables::{as_one, fill, row, word_of};
@@ -199,7 +199,7 @@ fn value_fault(alloc: Global, reading: &Reading, words: &Words<'_>) -> Result<To
     for (place, word) in words.line.split(' ').enumerate() {
         let (form, within) = match place.checked_sub(words.first) {
             Some(within) => (words.form, within),
-            None => (FRONT, place),
+            None => (PREFIX, place),
         };
         let name = form.word_at(within);
         let kind = form.kind_of(name);
@@ -361,7 +361,7 @@ fn early_fault(alloc: Global, line: u64, reading: &Reading) -> Result<String, Al
 
 /// Why a text is no job's, or none of a job with the outputs of its nodes: the line, the column and
 /// the word where they are known, what is wrong, and what was expected there. The text may be the
-/// front of what was read.
+/// prefix of what was read.
 pub fn job_fault(alloc: Global, text: &[u8], bad: BadLine<'_>) -> Result<String, AllocError> {
     let (line, reason) = (u64::from(bad.line), bad.reason);
     if line == 0 {

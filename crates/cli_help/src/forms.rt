@@ -199,7 +199,7 @@ pub struct Form {
 }
 
 /// What stands before the event or the call in a line of the schedule.
-pub const FRONT: Form = Form {
+pub const PREFIX: Form = Form {
     part: "event",
     name: "NOW",
     text: "NOW call I T",

@@ -36,7 +36,7 @@ _gasnet_cli() {
 complete -o default -F _gasnet_cli gasnet_cli
 ";
 
-/// The front of the manual's page.
+/// The prefix of the manual's page.
 static MANUAL: &str = ".\\\" Written by tools/help-pages.
 .TH GASNET_CLI 1
 .SH NAME
@@ -83,8 +83,8 @@ fn help_of(alloc: Global, command: &CommandText) -> Result<String, AllocError> {
 
 /// What is told of all commands.
 fn help_of_all(alloc: Global) -> Result<String, AllocError> {
-    let front = "gasnet_cli COMMAND: GASNet active messages over lossy datagrams\n\n";
-    let mut text = String::from_str(alloc, front)?;
+    let prefix = "gasnet_cli COMMAND: GASNet active messages over lossy datagrams\n\n";
+    let mut text = String::from_str(alloc, prefix)?;
     for line in COMMANDS.lines() {
         let command = command_in(line);
         let usage = padded(alloc, command.usage, 16)?;

@@ -4,7 +4,7 @@ pub mod LaunchEnds
 pub use Rattle.cli_check.specs.CheckInputs
 pub use Rattle.cli_check.specs.Statuses
 pub use Rattle.cli_check.specs.StepLines
-pub use Rattle.cli_check.specs.Struck
+pub use Rattle.cli_check.specs.Rejected
 pub use Rattle.cli_check.specs.TracesEnds
 pub use Rattle.cli_check.specs.TracesRun
 pub use Rattle.cli_check.specs.declared.input.InputFault

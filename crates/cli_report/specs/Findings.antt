@@ -20,8 +20,8 @@ refused_told endings.Failed node = if node.refused == 0 then [] else refused_lin
 
 -- requests of a node aren't back
 unfoldable pub open_told : NodeFinding → List ℕ
-open_told node = if node.unreturned == 0 then []
-    else codes "open " ++ (decimal node.rank ++ (codes " " ++ (decimal node.unreturned ++ codes "\n")))
+open_told node = if node.outstanding == 0 then []
+    else codes "open " ++ (decimal node.rank ++ (codes " " ++ (decimal node.outstanding ++ codes "\n")))
 
 abbrev pub counts_told : Ending → NodeFinding → List ℕ
 counts_told ending node = refused_told ending node ++ open_told node

@@ -3,11 +3,11 @@ use Rattle.std.specs.Prelude.{◌≡◌, ℕ, suc, zero, List, [], ◌∷◌, �
 
 -- one step more: what was gathered before, and what this place gave behind it
 pub record GivesMore {A : Type 0} (before here : List A → Type 0) (all : List A) : Type 0 where
-  pub front : List A
+  pub prefix : List A
   pub last : List A
-  pub is_front : before front
+  pub is_prefix : before prefix
   pub is_last : here last
-  pub is : all ≡ front ++ last
+  pub is : all ≡ prefix ++ last
 
 -- the places below this one gave these, one after another
 abbrev pub GivesTo : {A : Type 0} → (gives : ℕ → List A → Type 0) → (places : ℕ) → List A → Type 0

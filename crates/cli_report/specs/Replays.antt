@@ -37,7 +37,7 @@ pub record AreStepsAndWaits {T R : Type 0} (texts : Texts T) (given : Replays R)
   pub is : text ≡ steps ++ waits
 
 -- so it is where there is no run
-abbrev pub IsFrontText : {T R : Type 0} → Texts T → Replays R → Ending → (job : List ℕ) → R → (text : List ℕ) → Type 0
-IsFrontText texts given endings.Run job replays text = text ≡ []
-IsFrontText texts given endings.NoRun job replays text = AreStepsAndWaits texts given job replays text
-IsFrontText texts given endings.Failed job replays text = AreStepsAndWaits texts given job replays text
+abbrev pub IsPrefixText : {T R : Type 0} → Texts T → Replays R → Ending → (job : List ℕ) → R → (text : List ℕ) → Type 0
+IsPrefixText texts given endings.Run job replays text = text ≡ []
+IsPrefixText texts given endings.NoRun job replays text = AreStepsAndWaits texts given job replays text
+IsPrefixText texts given endings.Failed job replays text = AreStepsAndWaits texts given job replays text

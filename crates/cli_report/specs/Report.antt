@@ -4,7 +4,7 @@ use Rattle.std.specs.Bool.{MatchBool}
 use Rattle.std.specs.List.{flat_map, list_any}
 use Rattle.cli_report.specs.Findings.{blocked_told, counts_told, difference_told, is_blocked, is_stuck, status_told}
 use Rattle.cli_report.specs.Gathering.{AddsBy, GivesOne, GivesTo}
-use Rattle.cli_report.specs.Replays.{AreSent, IsFrontText}
+use Rattle.cli_report.specs.Replays.{AreSent, IsPrefixText}
 use Rattle.cli_report.specs.Unsent.{gaps_text, is_searched}
 use Rattle.cli_report.specs.declared.command.CommandKind.{CommandKind}
 use Rattle.cli_report.specs.declared.command.CommandKind.TheVariants as kinds
@@ -51,15 +51,15 @@ statuses_text kinds.Launch nodes = []
 statuses_text kinds.World nodes = []
 statuses_text kinds.Other nodes = []
 
--- all of it, in this order, by what the output of each node tells: the front, the counts and the differences, with what
--- is told of no run behind them, and of the patience, and then how the nodes ended
+-- all of it, in this order, by what the output of each node tells: the prefix, the counts and the differences, with
+-- what is told of no run behind them, and of the patience, and then how the nodes ended
 pub record IsToldBy {T R : Type 0} (texts : Texts T) (given : Replays R) (judged : Judged) (job : List ℕ)
     (nodes : List NodeFinding) (replays : R) (text : List ℕ) : Type 0 where
-  pub front : List ℕ
+  pub prefix : List ℕ
   pub judged_text : List ℕ
   pub patient_text : List ℕ
-  pub is_front : IsFrontText texts given judged.ending job replays front
+  pub is_prefix : IsPrefixText texts given judged.ending job replays prefix
   pub no_run : AddsNoRun given judged.ending nodes replays
-      ((front ++ flat_map (counts_told judged.ending) nodes) ++ flat_map difference_told nodes) judged_text
+      ((prefix ++ flat_map (counts_told judged.ending) nodes) ++ flat_map difference_told nodes) judged_text
   pub patience : AddsPatience texts nodes job judged_text patient_text
   pub is : text ≡ patient_text ++ statuses_text judged.kind nodes

@@ -8,8 +8,8 @@ abbrev pub Adds : (old bytes others new : List ℕ) → Type 0
 Adds old bytes others new = (new ≡ old ++ bytes) ⊎ (new ≡ others)
 
 -- the bytes are added at the end, while there are fewer than 8,388,608; where memory runs out, none is kept
-abbrev pub KeepsFront : (keeps : Bool) → (old bytes new : List ℕ) → Type 0
-KeepsFront keeps old bytes new =
+abbrev pub KeepsPrefix : (keeps : Bool) → (old bytes new : List ℕ) → Type 0
+KeepsPrefix keeps old bytes new =
     MatchBool (keeps && nat_lt (length old) 8388608) (Adds old bytes [] new) (new ≡ old)
 
 -- what is kept before the next bytes: nothing where there are 4,096 here or there

@@ -10,15 +10,15 @@ use Rattle.base_io.specs.declared.writing.Wrote.TheVariants as wrote
 use Rattle.base_io.specs.declared.writing.Wrote.{Wrote}
 use Rattle.cli_report.specs.Causes.{fault_line}
 
--- a front of a text was told, where what was told is known
-abbrev pub IsFrontTold : (old new : Option (List ℕ)) → List ℕ → Type 0
-IsFrontTold None new text = ⊤
-IsFrontTold (Some told) new text = (rest : List ℕ) × TakesUpTo (Some told) new text rest
+-- a prefix of a text was told, where what was told is known
+abbrev pub IsPrefixTold : (old new : Option (List ℕ)) → List ℕ → Type 0
+IsPrefixTold None new text = ⊤
+IsPrefixTold (Some told) new text = (rest : List ℕ) × TakesUpTo (Some told) new text rest
 
--- all of a text was told, or at a fault a front of it
+-- all of a text was told, or at a fault a prefix of it
 abbrev pub TellsText : (old new : Option (List ℕ)) → List ℕ → Wrote → Type 0
 TellsText old new text wrote.Done = Appends old new text
-TellsText old new text wrote.Fault = IsFrontTold old new text
+TellsText old new text wrote.Fault = IsPrefixTold old new text
 
 -- whether all of a text was told
 abbrev pub wrote_of : Bool → Wrote

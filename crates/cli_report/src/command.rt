@@ -40,7 +40,7 @@ pub struct Command {
 
 /// Standard input that may be read once more.
 pub trait ReadsAgain {
-    /// What so many bytes of its front were found to be.
+    /// What so many bytes of its prefix were found to be.
     ghost again: { Self → ℕ → List ℕ → Type 0 };
 
     /// So many bytes at most from its beginning; none where it can't be read, or memory runs out.
@@ -122,7 +122,7 @@ impl Command {
         }
     }
 
-    /// Reads the front of the input again, where it wasn't kept and is needed to tell of the run.
+    /// Reads the prefix of the input again, where it wasn't kept and is needed to tell of the run.
     pub fn read_again<A: ReadsAgain>(&mut self, from: &A)
         ensures words { self.new.words ≡ self.old.words }
         ensures steps { self.new.steps ≡ self.old.steps }

@@ -2,7 +2,7 @@
 //! they gave.
 
 ghost use Rattle.std.specs.Prelude.{◌≡◌, [], ◌++◌, ◌∷◌, OnOk, map};
-ghost use Rattle.cli_report.specs.Counted.{KeepsOutput, given, given_of};
+ghost use Rattle.cli_report.specs.Counted.{KeepsOutput, node_output, given_of};
 
 use crate::progress::Counter;
 use crate::seen::Counts;
@@ -46,7 +46,7 @@ impl KeptOutputs {
     /// A copy of what a node gave is kept.
     fn add(&mut self, rank: u16, bytes: &[u8]) -> Result<(), AllocError>
         ensures added { OnOk result (map given_of self.new.outputs.items
-            ≡ map given_of self.old.outputs.items ++ given rank bytes.now ∷ []) }
+            ≡ map given_of self.old.outputs.items ++ node_output rank bytes.now ∷ []) }
         ensures bytes { self.new.bytes ≡ self.old.bytes }
     {
         let bytes = bytes.to_vec(self.alloc)?;
@@ -56,7 +56,7 @@ impl KeptOutputs {
 
     /// Keeps what a node gave, unless all have given too many bytes, or memory runs out.
     fn keep(&mut self, rank: u16, bytes: &[u8])
-        ensures { KeepsOutput self.old.bytes self.new.bytes (given rank bytes.now)
+        ensures { KeepsOutput self.old.bytes self.new.bytes (node_output rank bytes.now)
             (map given_of self.old.outputs.items) (map given_of self.new.outputs.items) }
     {
         self.bytes = self.bytes.saturating_add(bytes.len());

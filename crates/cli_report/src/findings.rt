@@ -24,7 +24,7 @@ pub struct NodeFinding {
     /// How many of its turns got what it refused.
     pub refused: usize,
     /// How many of its requests aren't back.
-    pub unreturned: usize,
+    pub outstanding: usize,
     /// How many turns its trace has.
     pub entries: usize,
     /// How many of them its replay took by itself.
@@ -78,7 +78,7 @@ fn add_refused(text: &mut String, ending: Ending, node: NodeFinding) -> Result<(
 fn add_open(text: &mut String, node: NodeFinding) -> Result<(), AllocError>
     ensures { OnOk result (string_bytes text.new ≡ string_bytes text.old ++ open_told node) }
 {
-    let (rank, open) = (node.rank, node.unreturned);
+    let (rank, open) = (node.rank, node.outstanding);
     if open != 0 {
         return write!(text, "open {rank} {open}\n");
     }

@@ -2,7 +2,7 @@
 
 ghost use Rattle.std.specs.Prelude.{IfOk, OnOk, string_bytes};
 ghost use Rattle.cli_report.specs.Gathering.{GivesOne, GivesTo};
-ghost use Rattle.cli_report.specs.Replays.{AddsSent, AreSent, AreSteps, AreStepsAndWaits, AreWaits, IsFrontText};
+ghost use Rattle.cli_report.specs.Replays.{AddsSent, AreSent, AreSteps, AreStepsAndWaits, AreWaits, IsPrefixText};
 
 use crate::findings::NodeFinding;
 use crate::replays::Replays;
@@ -123,13 +123,13 @@ fn steps_and_waits<T: Texts, R: Replays>(
 }
 
 /// Where there is no run, the steps of the nodes that ended, and those that their threads wait for.
-pub(crate) fn front_text<T: Texts, R: Replays>(
+pub(crate) fn prefix_text<T: Texts, R: Replays>(
     alloc: Global,
     ending: Ending,
     job: &[u8],
     replays: &R,
 ) -> Result<String, AllocError>
-    ensures { IfOk result (λ text. IsFrontText T.Texts R.Replays ending job.now replays.now
+    ensures { IfOk result (λ text. IsPrefixText T.Texts R.Replays ending job.now replays.now
         (string_bytes text)) }
 {
     match ending {

@@ -16,7 +16,7 @@
 //! - `with_port` [`HasWord`, `ArePorts`, `TellsPorts`]: a launch without a port gets one of a block of which each port
 //!   was found free, and that is told.
 //! - `tell_made` [`TellsMade`]: a text is told to what `Tells`, all of it where the answer is true.
-//! - `Seen` [`KeepsFront`, `KeepsEnd`, `KeepsAll`]: which bytes are kept of those that go by. `WatchedReader` and
+//! - `Seen` [`KeepsPrefix`, `KeepsEnd`, `KeepsAll`]: which bytes are kept of those that go by. `WatchedReader` and
 //!   `WatchedWriter` tell what the reader or the writer behind tells, and `CountedSpawner` what the spawner behind
 //!   tells. It keeps what children gave [`KeepsOutput`].
 //! - `Command`: its words, and what is kept of its run. Its input is read again where it is needed [`IsReadAgain`].

@@ -3,7 +3,7 @@
 ghost use Rattle.std.specs.Prelude.{◌≡◌, ◌==◌, ℕ, true, false, [], None, count_by};
 ghost use Rattle.cli_report.specs.Progress.{AreCounted};
 ghost use Rattle.cli_report.specs.declared.progress.Counter.{Counter};
-ghost use Rattle.cli_report.specs.Seen.{KeepsAll, KeepsEnd, KeepsFront};
+ghost use Rattle.cli_report.specs.Seen.{KeepsAll, KeepsEnd, KeepsPrefix};
 
 use crate::progress::{Counted, Counter};
 use std::alloc::Global;
@@ -55,7 +55,7 @@ fn lines_in(bytes: &[u8]) -> u64
 /// What went by in a stream.
 #[derive(Drop)]
 pub struct Seen {
-    /// The bytes that are kept: the front of what was read, the end of what was written, or all of
+    /// The bytes that are kept: the prefix of what was read, the end of what was written, or all of
     /// it.
     pub bytes: Vec<u8>,
     /// Whether what is read is kept; it isn't where it can be read again.
@@ -82,9 +82,9 @@ impl Seen {
         }
     }
 
-    /// Keeps bytes at the front, unless there are too many of them, or memory runs out: then none.
-    fn keep_front(&mut self, bytes: &[u8])
-        ensures bytes { KeepsFront self.old.keeps self.old.bytes.items bytes.now
+    /// Keeps bytes at the prefix, unless there are too many of them, or memory runs out: then none.
+    fn keep_prefix(&mut self, bytes: &[u8])
+        ensures bytes { KeepsPrefix self.old.keeps self.old.bytes.items bytes.now
             self.new.bytes.items }
         ensures keeps { self.new.keeps ≡ self.old.keeps }
         ensures fault { self.new.fault ≡ self.old.fault }
@@ -161,7 +161,7 @@ impl<R: Read, C: Counts> Read for WatchedReader<'_, R, C> {
         match self.reader.read(buf) {
             Ok(len) => {
                 let (bytes, _) = buf.split_at(len);
-                self.seen.keep_front(bytes);
+                self.seen.keep_prefix(bytes);
                 self.counts.add(Counter::Read, len as u64);
                 Ok(len)
             }

@@ -45,8 +45,8 @@ fn line_start(bytes: &[u8]) -> usize
 pub(crate) fn last_line(bytes: &[u8]) -> &[u8]
     ensures { IsLastLine bytes.now result.now }
 {
-    let (front, _) = bytes.split_at(line_end(bytes));
-    let (_, line) = front.split_at(line_start(front));
+    let (prefix, _) = bytes.split_at(line_end(bytes));
+    let (_, line) = prefix.split_at(line_start(prefix));
     line
 }
 
@@ -61,7 +61,7 @@ fn digit(tens: u8, byte: u8) -> Option<u8>
     Some(tens + (byte - b'0'))
 }
 
-/// The number at the front of what stands behind `status `: a digit before a space, or a 1 and a
+/// The number at the prefix of what stands behind `status `: a digit before a space, or a 1 and a
 /// digit.
 fn status_number(text: &[u8]) -> Option<u8>
     ensures { result ≡ status_number text.now }

@@ -13,7 +13,7 @@ pub trait Tells {
     /// What was told so far, where that is known.
     ghost told: { Self → Option (List ℕ) };
 
-    /// Tells a text. At a fault a front of it was told.
+    /// Tells a text. At a fault a prefix of it was told.
     fn tell(&mut self, text: &str) -> Wrote
         ensures { TellsText (told self.old) (told self.new) text.now result };
 }

@@ -1,19 +1,19 @@
 //! What the ring's handlers do: the program's own, written here and not in a script.
 
 ghost use Rattle.std.specs.Prelude.{◌≡◌, ℤ, pos, slice_index_or};
-ghost use Rattle.example_ring.specs.Ring.{counted};
+ghost use Rattle.example_ring.specs.Ring.{cell_after_count};
 
-use gasnet::{Cells, Desk, Handlers, Segment};
+use gasnet::{Cells, Handlers, Segment, Token};
 
-/// The request handler of the token: its argument says how many times the token was passed on.
-pub const TOKEN: u8 = 128;
-/// The reply handler that hears that the token came.
+/// The request handler of the message: its argument says how many times the message was passed on.
+pub const MESSAGE: u8 = 128;
+/// The reply handler that hears that the message came.
 pub const PASSED: u8 = 129;
-/// The cell that says how often the token was passed on when it came here last; 0 before.
+/// The cell that says how often the message was passed on when it came here last; 0 before.
 pub const HOPS: u8 = 0;
-/// The cell that counts how often the token came here.
+/// The cell that counts how often the message came here.
 pub const CAME: u8 = 1;
-/// The cell that counts how often this node was told that its token came.
+/// The cell that counts how often this node was told that its message came.
 pub const TOLD: u8 = 2;
 
 /// The handlers of every node of the ring.
@@ -29,7 +29,7 @@ fn first(args: &[i32]) -> i32
 
 /// A cell rises by 1, wrapping.
 fn count(cells: &mut Cells, cell: u8)
-    ensures { cells.new ≡ counted cells.old cell }
+    ensures { cells.new ≡ cell_after_count cells.old cell }
 {
     cells.set(cell, cells.get(cell).wrapping_add(1));
 }
@@ -37,7 +37,7 @@ fn count(cells: &mut Cells, cell: u8)
 impl Handlers for RingHandlers {
     ghost use Rattle.std.specs.Prelude.{[], ◌∷◌, ◌==◌, pos, if◌then◌else◌, slice_set, slice_index_or};
     ghost use Rattle.gasnet.specs.Messages.{short_reply};
-    ghost use Rattle.gasnet.specs.Handlers.{replying, untouched};
+    ghost use Rattle.gasnet.specs.Handlers.{replying, nothing_done};
     ghost use Rattle.gasnet.proofs.Lawful.{lawful-untouched, lawful-cells, lawful-replying};
     ghost use Rattle.gasnet.proofs.Lawful.{short_reply-content};
     ghost use Rattle.example_ring.specs.Ring.{ring_meaning};
@@ -47,13 +47,13 @@ impl Handlers for RingHandlers {
 
     ghost is_lawful = { λ it handler frame start. ring_lawful handler frame start };
 
-    /// The token's handler notes it and replies how often it was passed on; the reply's counts.
-    fn run(&self, handler: u8, _segment: &mut Segment, cells: &mut Cells, desk: &mut Desk<'_>) {
-        if handler == TOKEN {
-            let hops = first(desk.args());
+    /// The message's handler notes it and replies how often it was passed on; the reply's counts.
+    fn run(&self, handler: u8, _segment: &mut Segment, cells: &mut Cells, token: &mut Token<'_>) {
+        if handler == MESSAGE {
+            let hops = first(token.args());
             cells.set(HOPS, hops);
             count(cells, CAME);
-            let _ = desk.reply_short(PASSED, &[hops]);
+            let _ = token.reply_short(PASSED, &[hops]);
         } else {
             count(cells, TOLD);
         }

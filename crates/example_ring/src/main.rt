@@ -1,12 +1,12 @@
-//! A token goes round a ring of four nodes, over a network that loses, repeats and reorders datagrams.
+//! A message goes round a ring of four nodes, over a network that loses, repeats and reorders datagrams.
 //!
 //! It shows how a run-time embeds `Endpoint`: handlers of its own, written in Rattle with their meaning; calls,
 //! deliveries and ticks; and which slot's message goes out after which answer. Where a node is told that a message was
 //! accepted, sent again, or ran, the program hands the message of that slot to its network, and that is all it owes.
 //!
-//! Each node prints where it passed the token on. At the end each says how often the token came and how often it was
-//! told so: however the network behaves, each request's handler ran at most once, and exactly once where its reply came
-//! back.
+//! Each node prints where it passed the message on. At the end each says how often the message came and how often it
+//! was told so: however the network behaves, each request's handler ran at most once, and exactly once where its reply
+//! came back.
 #![tactic(auto)]
 
 mod handlers;
@@ -19,10 +19,10 @@ use gasnet::Settings;
 use std::alloc::{AllocError, Global};
 use std::io;
 
-/// The time at which the run ends, wherever the token is then.
+/// The time at which the run ends, wherever the message is then.
 const END: u64 = 2_000;
 
-/// The nodes, none of which has seen the token.
+/// The nodes, none of which has seen the message.
 fn opened(alloc: Global) -> Result<Vec<RingNode>, AllocError> {
     let mut nodes = Vec::new(alloc);
     let Some(settings) = Settings::new(1, 7, NODES, 2, 1, 4_096, 1_000, 10) else {
@@ -36,7 +36,7 @@ fn opened(alloc: Global) -> Result<Vec<RingNode>, AllocError> {
 }
 
 /// The node at this place has a turn at this time: it ticks, what comes next on the network is delivered to whom it is
-/// for, and the node passes the token on if it is here. Answers how often it was passed on, where it was.
+/// for, and the node passes the message on if it is here. Answers how often it was passed on, where it was.
 fn turn(
     alloc: Global,
     nodes: &mut [RingNode],

@@ -1,8 +1,8 @@
-//! The nodes of the ring, and how they pass the token on.
+//! The nodes of the ring, and how they pass the message on.
 
 ghost use Rattle.std.specs.Prelude.{◌≡◌, ◌<◌};
 
-use crate::handlers::{CAME, HOPS, PASSED, RingHandlers, TOKEN, TOLD};
+use crate::handlers::{CAME, HOPS, MESSAGE, PASSED, RingHandlers, TOLD};
 use crate::queue::LossyQueue;
 use gasnet::{Answer, Asked, Call, Endpoint, Entry, Event, Serves, Settings, Table};
 use std::alloc::{AllocError, Global};
@@ -10,10 +10,10 @@ use std::marker::Model;
 
 /// How many nodes the ring has.
 pub const NODES: u16 = 4;
-/// How often the token is passed on, in all.
+/// How often the message is passed on, in all.
 pub const LAST: i32 = 12;
 
-/// A node of the ring: its endpoint, and how often the token had been passed on when this node passed it on.
+/// A node of the ring: its endpoint, and how often the message had been passed on when this node passed it on.
 #[derive(Drop)]
 pub struct RingNode {
     endpoint: Endpoint,
@@ -33,7 +33,7 @@ impl Model for RingNode {
 }
 
 impl RingNode {
-    /// A node of a job with one thread, which saw no token; node 0 has the token at first.
+    /// A node of a job with one thread, which saw no message; node 0 has the message at first.
     pub fn new(
         alloc: Global,
         settings: &Settings,
@@ -96,7 +96,7 @@ impl RingNode {
         self.send(alloc, &answer, queue)
     }
 
-    /// Passes the token on, where it is here and wasn't passed on yet, and answers how often it was then. Where no
+    /// Passes the message on, where it is here and wasn't passed on yet, and answers how often it was then. Where no
     /// credit is free nothing happens; the node tries again later.
     pub fn pass_on(
         &mut self,
@@ -111,7 +111,7 @@ impl RingNode {
         let args = [hops + 1];
         let call = Call::Short {
             to: self.next,
-            handler: TOKEN,
+            handler: MESSAGE,
             args: &args,
         };
         let event = Event::Call { thread: 0, call };
@@ -126,17 +126,17 @@ impl RingNode {
         }
     }
 
-    /// The node to which it passes the token on.
+    /// The node to which it passes the message on.
     pub fn next(&self) -> u16 {
         self.next
     }
 
-    /// How often the token came here.
+    /// How often the message came here.
     pub fn came(&self) -> i32 {
         self.endpoint.cells().get(CAME)
     }
 
-    /// How often this node was told that its token came.
+    /// How often this node was told that its message came.
     pub fn told(&self) -> i32 {
         self.endpoint.cells().get(TOLD)
     }
@@ -147,10 +147,10 @@ impl RingNode {
     }
 }
 
-/// The table of all nodes: the token's handler, and the reply's.
+/// The table of all nodes: the message's handler, and the reply's.
 pub fn table(alloc: Global) -> Result<Table, AllocError> {
     let mut table = Table::new(alloc)?;
-    for (index, serves) in [(TOKEN, Serves::Requests), (PASSED, Serves::Replies)] {
+    for (index, serves) in [(MESSAGE, Serves::Requests), (PASSED, Serves::Replies)] {
         // Both indexes are free in a new table.
         let _ = table.register(Entry {
             index,

@@ -39,10 +39,9 @@ pub use node_rules::{Answer, Begun, Call, Event, Local, Region, Ticked};
 pub use node_vis::{Indexed, Level, Piece, Plan, PlanFault, Strided, Vis, Way};
 pub use part_barrier::{BarrierAnswer, Notified};
 pub use part_handlers::{
-    CallKind, Cells, Context, Desk, Entry, EntryFault, Fault, Forbidden, Handlers, Incoming,
-    LockAnswer, LockFault, Log, Replied, Reply, Role, Serves, Table, UnlockAnswer, Violation,
-    Which,
+    CallKind, Cells, Context, Entry, EntryFault, Fault, Forbidden, Handlers, Incoming, LockAnswer,
+    LockFault, Log, Replied, Reply, Role, Serves, Table, Token, UnlockAnswer, Violation, Which,
 };
 pub use part_segment::{Bytes, Offset, Outside, PartFault, Plain, Segment, TypedFault};
 pub use part_transfers::{Handle, ImplicitKinds, Synced, Transfer};
-pub use wire_message::{BarrierNote, PairCredits, Refused, Settings};
+pub use wire_message::{BarrierNotification, PairCredits, Refused, Settings};

@@ -2,7 +2,7 @@
 use Rattle.std.proofs.Common.{◌≡◌, List, [], Bool, true, false, if◌then◌else◌, refl}
 use Rattle.std.specs.Prelude.{◌==◌}
 use Rattle.wire_message.specs.Content.{long_reply, medium_reply, short_reply}
-use Rattle.part_handlers.specs.Runs.{Frame, Outcome, Start, untouched}
+use Rattle.part_handlers.specs.Runs.{Frame, Outcome, Start, nothing_done}
 use Rattle.part_handlers.proofs.Laws.{writes-replying}
 use Rattle.node_core.specs.InPlace.{IsQuiet}
 use Rattle.gasnet_c.specs.Replayed.{asking}
@@ -17,11 +17,11 @@ asking_writes : (reply : Reply) (frame : Frame) (start : Start) → (asking repl
 asking_writes reply frame start =
     let args = reply.args.now in
     let payload = reply.payload.now in
-    quiet-either _ _ (reply.category == 0) (writes-replying frame (short_reply reply.handler args) (untouched start))
+    quiet-either _ _ (reply.category == 0) (writes-replying frame (short_reply reply.handler args) (nothing_done start))
     (quiet-either _ _ (reply.category == 1)
-    (writes-replying frame (medium_reply reply.handler args payload) (untouched start))
+    (writes-replying frame (medium_reply reply.handler args payload) (nothing_done start))
     (quiet-either _ _ (reply.category == 2)
-    (writes-replying frame (long_reply reply.handler args reply.offset payload) (untouched start)) refl))
+    (writes-replying frame (long_reply reply.handler args reply.offset payload) (nothing_done start)) refl))
 
 pub asking_quiet : (reply : Reply) → IsQuiet (λ handler frame start. asking reply frame start)
 asking_quiet reply = record {

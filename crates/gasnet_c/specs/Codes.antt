@@ -66,7 +66,7 @@ barrier_code _ = 5
 
 abbrev pub delivered_code : Delivered → ℕ
 delivered_code (delivered.Ran at) = 12
-delivered_code (delivered.Noted at note) = 13
+delivered_code (delivered.Notified at notification) = 13
 delivered_code (delivered.Duplicate at) = 14
 delivered_code delivered.Stale = 15
 delivered_code (delivered.Returned to slot number) = 16
@@ -77,7 +77,7 @@ delivered_code (delivered.Refused why) = 19
 abbrev pub ticked_code : Ticked → ℕ
 ticked_code ticked.Nothing = 20
 ticked_code (ticked.Retransmission at) = 21
-ticked_code (ticked.Note at) = 24
+ticked_code (ticked.Notification at) = 24
 ticked_code (ticked.Chunk at) = 25
 
 abbrev pub answer_code : Answer → ℕ

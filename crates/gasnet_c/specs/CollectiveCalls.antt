@@ -32,28 +32,28 @@ abbrev pub handles : Handle → CollectivesHandle → Handles
 handles handle collectives = record { node = handle.slot.held; collectives = collectives.slot.held }
 
 -- a node, and its collectives
-pub record Held : Type 0 where
+pub record NodeAndCollectives : Type 0 where
   pub node : EndpointState
   pub collectives : CollectivesState
 
-abbrev pub pair : EndpointState → CollectivesState → Held
+abbrev pub pair : EndpointState → CollectivesState → NodeAndCollectives
 pair node collectives = record { node = node; collectives = collectives }
 
 -- both, where both handles are live
-abbrev pub pair_of : Option EndpointState → Option CollectivesState → Option Held
+abbrev pub pair_of : Option EndpointState → Option CollectivesState → Option NodeAndCollectives
 pair_of (Some node) (Some collectives) = Some (pair node collectives)
 pair_of (Some node) None = None
 pair_of None collectives = None
 
-abbrev pub both : Handles → Option Held
+abbrev pub both : Handles → Option NodeAndCollectives
 both held = pair_of held.node held.collectives
 
 -- the collectives are of that node
-pub record AreOf (held : Held) : Type 0 where
+pub record AreOf (held : NodeAndCollectives) : Type 0 where
   pub settings_are : held.collectives.settings ≡ held.node.core.settings
   pub me_is : held.collectives.me ≡ held.node.core.me
 
-abbrev pub AreOfNode : Option Held → Type 0
+abbrev pub AreOfNode : Option NodeAndCollectives → Type 0
 AreOfNode None = Unit {0}
 AreOfNode (Some held) = AreOf held
 
@@ -103,7 +103,8 @@ pub record IsCallerAt (node : EndpointState) (now : ℕ) (at : Sender) : Type 0 
   pub sends_none : at.sends ≡ None
 
 -- The node's thread started a collective, by calls of a caller at the node, and C is told the answer
-pub record StartsAs (now : ℕ) (asked : StartAsked) (old : Held) (told : Told) (new : Held) : Type 0 where
+pub record StartsAs (now : ℕ) (asked : StartAsked) (old : NodeAndCollectives) (told : Told) (new : NodeAndCollectives)
+    : Type 0 where
   pub answer : StartAnswer
   pub from : Sender
   pub to : Sender
@@ -113,16 +114,17 @@ pub record StartsAs (now : ℕ) (asked : StartAsked) (old : Held) (told : Told) 
   pub told_is : IsNumber (start_code answer) 0 told
 
 -- no kind has the number, and nothing happened; else the start
-abbrev pub StartsOf : (now : ℕ) → Option StartAsked → Held → Told → Held → Type 0
+abbrev pub StartsOf : (now : ℕ) → Option StartAsked → NodeAndCollectives → Told → NodeAndCollectives → Type 0
 StartsOf now None old told new = IsNumber 5 0 told × (new ≡ old)
 StartsOf now (Some asked) old told new = StartsAs now asked old told new
 
-abbrev pub StartsFor : (now : ℕ) → Collective → Held → Told → Held → Type 0
+abbrev pub StartsFor : (now : ℕ) → Collective → NodeAndCollectives → Told → NodeAndCollectives → Type 0
 StartsFor now what old told new =
     StartsOf now (option_map (start_asked_by what) (collective_kind_of what.kind)) old told new
 
 -- the node's thread made a step, and C is told the answer and the datagram that its last call sends
-pub record StepsFor (now : ℕ) (buffer : List ℕ) (old : Held) (told : Told) (new : Held) : Type 0 where
+pub record StepsFor (now : ℕ) (buffer : List ℕ) (old : NodeAndCollectives) (told : Told) (new : NodeAndCollectives)
+    : Type 0 where
   pub answer : StepAnswer
   pub from : Sender
   pub to : Sender
@@ -132,7 +134,7 @@ pub record StepsFor (now : ℕ) (buffer : List ℕ) (old : Held) (told : Told) (
   pub told_is : IsToldStep new.node answer to.sends told buffer
 
 -- the node's thread tried to end it, and C is told the answer
-pub record EndsFor (now dest : ℕ) (old : Held) (told : Told) (new : Held) : Type 0 where
+pub record EndsFor (now dest : ℕ) (old : NodeAndCollectives) (told : Told) (new : NodeAndCollectives) : Type 0 where
   pub answer : EndAnswer
   pub from : Sender
   pub to : Sender
@@ -142,10 +144,13 @@ pub record EndsFor (now dest : ℕ) (old : Held) (told : Told) (new : Held) : Ty
   pub told_is : IsNumber (end_code answer) (end_node answer) told
 
 -- where this is held by both handles it happened to that; else C is told that one is dead, and nothing happened
-abbrev pub WhereHeld : (Held → Told → Held → Type 0) → Option Held → (old : Handles) → Told → (new : Handles) → Type 0
+abbrev pub WhereHeld : (NodeAndCollectives → Told → NodeAndCollectives → Type 0) → Option NodeAndCollectives
+    → (old : Handles) → Told → (new : Handles) → Type 0
 WhereHeld Happens None old told new = IsDead told × (new ≡ old)
-WhereHeld Happens (Some held) old told new = (next : Held) × (both new ≡ Some next) × Happens held told next
+WhereHeld Happens (Some held) old told new =
+    (next : NodeAndCollectives) × (both new ≡ Some next) × Happens held told next
 
 -- where both handles are live it happened to what they hold
-abbrev pub WhereLive : (Held → Told → Held → Type 0) → (old : Handles) → Told → (new : Handles) → Type 0
+abbrev pub WhereLive : (NodeAndCollectives → Told → NodeAndCollectives → Type 0) → (old : Handles) → Told
+    → (new : Handles) → Type 0
 WhereLive Happens old told new = WhereHeld Happens (both old) old told new

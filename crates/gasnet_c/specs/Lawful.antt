@@ -4,13 +4,14 @@ use Rattle.std.specs.Ordering.{int_eq}
 use Rattle.std.proofs.Common.{Bool, true, false, refl, if◌then◌else◌}
 use Rattle.std.proofs.lemmas.Bool.{ltb-false}
 use Rattle.part_segment.specs.Image.{Write}
-use Rattle.part_handlers.specs.Runs.{Frame, Start, Outcome, IsLawfulRun, untouched}
+use Rattle.part_handlers.specs.Runs.{Frame, Start, Outcome, IsLawfulRun, nothing_done}
 use Rattle.part_handlers.proofs.Lawful.{lawful-replying, lawful-untouched, lawful-writing, long_reply-content}
 use Rattle.part_handlers.proofs.Lawful.{medium_reply-content, short_reply-content}
 use Rattle.gasnet_c.specs.declared.replay.Reply.{Reply}
 use Rattle.gasnet_c.specs.declared.replay.Run.{Run}
 use Rattle.gasnet_c.specs.declared.replay.OwnRuns.{OwnRuns}
-use Rattle.gasnet_c.specs.Replayed.{answering, asking, both_replayed, left_write, leaving, mark_of, marked, replayed}
+use Rattle.gasnet_c.specs.Replayed.{answering, asking, both_replayed, left_write, leaving, mark_of, with_mark}
+use Rattle.gasnet_c.specs.Replayed.{outcome_of_run}
 use Rattle.gasnet_c.specs.Replayed.{writing_if}
 
 lawful-kept : {frame : Frame} {start : Start} {outcome : Outcome} (write : Write) (none far : Bool)
@@ -21,7 +22,7 @@ lawful-kept write false true test lawful = lawful
 lawful-kept write false false test lawful = lawful-writing _ _ _ write (ltb-false _ _ test) lawful
 
 lawful-left : (frame : Frame) (start : Start) (place : Option (ℕ × ℕ)) (bytes : List ℕ)
-    → IsLawfulRun frame start (writing_if (left_write (length start.segment) place bytes) (untouched start))
+    → IsLawfulRun frame start (writing_if (left_write (length start.segment) place bytes) (nothing_done start))
 lawful-left frame start None bytes = lawful-untouched frame start
 lawful-left frame start (Some place) bytes =
     lawful-kept (record { offset = place.0; bytes = bytes }) _ _ refl (lawful-untouched frame start)
@@ -50,7 +51,8 @@ lawful-answering reply frame start outcome lawful =
 pub asking_lawful : (reply : Reply) (frame : Frame) (start : Start) → IsLawfulRun frame start (asking reply frame start)
 asking_lawful reply frame start = lawful-answering reply frame start _ (lawful-untouched frame start)
 
-pub replayed_lawful : (run : Run) (frame : Frame) (start : Start) → IsLawfulRun frame start (replayed run frame start)
+pub replayed_lawful : (run : Run) (frame : Frame) (start : Start)
+    → IsLawfulRun frame start (outcome_of_run run frame start)
 replayed_lawful run frame start =
     lawful-answering run.reply frame start _ (leaving_lawful run.left.now frame start)
 
@@ -67,5 +69,5 @@ pub both_lawful : (it : OwnRuns) (frame : Frame) (start : Start)
     → IsLawfulRun frame start (both_replayed it frame start)
 both_lawful it frame start =
     lawful-either (int_eq (mark_of start.cells) it.mark)
-    (other-cells refl refl (replayed_lawful it.request frame (marked it.mark start)))
+    (other-cells refl refl (replayed_lawful it.request frame (with_mark it.mark start)))
     (leaving_lawful it.reply.bytes.now frame start)

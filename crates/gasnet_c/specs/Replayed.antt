@@ -4,7 +4,7 @@ use Rattle.std.specs.Prelude.{slice_index_or, slice_set}
 use Rattle.std.specs.Ordering.{int_eq}
 use Rattle.part_segment.specs.Image.{Write, overwritten}
 use Rattle.wire_message.specs.Content.{short_reply, medium_reply, long_reply}
-use Rattle.part_handlers.specs.Runs.{Frame, Start, Outcome, Meaning, replying, untouched, writing}
+use Rattle.part_handlers.specs.Runs.{Frame, Start, Outcome, Meaning, replying, nothing_done, writing}
 use Rattle.node_core.specs.InPlace.{keeping_in}
 use Rattle.node_endpoint.specs.EndpointState.{EndpointState}
 use Rattle.gasnet_c.specs.declared.replay.Reply.{Reply}
@@ -32,7 +32,7 @@ overwritten_if (Some write) segment = overwritten segment write
 
 -- a handler that left these bytes at a Long's place
 abbrev pub leaving : List ℕ → Frame → Start → Outcome
-leaving left frame start = writing_if (left_write (length start.segment) frame.arrival.place left) (untouched start)
+leaving left frame start = writing_if (left_write (length start.segment) frame.arrival.place left) (nothing_done start)
 
 -- after the reply that it asked for, if any
 abbrev pub answering : Reply → Frame → Outcome → Outcome
@@ -46,7 +46,7 @@ answering reply frame outcome =
 
 -- the reply that it asked for alone
 abbrev pub asking : Reply → Frame → Start → Outcome
-asking reply frame start = answering reply frame (untouched start)
+asking reply frame start = answering reply frame (nothing_done start)
 
 -- what the handlers of a delivery mean at a node with this segment, whichever they are: C ran them, they asked for this
 -- reply, and left at a Long's place what stands there
@@ -55,8 +55,8 @@ asked_in None reply = λ handler frame start. asking reply frame start
 asked_in (Some endpoint) reply = keeping_in endpoint.core.segment (λ handler frame start. asking reply frame start)
 
 -- the handler did this
-abbrev pub replayed : Run → Frame → Start → Outcome
-replayed run frame start = answering run.reply frame (leaving run.left.now frame start)
+abbrev pub outcome_of_run : Run → Frame → Start → Outcome
+outcome_of_run run frame start = answering run.reply frame (leaving run.left.now frame start)
 
 -- ---- a request to the local node
 
@@ -69,13 +69,13 @@ abbrev pub next_mark : ℤ → ℤ
 next_mark mark = if int_eq mark (pos 0) then pos 1 else pos 0
 
 -- what a handler finds where the mark was changed
-abbrev pub marked : ℤ → Start → Start
-marked mark start = record start { cells = slice_set start.cells 0 (next_mark mark) }
+abbrev pub with_mark : ℤ → Start → Start
+with_mark mark start = record start { cells = slice_set start.cells 0 (next_mark mark) }
 
 -- the request's handler, which finds the mark, did this; the reply's left those bytes at a Long's place
 abbrev pub both_replayed : OwnRuns → Frame → Start → Outcome
 both_replayed it frame start =
-    if int_eq (mark_of start.cells) it.mark then replayed it.request frame (marked it.mark start)
+    if int_eq (mark_of start.cells) it.mark then outcome_of_run it.request frame (with_mark it.mark start)
     else leaving it.reply.bytes.now frame start
 
 -- the handlers mean that, whichever they are

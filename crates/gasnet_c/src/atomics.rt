@@ -67,7 +67,7 @@ pub fn request<'a>(to: u16, args: &'a [i32], payload: &'a [u8]) -> Call<'a>
 
 /// Asks an operation on a word of a node, which acts at one moment of that node. It is `GASNET_C_ACCEPTED`, and the
 /// datagram that is to be sent is told; `GASNET_C_RAN_HERE` where the node is the local one, and the operation is done;
-/// `GASNET_C_NOT_YET` where all credits of the pair are out, and `GASNET_C_WORN_OUT` where its numbers are used up; or
+/// `GASNET_C_NOT_YET` where all credits of the pair are out, and `GASNET_C_EXHAUSTED` where its numbers are used up; or
 /// `GASNET_C_BAD` where no operation has its number, the target is no node, or a place isn't inside a segment or isn't
 /// a multiple of 8. Only where it is accepted, or ran, something happened.
 ///

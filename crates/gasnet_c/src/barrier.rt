@@ -33,7 +33,7 @@ pub extern "C" fn gasnet_c_notify(
 }
 
 /// Tries the barrier, with the identifier and flags of the notify. It is `GASNET_C_OK` where the phase is complete, and
-/// `GASNET_C_MISMATCH` where it is and the notifies don't match; `GASNET_C_NOT_READY`; `GASNET_C_WORN_OUT` where it
+/// `GASNET_C_MISMATCH` where it is and the notifies don't match; `GASNET_C_NOT_READY`; `GASNET_C_EXHAUSTED` where it
 /// never will be; or `GASNET_C_BAD` out of turn.
 #[unsafe(no_mangle)]
 pub extern "C" fn gasnet_c_try(

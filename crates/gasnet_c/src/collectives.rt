@@ -71,7 +71,7 @@ pub extern "C" fn gasnet_c_coll_free(alloc: Global, collectives: &mut Collective
 /// Starts the node's next collective with the bytes at `from` of its segment. It is `GASNET_C_OK`; or `GASNET_C_BAD`
 /// where the one before isn't ended, no kind has the number, the root isn't a node (or isn't 0 for a kind without one),
 /// the length is above the room or for a reduction no multiple of 8, or the bytes pass the end of the segment; or
-/// `GASNET_C_WORN_OUT` where all 2^64 - 1 were started. Only where it is `GASNET_C_OK` one is started.
+/// `GASNET_C_EXHAUSTED` where all 2^64 - 1 were started. Only where it is `GASNET_C_OK` one is started.
 ///
 /// The bytes are copied: they may be changed after it.
 #[unsafe(no_mangle)]
@@ -135,7 +135,7 @@ pub extern "C" fn gasnet_c_coll_step(
 
 /// Tries to end the collective that is started. It is `GASNET_C_OK` where it ends, and the node's result stands at
 /// `dest`; `GASNET_C_MISMATCH` where it ends without one, as the node that is told, the first of these, started it with
-/// another kind, root or length; `GASNET_C_NOT_READY`; `GASNET_C_WORN_OUT` where it isn't ready, and no numbers are
+/// another kind, root or length; `GASNET_C_NOT_READY`; `GASNET_C_EXHAUSTED` where it isn't ready, and no numbers are
 /// left for the node that is told; or `GASNET_C_BAD` where none is started, or the result's place passes the end of the
 /// segment, shares a byte with the area, or is that of words that this node has and isn't a multiple of 8.
 ///

@@ -85,7 +85,7 @@ fn asked_call<'a>(ask: &Ask<'a>) -> Call<'a>
 }
 
 /// A request to another node. It is `GASNET_C_ACCEPTED`, and the datagram that is to be sent is told; or
-/// `GASNET_C_NOT_YET` where all credits of the pair are out, `GASNET_C_WORN_OUT` where its numbers are used up, and
+/// `GASNET_C_NOT_YET` where all credits of the pair are out, `GASNET_C_EXHAUSTED` where its numbers are used up, and
 /// `GASNET_C_BAD` where a part of it is bad. Only where it is accepted something happened.
 ///
 /// C asks nothing of the local node by this call: such a request would run a handler that does nothing.
@@ -183,7 +183,7 @@ pub extern "C" fn gasnet_c_peek(alloc: Global, handle: &mut Handle, bytes: &[u8]
 /// Delivers the bytes of a datagram, whatever they are. Where `gasnet_c_peek` told of a handler that runs, C ran it
 /// before this call, and `reply` is the reply that it asked for; else `reply` isn't read.
 ///
-/// It is `GASNET_C_RAN`, `GASNET_C_NOTED` or `GASNET_C_AGAIN`, and a reply is told that is to be sent;
+/// It is `GASNET_C_RAN`, `GASNET_C_NOTIFIED` or `GASNET_C_DUPLICATE`, and a reply is told that is to be sent;
 /// `GASNET_C_RETURNED`, and the node and slot are told of the request that is back; or `GASNET_C_STALE`,
 /// `GASNET_C_LATE`, `GASNET_C_DEFERRED` or `GASNET_C_REFUSED`, and nothing happened.
 ///

@@ -3,7 +3,7 @@
 ghost use Rattle.std.specs.Prelude.{◌≡◌, length};
 ghost use Rattle.gasnet_c.specs.Replayed.{left_write, next_mark, overwritten_if};
 
-use part_handlers::{Cells, Desk, Handlers};
+use part_handlers::{Cells, Handlers, Token};
 use part_segment::Segment;
 
 /// The reply that a handler asked for: `gasnet_c_reply`.
@@ -104,17 +104,17 @@ impl Handlers for Replying<'_> {
     ghost is_lawful = { λ it handler frame start. asking_lawful it.reply frame start };
 
     /// It asks for the reply that C's handler asked for.
-    fn run(&self, _handler: u8, _segment: &mut Segment, _cells: &mut Cells, desk: &mut Desk<'_>) {
+    fn run(&self, _handler: u8, _segment: &mut Segment, _cells: &mut Cells, token: &mut Token<'_>) {
         let reply = &self.reply;
         match reply.category {
             0 => {
-                let _ = desk.reply_short(reply.handler, reply.args);
+                let _ = token.reply_short(reply.handler, reply.args);
             }
             1 => {
-                let _ = desk.reply_medium(reply.handler, reply.args, reply.payload);
+                let _ = token.reply_medium(reply.handler, reply.args, reply.payload);
             }
             2 => {
-                let _ = desk.reply_long(reply.handler, reply.args, reply.payload, reply.offset);
+                let _ = token.reply_long(reply.handler, reply.args, reply.payload, reply.offset);
             }
             _ => {}
         }
@@ -122,26 +122,26 @@ impl Handlers for Replying<'_> {
 }
 
 impl Handlers for Run<'_> {
-    ghost use Rattle.gasnet_c.specs.Replayed.{replayed};
+    ghost use Rattle.gasnet_c.specs.Replayed.{outcome_of_run};
     ghost use Rattle.gasnet_c.specs.Lawful.{replayed_lawful};
 
-    ghost meaning = { λ it handler frame start. replayed it frame start };
+    ghost meaning = { λ it handler frame start. outcome_of_run it frame start };
 
     ghost is_lawful = { λ it handler frame start. replayed_lawful it frame start };
 
     /// It leaves what C's handler left, and asks for the reply that it asked for.
-    fn run(&self, _handler: u8, segment: &mut Segment, _cells: &mut Cells, desk: &mut Desk<'_>) {
-        leave(segment, desk.place(), self.left);
+    fn run(&self, _handler: u8, segment: &mut Segment, _cells: &mut Cells, token: &mut Token<'_>) {
+        leave(segment, token.place(), self.left);
         let reply = &self.reply;
         match reply.category {
             0 => {
-                let _ = desk.reply_short(reply.handler, reply.args);
+                let _ = token.reply_short(reply.handler, reply.args);
             }
             1 => {
-                let _ = desk.reply_medium(reply.handler, reply.args, reply.payload);
+                let _ = token.reply_medium(reply.handler, reply.args, reply.payload);
             }
             2 => {
-                let _ = desk.reply_long(reply.handler, reply.args, reply.payload, reply.offset);
+                let _ = token.reply_long(reply.handler, reply.args, reply.payload, reply.offset);
             }
             _ => {}
         }
@@ -157,8 +157,8 @@ impl Handlers for Left<'_> {
     ghost is_lawful = { λ it handler frame start. leaving_lawful it.bytes.now frame start };
 
     /// It leaves what C's handler left.
-    fn run(&self, _handler: u8, segment: &mut Segment, _cells: &mut Cells, desk: &mut Desk<'_>) {
-        leave(segment, desk.place(), self.bytes);
+    fn run(&self, _handler: u8, segment: &mut Segment, _cells: &mut Cells, token: &mut Token<'_>) {
+        leave(segment, token.place(), self.bytes);
     }
 }
 
@@ -171,12 +171,12 @@ impl Handlers for OwnRuns<'_> {
     ghost is_lawful = { λ it handler frame start. both_lawful it frame start };
 
     /// The request's handler changes the mark and does what it did; the reply's leaves what it left.
-    fn run(&self, handler: u8, segment: &mut Segment, cells: &mut Cells, desk: &mut Desk<'_>) {
+    fn run(&self, handler: u8, segment: &mut Segment, cells: &mut Cells, token: &mut Token<'_>) {
         if cells.get(MARK) == self.mark {
             cells.set(MARK, next_mark(self.mark));
-            self.request.run(handler, segment, cells, desk);
+            self.request.run(handler, segment, cells, token);
         } else {
-            self.reply.run(handler, segment, cells, desk);
+            self.reply.run(handler, segment, cells, token);
         }
     }
 }

@@ -13,7 +13,7 @@ use crate::told::{Told, dead};
 use node_atomics::serve as serve_batch;
 use node_rules::Event;
 use part_collective_area::serve as serve_collective;
-use part_handlers::{Cells, Desk, Handlers};
+use part_handlers::{Cells, Handlers, Token};
 use part_segment::Segment;
 use std::alloc::Global;
 
@@ -32,11 +32,11 @@ impl Handlers for OwnHandlers {
     ghost is_lawful = { λ it handler frame start. serving_lawful handler frame start };
 
     /// It does the operations of a batch, and replies; or it writes stamp and shape of a collective.
-    fn run(&self, handler: u8, segment: &mut Segment, _cells: &mut Cells, desk: &mut Desk<'_>) {
+    fn run(&self, handler: u8, segment: &mut Segment, _cells: &mut Cells, token: &mut Token<'_>) {
         if handler == COLLECTIVE_HANDLER {
-            serve_collective(segment, desk);
+            serve_collective(segment, token);
         } else {
-            serve_batch(handler, segment, desk);
+            serve_batch(handler, segment, token);
         }
     }
 }

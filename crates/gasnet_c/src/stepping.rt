@@ -59,9 +59,9 @@ pub fn called(alloc: Global, handle: &mut Handle, now: u64, call: Call<'_>) -> T
     )
 }
 
-/// A tick: at most one datagram that is due goes out. It is `GASNET_C_RESENT` where a request is sent again that had no
-/// reply in the setup's `resend`, else `GASNET_C_NOTE` for a note of the barrier, else `GASNET_C_CHUNK` for the next
-/// chunk of the oldest transfer whose target has a credit, else `GASNET_C_NOTHING`.
+/// A tick: at most one datagram that is due goes out. It is `GASNET_C_RETRANSMISSION` where a request is sent again
+/// that had no reply in the setup's `resend`, else `GASNET_C_NOTIFICATION` for a notification of the barrier, else
+/// `GASNET_C_CHUNK` for the next chunk of the oldest transfer whose target has a credit, else `GASNET_C_NOTHING`.
 ///
 /// `now` is a time in the setup's unit, and never runs backwards. C owes a buffer of `GASNET_C_ROOM` bytes: what
 /// doesn't fit isn't told, and is sent again in time.

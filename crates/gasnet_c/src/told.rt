@@ -84,7 +84,7 @@ fn delivered_code(delivered: &Delivered) -> u32
 {
     match delivered {
         Delivered::Ran(_) => 12,
-        Delivered::Noted(_, _) => 13,
+        Delivered::Notified(_, _) => 13,
         Delivered::Duplicate(_) => 14,
         Delivered::Stale => 15,
         Delivered::Returned { .. } => 16,
@@ -101,7 +101,7 @@ fn ticked_code(ticked: &Ticked) -> u32
     match ticked {
         Ticked::Nothing => 20,
         Ticked::Retransmission(_) => 21,
-        Ticked::Note(_) => 24,
+        Ticked::Notification(_) => 24,
         Ticked::Chunk(_) => 25,
     }
 }

@@ -86,7 +86,7 @@ pub extern "C" fn gasnet_c_begin(alloc: Global, handle: &mut Handle, now: u64, w
 }
 
 /// Tries to synchronise the operation with this handle. It is `GASNET_C_OK`, and the handle is used up;
-/// `GASNET_C_NOT_READY`; `GASNET_C_WORN_OUT` where it never will be; or `GASNET_C_BAD` where nothing has the handle.
+/// `GASNET_C_NOT_READY`; `GASNET_C_EXHAUSTED` where it never will be; or `GASNET_C_BAD` where nothing has the handle.
 #[unsafe(no_mangle)]
 pub extern "C" fn gasnet_c_sync(alloc: Global, handle: &mut Handle, now: u64, serial: u64) -> Told
     requires { IsWhole handle.old }

@@ -26,7 +26,7 @@ pub record IsFindingOf (node : NodeReplay) (turns : ℕ) (finding : NodeFinding)
   pub violated : ForItsRecord node.node (λ state.
       finding.violated ≡ not ((log_of state.local.core.violations).count == 0))
   pub refused : finding.refused ≡ node.refused
-  pub unreturned : finding.unreturned ≡ node.unreturned
+  pub outstanding : finding.outstanding ≡ node.outstanding
   pub entries : finding.entries ≡ length node.trace.entries
   pub turns_are : finding.turns ≡ turns
 

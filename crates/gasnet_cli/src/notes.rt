@@ -18,7 +18,7 @@ impl<'a, H: Eprint> StandardNotes<'a, H> {
 }
 
 impl<H: Eprint + AllocGlobal> Notes for StandardNotes<'_, H> {
-    fn struck(&mut self, rank: u16, turns: usize) {
+    fn rejected(&mut self, rank: u16, turns: usize) {
         let line = refused_line(self.rt.alloc(), rank, turns);
         tell_made(&mut StandardError::new(self.rt), &line);
     }

@@ -26,7 +26,7 @@ fn finding_of(node: &NodeReplay, turns: usize) -> NodeFinding
         over: node.over,
         violated: node.node.log().count() != 0,
         refused: node.refused,
-        unreturned: node.unreturned,
+        outstanding: node.outstanding,
         entries: node.trace.entries.as_slice().len(),
         turns,
     }

@@ -11,10 +11,10 @@ use Rattle.spec_node.specs.declared.answer.Delivered.{Delivered}
 use Rattle.spec_node.specs.declared.answer.Delivered.TheVariants as delivered
 use Rattle.spec_node.specs.NodeStep.{OfDelivery}
 use Rattle.spec_network.specs.World.{Event, WorldAnswer, OfNode, world_answer}
-use Rattle.spec_network.specs.Plain.{Labelled, IsRequest, InRuns, is_among, reply_of, plain_of}
-use Rattle.spec_network.specs.PlainStep.{Named}
+use Rattle.spec_network.specs.Plain.{PlainRequest, IsRequest, InRuns, is_among, reply_of, plain_of}
+use Rattle.spec_network.specs.PlainStep.{RequestName}
 use Rattle.spec_network.specs.Headline.{IsRanAnswer, request_comes}
-use Rattle.base_lists.specs.Numbered.{numbered}
+use Rattle.base_lists.specs.Numbered.{element_at}
 use Rattle.base_lists.proofs.Numbered.{numbered_nil}
 use Rattle.spec_network.proofs.PlainReadings.{is_back_says, among_from}
 use Rattle.node_rules.specs.EndpointLocal.{IsEndpointKept}
@@ -42,7 +42,7 @@ use Rattle.law_atomics.proofs.Serving.{request_left, reply_left, reply_with}
 -- the answer says that a request ran
 ran_is : {X : Type 0} (answer : Delivered) (found : Option X) → IsRanAnswer answer → if_ran answer found ≡ found
 ran_is (delivered.Ran at) found ran = refl
-ran_is (delivered.Noted at note) found ran = refl
+ran_is (delivered.Notified at notification) found ran = refl
 ran_is (delivered.Duplicate at) found ran = absurd ran.1
 ran_is delivered.Stale found ran = absurd ran.1
 ran_is (delivered.Returned to slot number) found ran = absurd ran.1
@@ -51,14 +51,14 @@ ran_is (delivered.Deferred lock) found ran = absurd ran.1
 ran_is (delivered.Refused why) found ran = absurd ran.1
 
 -- what runs at the target by the delivery of a request
-content_here : (test : Bool) (answer : Delivered) (found : Option Labelled) (request : Labelled) → test ≡ true
+content_here : (test : Bool) (answer : Delivered) (found : Option PlainRequest) (request : PlainRequest) → test ≡ true
     → IsRanAnswer answer → found ≡ Some request
-    → (if test then if_ran answer (option_map (λ (r : Labelled). r.content) found) else None) ≡ Some request.content
+    → (if test then if_ran answer (option_map (λ (r : PlainRequest). r.content) found) else None) ≡ Some request.content
 content_here test answer found request here ran is =
     rw here (rw is (ran_is answer (Some request.content) ran))
 
-ops_here : (settings : Parameters) (table : List (Option Entry)) (meaning : Meaning) (name : Named)
-    (request : Labelled) (batch : BatchRequest) (moment : EndpointMoment)
+ops_here : (settings : Parameters) (table : List (Option Entry)) (meaning : Meaning) (name : RequestName)
+    (request : PlainRequest) (batch : BatchRequest) (moment : EndpointMoment)
     → batch_of settings request.content ≡ Some batch
     → (runs : Runs (job_of settings table meaning) name moment)
     → IsRequest (plain_of moment.before) name.from name.to name.number request
@@ -72,19 +72,19 @@ ops_here settings table meaning name request batch moment says runs asked =
     (world_answer job moment.before moment.timed)) runs.event
     ∙ ap (λ (answer : WorldAnswer Answer). content_run job plain name.to (request_comes name) answer) runs.answered in
     let found = by_event ∙ content_here (name.to == name.to) runs.answer
-    (numbered (plain.requests name.from name.to) name.number) request (eq-eqb name.to name.to refl) runs.ran asked in
+    (element_at (plain.requests name.from name.to) name.number) request (eq-eqb name.to name.to refl) runs.ran asked in
     ap (λ (content : Option Content). ops_of (option_and_then (batch_of settings) content)) found ∙ ap ops_of says
 
 -- ---- the request runs
 
 -- the batch acts, and replies with what the words were
-pub record ActsSo (settings : Parameters) (table : List (Option Entry)) (meaning : Meaning) (name : Named)
+pub record ActsSo (settings : Parameters) (table : List (Option Entry)) (meaning : Meaning) (name : RequestName)
     (batch : BatchRequest) (last : Records) (olds : List ℕ) (moment : EndpointMoment) : Type 0 where
   pub acts : Acts (job_of settings table meaning) name batch olds moment
   pub reply : reply_of name.number ((plain_of last).runs name.from name.to) ≡ Some (reply_with batch olds)
 
-pub acts_so : (settings : Parameters) (table : List (Option Entry)) (meaning : Meaning) (name : Named)
-    (request : Labelled) (batch : BatchRequest) (last : Records) (moment : EndpointMoment)
+pub acts_so : (settings : Parameters) (table : List (Option Entry)) (meaning : Meaning) (name : RequestName)
+    (request : PlainRequest) (batch : BatchRequest) (last : Records) (moment : EndpointMoment)
     → HasBatches table → ServesBatches meaning → batch_of settings request.content ≡ Some batch
     → AreSound settings table meaning
     → Around (job_of settings table meaning) (IsEndpointKept settings) moment
@@ -119,14 +119,14 @@ acts_so settings table meaning name request batch last moment has serves says so
 
 -- ---- all of it
 
-nothing_ran : (settings : Parameters) (name : Named)
+nothing_ran : (settings : Parameters) (name : RequestName)
     → InRuns (plain_of (at_the_opening settings)) name.from name.to name.number → ⊥
 nothing_ran settings name ran = true≢false (sym ran)
 
-nothing_back : (settings : Parameters) (name : Named)
+nothing_back : (settings : Parameters) (name : RequestName)
     → (plain_of (at_the_opening settings)).back name.from name.to name.number ≡ true → ⊥
 nothing_back settings name back =
-    let there = is_back_says (numbered [] name.number) back in
+    let there = is_back_says (element_at [] name.number) back in
     numbered_nil name.number there.0 there.1
 
 pub batches_go : (settings : Parameters) (table : List (Option Entry)) (meaning : Meaning)

@@ -13,7 +13,7 @@ use Rattle.part_segment.specs.Image.{AllFit, image, written_by}
 use Rattle.part_segment.proofs.Images.{length-image, image-append}
 use Rattle.part_handlers.specs.declared.table.Entry.{Entry}
 use Rattle.part_handlers.specs.Runs.{Meaning}
-use Rattle.spec_network.specs.World.{Timed, world_answer, world_after, run}
+use Rattle.spec_network.specs.World.{EventAt, world_answer, world_after, run}
 use Rattle.spec_network.specs.Plain.{plain_of}
 use Rattle.spec_network.proofs.Worlds.{step_keeps}
 use Rattle.node_rules.specs.EndpointLocal.{IsEndpointKept}
@@ -53,7 +53,7 @@ good_run settings (Some content) = good_ops settings (batch_of settings content)
 
 -- so are those that run at an event
 good_at : (settings : Parameters) (table : List (Option Entry)) (meaning : Meaning) (world : Records)
-    (e : Timed OtherCall) (node : ℕ)
+    (e : EventAt OtherCall) (node : ℕ)
     → Good settings.segment (ops_at (job_of settings table meaning) world e node)
 good_at settings table meaning world e node =
     let job = job_of settings table meaning in
@@ -62,7 +62,7 @@ good_at settings table meaning world e node =
 -- ---- one event
 
 made_at : (settings : Parameters) (table : List (Option Entry)) (meaning : Meaning) (world : Records)
-    (e : Timed OtherCall) (later : List (Timed OtherCall)) (node offset : ℕ)
+    (e : EventAt OtherCall) (later : List (EventAt OtherCall)) (node offset : ℕ)
     → AllHolds settings table meaning world
     → AllHolds settings table meaning (world_after (job_of settings table meaning) world e)
     → OnlyBatches (job_of settings table meaning) node offset (record { before = world; timed = e; later = later })
@@ -94,7 +94,7 @@ made_at settings table meaning world e later node offset holds then only aligned
 -- ---- a run
 
 made_in : (settings : Parameters) (table : List (Option Entry)) (meaning : Meaning)
-    (events : List (Timed OtherCall)) (world : Records) (node offset : ℕ) → AreSound settings table meaning
+    (events : List (EventAt OtherCall)) (world : Records) (node offset : ℕ) → AreSound settings table meaning
     → AreAmong (job_of settings table meaning) events → AllHolds settings table meaning world
     → AtEach (job_of settings table meaning) (OnlyBatches (job_of settings table meaning) node offset) events world
     → offset % 8 ≡ 0

@@ -3,7 +3,7 @@ use Rattle.std.proofs.Common.{◌≡◌, ◌++◌, ◌∷◌, List, Option, Some
 use Rattle.wire_message.specs.Parameters.{Parameters}
 use Rattle.part_handlers.specs.declared.table.Entry.{Entry}
 use Rattle.part_handlers.specs.Runs.{Meaning}
-use Rattle.spec_network.specs.PlainStep.{named}
+use Rattle.spec_network.specs.PlainStep.{request_name}
 use Rattle.node_rules.specs.EndpointRules.{job_of}
 use Rattle.node_rules.proofs.Sound.{rules_sound}
 use Rattle.law_transfers.proofs.Stretches.{AreSound}
@@ -30,7 +30,7 @@ accepted_go : (settings : Parameters) (table : List (Option Entry)) (meaning : M
     → AcceptedBatchesGo (job_of settings table meaning)
 accepted_go settings table meaning sound go before later event name batch among it asks =
     let job = job_of settings table meaning in
-    go (before ++ event ∷ later) (named name.from name.to name.number) among (record {
+    go (before ++ event ∷ later) (request_name name.from name.to name.number) among (record {
       request = accepted_request job (after_all job before) name;
       accepted = accepted_stays settings table meaning before later event name sound among it.asks it.answered;
       batch = batch;

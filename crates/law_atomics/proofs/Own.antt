@@ -17,7 +17,7 @@ use Rattle.spec_network.specs.PlainStep.{AskStep, PlainStep, plain_said}
 use Rattle.spec_network.proofs.PlainSteps.{step_plain}
 use Rattle.node_core.specs.HandlerRuns.{handlers_of, run_request, run_reply}
 use Rattle.node_rules.specs.EndpointLocal.{EndpointLocal, IsEndpointKept}
-use Rattle.node_rules.specs.EndpointRules.{job_of, timed}
+use Rattle.node_rules.specs.EndpointRules.{job_of, timed_event}
 use Rattle.node_rules.specs.declared.answer.Answer.{Answer}
 use Rattle.law_transfers.specs.Chunks.{segment_at, writes_at}
 use Rattle.law_transfers.proofs.Stretches.{AreSound}
@@ -41,7 +41,7 @@ own_acts settings table meaning sound has serves events now node ask batch among
     let job = job_of settings table meaning in
     let kept = IsEndpointKept settings in
     let world = after_all job events in
-    let event = timed now (AsksEvent node ask) in
+    let event = timed_event now (AsksEvent node ask) in
     let after = world_after job world event in
     let holds = all_holds settings table meaning events sound among in
     let step : AskStep (site_of job node) (plain_of world) ask asked.Ran (plain_of after)

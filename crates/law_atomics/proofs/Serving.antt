@@ -15,8 +15,8 @@ use Rattle.part_handlers.specs.declared.rules.Forbidden.{Forbidden}
 use Rattle.part_handlers.specs.declared.message.Replied.TheVariants as replied
 use Rattle.part_handlers.specs.Rules.{rule, context_of}
 use Rattle.part_handlers.specs.Registered.{entry_at, is_for_replies}
-use Rattle.part_handlers.specs.Runs.{Frame, Start, Outcome, Meaning, answer, answer_by, after_answer, untouched}
-use Rattle.part_handlers.specs.Runs.{closed}
+use Rattle.part_handlers.specs.Runs.{Frame, Start, Outcome, Meaning, answer, answer_by, after_answer, nothing_done}
+use Rattle.part_handlers.specs.Runs.{after_return}
 use Rattle.part_handlers.specs.declared.message.Which.TheVariants as which
 use Rattle.part_handlers.specs.declared.message.Replied.{Replied}
 use Rattle.part_segment.proofs.Images.{length-image}
@@ -27,7 +27,7 @@ use Rattle.node_core.specs.HandlerRuns.{handlers_of, frame_of_run, landing, outc
 use Rattle.node_core.specs.HandlerRuns.{run_request, run_reply, left_by_run, reply_or_ack, shown_payload}
 use Rattle.node_atomics.specs.BatchRequests.{BatchRequest, batch_handler, block_handler, request_said}
 use Rattle.node_atomics.specs.Served.{HasBatches, ServesBatches, block_of, block_reply, changes_of}
-use Rattle.node_atomics.specs.Served.{after_batch, request_for, if_placed, served}
+use Rattle.node_atomics.specs.Served.{after_batch, request_for, if_placed, outcome_of_batch}
 use Rattle.law_atomics.proofs.Asking.{AsksBatch, length-block}
 
 -- ---- the reply is sent
@@ -81,23 +81,23 @@ gives settings table meaning contact content batch start has serves asks free lo
     let handlers = handlers_of settings table meaning in
     let frame = frame_of_run handlers role.Request contact content in
     let reply = block_reply start.segment batch in
-    let now : Outcome = record (untouched start) { writes = changes_of start.segment batch.ops } in
+    let now : Outcome = record (nothing_done start) { writes = changes_of start.segment batch.ops } in
     let said : request_for (length start.segment) frame.arrival ≡ Some batch =
     ap (λ (len : ℕ). if_placed len (request_said content.args (shown_payload content))) long ∙ asks.said in
-    let done : served batch_handler frame start (untouched start) ≡ record now { reply = Some reply } =
-    ap (λ (found : Option BatchRequest). after_batch frame start.segment found (untouched start)) said
+    let done : outcome_of_batch batch_handler frame start (nothing_done start) ≡ record now { reply = Some reply } =
+    ap (λ (found : Option BatchRequest). after_batch frame start.segment found (nothing_done start)) said
     ∙ ap (λ (given : Replied). after_answer given reply now)
     (sent settings table meaning contact content batch start.segment now has asks free refl) in
-    let run : outcome handlers role.Request contact content start ≡ closed frame (record now { reply = Some reply }) =
-    client content.handler frame start asks.handler ∙ ap (closed frame) (serves.requests frame start ∙ done) in
+    let run : outcome handlers role.Request contact content start ≡ after_return frame (record now { reply = Some reply }) =
+    client content.handler frame start asks.handler ∙ ap (after_return frame) (serves.requests frame start ∙ done) in
     record {
       writes = ap (λ (o : Outcome). o.writes) run;
       reply = ap (λ (o : Outcome). o.reply) run;
     }
   where
     client : (handler : ℕ) (frame : Frame) (at : Start) → handler ≡ batch_handler
-        → (if is_library handler then library_outcome content at else closed frame (meaning handler frame at))
-        ≡ closed frame (meaning batch_handler frame at)
+        → (if is_library handler then library_outcome content at else after_return frame (meaning handler frame at))
+        ≡ after_return frame (meaning batch_handler frame at)
     client handler frame at is = rw is refl
 
 -- what is left of a node where it runs, and its reply
@@ -149,5 +149,5 @@ reply_left settings table meaning contact batch olds local serves =
     let landed = with_writes local (landing reply) in
     let frame = frame_of_run handlers role.Reply contact reply in
     let start = start_from settings landed in
-    ap (λ (run : Outcome). landed.writes ++ run.writes) (ap (closed frame) (serves.replies frame start))
+    ap (λ (run : Outcome). landed.writes ++ run.writes) (ap (after_return frame) (serves.replies frame start))
     ∙ append-nil landed.writes

@@ -8,10 +8,10 @@ use Rattle.part_handlers.specs.Runs.{Meaning, IsLawfulMeaning}
 use Rattle.spec_node.specs.declared.answer.Asked.TheVariants as asked
 use Rattle.spec_node.specs.Behaviour.{Ask}
 use Rattle.spec_node.specs.NodeStep.{site_of, OfRequest}
-use Rattle.spec_network.specs.World.{Timed, Asks, OfNode, world_answer, world_after}
-use Rattle.spec_network.specs.Plain.{Labelled, IsRequest, plain_of}
-use Rattle.spec_network.specs.PlainStep.{Named, named, plain_said}
-use Rattle.node_rules.specs.EndpointRules.{OtherCall, at_the_opening, job_of, timed}
+use Rattle.spec_network.specs.World.{EventAt, Asks, OfNode, world_answer, world_after}
+use Rattle.spec_network.specs.Plain.{PlainRequest, IsRequest, plain_of}
+use Rattle.spec_network.specs.PlainStep.{RequestName, request_name, plain_said}
+use Rattle.node_rules.specs.EndpointRules.{OtherCall, at_the_opening, job_of, timed_event}
 use Rattle.law_transfers.specs.History.{Runs}
 use Rattle.law_transfers.specs.Chunks.{EndpointJob, EndpointMoment, HappensIn, HappensOnceIn, segment_at, writes_at}
 use Rattle.law_transfers.specs.TransferLaws.{AreAmong}
@@ -35,18 +35,18 @@ BatchesAreSaid settings =
 -- ---- a batch to another node
 
 -- among the requests after these events is one of a batch
-pub record IsAsked (job : EndpointJob) (events : List (Timed OtherCall)) (name : Named) : Type 0 where
-  pub request : Labelled
+pub record IsAsked (job : EndpointJob) (events : List (EventAt OtherCall)) (name : RequestName) : Type 0 where
+  pub request : PlainRequest
   pub accepted : IsRequest (plain_of (after_all job events)) name.from name.to name.number request
   pub batch : BatchRequest
   pub asks : batch_of job.settings request.content ≡ Some batch
 
 -- whenever the request runs, the batch acts
-abbrev pub ActsThen : EndpointJob → Named → BatchRequest → EndpointMoment → Type 0
+abbrev pub ActsThen : EndpointJob → RequestName → BatchRequest → EndpointMoment → Type 0
 ActsThen job name batch moment = Runs job name moment → (olds : List ℕ) × Acts job name batch olds moment
 
 -- what becomes of it
-pub record BatchGoes (job : EndpointJob) (events : List (Timed OtherCall)) (name : Named) (batch : BatchRequest)
+pub record BatchGoes (job : EndpointJob) (events : List (EventAt OtherCall)) (name : RequestName) (batch : BatchRequest)
     : Type 0 where
   pub acts : Always job (ActsThen job name batch) events
   -- its request runs once, or not at all
@@ -58,22 +58,22 @@ pub record BatchGoes (job : EndpointJob) (events : List (Timed OtherCall)) (name
 
 abbrev pub BatchesGo : EndpointJob → Type 0
 BatchesGo job =
-    (events : List (Timed OtherCall)) (name : Named) → AreAmong job events
+    (events : List (EventAt OtherCall)) (name : RequestName) → AreAmong job events
     → (it : IsAsked job events name) → BatchGoes job events name it.batch
 
 -- a thread asks it after these events, and is answered that it is accepted: so it goes in each run from there
 abbrev pub AcceptedBatchesGo : EndpointJob → Type 0
 AcceptedBatchesGo job =
-    (before later : List (Timed OtherCall)) (event : Timed OtherCall) (name : AcceptedName) (batch : BatchRequest)
+    (before later : List (EventAt OtherCall)) (event : EventAt OtherCall) (name : AcceptedName) (batch : BatchRequest)
     → AreAmong job (before ++ event ∷ later) → IsAccepted job before event name
     → batch_of job.settings (plain_said (site_of job name.from) (plain_of (after_all job before)) name.ask)
     ≡ Some batch
-    → BatchGoes job (before ++ event ∷ later) (named name.from name.to name.number) batch
+    → BatchGoes job (before ++ event ∷ later) (request_name name.from name.to name.number) batch
 
 -- ---- a batch to the local node
 
 -- all of its operations act, and then what the words were and the tag are written into the block
-pub record ActsHere (job : EndpointJob) (events : List (Timed OtherCall)) (event : Timed OtherCall) (node : ℕ)
+pub record ActsHere (job : EndpointJob) (events : List (EventAt OtherCall)) (event : EventAt OtherCall) (node : ℕ)
     (batch : BatchRequest) : Type 0 where
   pub ops : ops_at job (after_all job events) event node ≡ batch.ops
   pub writes :
@@ -88,28 +88,28 @@ pub record ActsHere (job : EndpointJob) (events : List (Timed OtherCall)) (event
 -- so it is in the call, where a thread asks it of its own node, and is answered that it ran
 abbrev pub OwnBatchesAct : EndpointJob → Type 0
 OwnBatchesAct job =
-    (events : List (Timed OtherCall)) (now node : ℕ) (ask : Ask) (batch : BatchRequest) → AreAmong job events
+    (events : List (EventAt OtherCall)) (now node : ℕ) (ask : Ask) (batch : BatchRequest) → AreAmong job events
     → let world = after_all job events in
     batch_of job.settings (plain_said (site_of job node) (plain_of world) ask) ≡ Some batch
-    → world_answer job world (timed now (Asks node ask)) ≡ OfNode (OfRequest asked.Ran)
-    → ActsHere job events (timed now (Asks node ask)) node batch
+    → world_answer job world (timed_event now (Asks node ask)) ≡ OfNode (OfRequest asked.Ran)
+    → ActsHere job events (timed_event now (Asks node ask)) node batch
 
 -- ---- the history of a word
 
 -- a place of a word, which only operations of batches write in this run
-pub record IsWord (job : EndpointJob) (events : List (Timed OtherCall)) (node offset : ℕ) : Type 0 where
+pub record IsWord (job : EndpointJob) (events : List (EventAt OtherCall)) (node offset : ℕ) : Type 0 where
   pub inside : offset + 8 ≤ job.settings.segment
   pub aligned : offset % 8 ≡ 0
   pub only : Always job (OnlyBatches job node offset) events
 
 -- the operations of all batches that ran at the node in this run, in the order in which they ran
-abbrev pub all_ops_at : EndpointJob → List (Timed OtherCall) → (node : ℕ) → List WordOp
+abbrev pub all_ops_at : EndpointJob → List (EventAt OtherCall) → (node : ℕ) → List WordOp
 all_ops_at job events node = ops_in job events (at_the_opening job.settings) node
 
 -- the word is what all operations on it made of 0, in the order in which their batches ran
 abbrev pub WordsAreMade : EndpointJob → Type 0
 WordsAreMade job =
-    (events : List (Timed OtherCall)) (node offset : ℕ) → AreAmong job events → IsWord job events node offset
+    (events : List (EventAt OtherCall)) (node offset : ℕ) → AreAmong job events → IsWord job events node offset
     → word_in (segment_at job (after_all job events) node) offset
     ≡ made_by (on_word offset (all_ops_at job events node))
 
@@ -117,7 +117,7 @@ WordsAreMade job =
 -- and those before it in its own batch
 abbrev pub OldsAreMade : EndpointJob → Type 0
 OldsAreMade job =
-    (events : List (Timed OtherCall)) (next : Timed OtherCall) (node offset place : ℕ) (word : WordOp)
+    (events : List (EventAt OtherCall)) (next : EventAt OtherCall) (node offset place : ℕ) (word : WordOp)
     → AreAmong job events → IsWord job events node offset
     → let world = after_all job events in
     let ops = ops_at job world next node in

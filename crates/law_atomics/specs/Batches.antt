@@ -3,15 +3,15 @@
 use Rattle.std.specs.Prelude.{ℕ, ◌≡◌, ◌==◌, if◌then◌else◌, List, [], ◌∷◌, ◌++◌, filter, fold, Option, None, Some}
 use Rattle.std.specs.Prelude.{◌%◌, ◌^◌, option_and_then, option_map}
 use Rattle.wire_message.specs.Content.{Content}
-use Rattle.base_lists.specs.Numbered.{numbered}
+use Rattle.base_lists.specs.Numbered.{element_at}
 use Rattle.part_segment.specs.Image.{Write}
 use Rattle.spec_node.specs.declared.answer.Asked.TheVariants as asked
 use Rattle.spec_node.specs.declared.answer.Delivered.{Delivered}
 use Rattle.spec_node.specs.declared.answer.Delivered.TheVariants as delivered
 use Rattle.spec_node.specs.NodeStep.{site_of, OfRequest, OfDelivery}
-use Rattle.spec_network.specs.World.{Timed, Event, Asks, RequestComes, WorldAnswer, OfNode, world_answer, world_after}
-use Rattle.spec_network.specs.Plain.{Plain, Labelled, plain_of}
-use Rattle.spec_network.specs.PlainStep.{Named, plain_said}
+use Rattle.spec_network.specs.World.{EventAt, Event, Asks, RequestComes, WorldAnswer, OfNode, world_answer, world_after}
+use Rattle.spec_network.specs.Plain.{Plain, PlainRequest, plain_of}
+use Rattle.spec_network.specs.PlainStep.{RequestName, plain_said}
 use Rattle.node_rules.specs.EndpointLocal.{EndpointLocal}
 use Rattle.node_rules.specs.EndpointRules.{OtherCall, Records}
 use Rattle.node_rules.specs.declared.answer.Answer.{Answer}
@@ -35,7 +35,7 @@ ops_of (Some request) = request.ops
 -- what is found, where the answer says that a request ran
 abbrev pub if_ran : {X : Type 0} → Delivered → Option X → Option X
 if_ran (delivered.Ran at) found = found
-if_ran (delivered.Noted at note) found = found
+if_ran (delivered.Notified at notification) found = found
 if_ran answer found = None
 
 -- the request that runs at the node by an event with this answer: one that came, or one of a thread to its own node
@@ -43,20 +43,21 @@ abbrev pub content_run : EndpointJob → Plain EndpointLocal → (node : ℕ) �
     → Option Content
 content_run job plain node (RequestComes from to number) (OfNode (OfDelivery answer)) =
     if to == node
-    then if_ran answer (option_map (λ (request : Labelled). request.content) (numbered (plain.requests from to) number))
+    then if_ran answer
+    (option_map (λ (request : PlainRequest). request.content) (element_at (plain.requests from to) number))
     else None
 content_run job plain node (Asks from ask) (OfNode (OfRequest asked.Ran)) =
     if from == node then Some (plain_said (site_of job from) plain ask) else None
 content_run job plain node event answer = None
 
 -- the operations of the batch that runs at this node by an event, in their order; none where no batch runs there
-abbrev pub ops_at : EndpointJob → Records → Timed OtherCall → (node : ℕ) → List WordOp
+abbrev pub ops_at : EndpointJob → Records → EventAt OtherCall → (node : ℕ) → List WordOp
 ops_at job world timed node =
     ops_of (option_and_then (batch_of job.settings)
     (content_run job (plain_of world) node timed.event (world_answer job world timed)))
 
 -- the operations of all batches that run at this node, in the order in which they run
-abbrev pub ops_in : EndpointJob → List (Timed OtherCall) → Records → (node : ℕ) → List WordOp
+abbrev pub ops_in : EndpointJob → List (EventAt OtherCall) → Records → (node : ℕ) → List WordOp
 ops_in job [] world node = []
 ops_in job (timed ∷ later) world node =
     ops_at job world timed node ++ ops_in job later (world_after job world timed) node
@@ -86,7 +87,8 @@ pub record OnlyBatches (job : EndpointJob) (node offset : ℕ) (moment : Endpoin
 -- ---- what a batch does
 
 -- its request runs, where the words are these; all of its operations act, and they are those that run at this event
-pub record Acts (job : EndpointJob) (name : Named) (request : BatchRequest) (olds : List ℕ) (moment : EndpointMoment)
+pub record Acts (job : EndpointJob) (name : RequestName) (request : BatchRequest) (olds : List ℕ)
+    (moment : EndpointMoment)
     : Type 0 where
   pub runs : Runs job name moment
   pub found : olds ≡ olds_of (segment_at job moment.before name.to) request.ops
@@ -95,13 +97,14 @@ pub record Acts (job : EndpointJob) (name : Named) (request : BatchRequest) (old
       ≡ writes_at moment.before name.to ++ changes_of (segment_at job moment.before name.to) request.ops
 
 -- its reply comes back, and writes these words and the tag into the requester's block, and nothing else
-abbrev pub BlockComes : EndpointJob → Named → BatchRequest → (olds : List ℕ) → EndpointMoment → Type 0
+abbrev pub BlockComes : EndpointJob → RequestName → BatchRequest → (olds : List ℕ) → EndpointMoment → Type 0
 BlockComes job name request olds moment =
     ComesBack job name moment
     × Writes job name.from (record { offset = request.local; bytes = block_of olds request.tag }) moment
 
 -- it acted exactly once, at one moment; its reply came back exactly once, with what the words were at that moment
-pub record BatchDone (job : EndpointJob) (stretch : Stretch) (name : Named) (request : BatchRequest) : Type 0 where
+pub record BatchDone (job : EndpointJob) (stretch : Stretch) (name : RequestName) (request : BatchRequest)
+    : Type 0 where
   pub olds : List ℕ
   pub once : HappensOnceIn job stretch (Runs job name)
   pub acts : HappensIn job stretch (Acts job name request olds)

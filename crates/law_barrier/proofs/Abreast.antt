@@ -5,12 +5,12 @@ use Rattle.std.specs.Prelude.{slice_get}
 use Rattle.std.proofs.lemmas.Bool.{cases_Bool, cases_eq}
 use Rattle.base_lists.proofs.Cases.{cases_option}
 use Rattle.base_lists.proofs.Places.{slice_get_in}
-use Rattle.wire_message.specs.declared.note.BarrierNote.{BarrierNote}
+use Rattle.wire_message.specs.declared.notification.BarrierNotification.{BarrierNotification}
 use Rattle.part_barrier.specs.declared.known.Notify.{Notify}
 use Rattle.part_barrier.specs.declared.answer.BarrierAnswer.{BarrierAnswer}
 use Rattle.part_barrier.specs.declared.answer.BarrierAnswer.TheVariants as tried
-use Rattle.part_barrier.specs.Record.{BarrierRecord, SentNote, own, notify_answer, notify_after, try_answer}
-use Rattle.part_barrier.specs.Record.{try_after, note_to, send}
+use Rattle.part_barrier.specs.Record.{BarrierRecord, SentNotification, own, notify_answer, notify_after, try_answer}
+use Rattle.part_barrier.specs.Record.{try_after, notification_to, send}
 use Rattle.part_barrier.specs.World.{Barriers, BarrierEvent, Notifying, Trying, Sending, Hearing, put_record}
 use Rattle.part_barrier.specs.World.{hear_sent}
 use Rattle.part_barrier.specs.World.{happens, barriers_after, all_opened, InEveryRun, EndedByAll}
@@ -62,14 +62,14 @@ try_high kept tried.NoNotify high = high
 try_high kept tried.BadFlags high = high
 try_high kept (tried.Exhausted node) high = high
 
-send_high : (kept : BarrierRecord) (to : ℕ) (note : Option BarrierNote) → IsHigh kept → IsHigh (send kept to note)
+send_high : (kept : BarrierRecord) (to : ℕ) (notification : Option BarrierNotification) → IsHigh kept → IsHigh (send kept to notification)
 send_high kept to None high = high
-send_high kept to (Some note) high = high
+send_high kept to (Some notification) high = high
 
-hear_high : (kept : BarrierRecord) (sent : Option SentNote) → IsHigh kept → IsHigh (hear_sent kept sent)
+hear_high : (kept : BarrierRecord) (sent : Option SentNotification) → IsHigh kept → IsHigh (hear_sent kept sent)
 hear_high kept None high = high
 hear_high kept (Some one) high =
-    elim (cases_Bool (eqb one.note.phase kept.ended || eqb one.note.phase (suc kept.ended))) [
+    elim (cases_Bool (eqb one.notification.phase kept.ended || eqb one.notification.phase (suc kept.ended))) [
       | inl takes ↦ rw takes high
       | inr drops ↦ rw drops high
     ]
@@ -83,7 +83,7 @@ happens_high nodes barriers (Trying node try) high =
     (try_high (barriers node) (try_answer nodes node (barriers node) try) (high node))
 happens_high nodes barriers (Sending node to) high =
     put_high nodes barriers node _ high
-    (send_high (barriers node) to (note_to nodes node (barriers node) to) (high node))
+    (send_high (barriers node) to (notification_to nodes node (barriers node) to) (high node))
 happens_high nodes barriers (Hearing node other place) high =
     put_high nodes barriers node _ high
     (hear_high (barriers node) (slice_get (barriers other).sent place) (high node))

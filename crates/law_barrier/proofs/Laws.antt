@@ -6,7 +6,7 @@ use Rattle.std.proofs.lemmas.Bool.{cases_eq}
 use Rattle.std.proofs.lemmas.List.{append-nil, append_assoc}
 use Rattle.base_lists.specs.Put.{put}
 use Rattle.base_lists.proofs.Put.{put_same, put_other}
-use Rattle.base_lists.specs.Numbered.{numbered}
+use Rattle.base_lists.specs.Numbered.{element_at}
 use Rattle.wire_message.specs.Parameters.{Parameters, AreInRange}
 use Rattle.part_handlers.specs.declared.table.Entry.{Entry}
 use Rattle.part_handlers.specs.declared.rules.Forbidden.{Forbidden}
@@ -14,15 +14,15 @@ use Rattle.part_handlers.specs.declared.rules.CallKind.TheVariants as kinds
 use Rattle.part_handlers.specs.Runs.{Meaning, IsLawfulMeaning}
 use Rattle.spec_node.specs.Record.{Request, Run, Node}
 use Rattle.spec_node.specs.Executed.{run_of}
-use Rattle.spec_node.specs.NodeStep.{OfCall, done}
-use Rattle.spec_network.specs.World.{Event, Asks, Does, RequestComes, ReplyComes, Ticks, Timed, WorldAnswer, OfNode}
+use Rattle.spec_node.specs.NodeStep.{OfCall, call_outcome}
+use Rattle.spec_network.specs.World.{Event, Asks, Does, RequestComes, ReplyComes, Ticks, EventAt, WorldAnswer, OfNode}
 use Rattle.spec_network.specs.World.{IsAmong, request_event, reply_event, after_at, world_answer, world_after, run}
 use Rattle.spec_network.specs.World.{answers_of}
 use Rattle.part_barrier.specs.declared.answer.BarrierAnswer.{BarrierAnswer}
 use Rattle.part_barrier.specs.declared.answer.BarrierAnswer.TheVariants as tried
 use Rattle.part_barrier.specs.Record.{try_answer}
 use Rattle.part_barrier.specs.World.{Barriers, TryTells, EndedByAll, AreCovered, AllNotified, IsOtherTry}
-use Rattle.part_barrier.specs.World.{is_mismatch, notified}
+use Rattle.part_barrier.specs.World.{is_mismatch, notifies_of}
 use Rattle.part_barrier.specs.declared.known.Combination.{Combination}
 use Rattle.part_barrier.specs.declared.known.Notify.{Notify}
 use Rattle.part_barrier.proofs.Combining.{all_of-same}
@@ -112,7 +112,7 @@ put_steps settings records node added newer event answer holds step here elsewhe
 request_steps : (settings : Parameters) (table : List (Option Entry)) (meaning : Meaning) (records : Records)
     (now from to number : ℕ) (request : Option Request) (answer : WorldAnswer Answer)
     → AreInRange settings → IsLawfulMeaning meaning
-    → to < settings.nodes → Holds settings records → numbered ((records from).asked to) number ≡ request
+    → to < settings.nodes → Holds settings records → element_at ((records from).asked to) number ≡ request
     → WorldSteps settings records (RequestComes from to number) answer
     (after_at (job_of settings table meaning) records now (request_event settings from to number request))
 request_steps settings table meaning records now from to number None answer range lawful there holds found =
@@ -147,13 +147,13 @@ event_steps settings table meaning records now (Asks node ask) range lawful ther
     (λ other same. refl) (λ other apart. refl)
 event_steps settings table meaning records now (Does node thread call) range lawful there holds =
     put_steps settings records node
-    (call_adds call (done (job_of settings table meaning) node (records node) thread call).0) _
+    (call_adds call (call_outcome (job_of settings table meaning) node (records node) thread call).0) _
     (Does node thread call) _ holds
     (does_step settings table meaning records node thread call there (holds.nodes node))
     (λ other same. rw (eq-eqb node other (sym same)) refl)
     (λ other apart. rw (ne_eqb node other (λ same. apart (sym same))) refl)
 event_steps settings table meaning records now (RequestComes from to number) range lawful there holds =
-    request_steps settings table meaning records now from to number (numbered ((records from).asked to) number) _ range
+    request_steps settings table meaning records now from to number (element_at ((records from).asked to) number) _ range
     lawful there.1 holds refl
 event_steps settings table meaning records now (ReplyComes from to number) range lawful there holds =
     reply_steps settings table meaning records now from to number (run_of number ((records to).ran from)) _ lawful
@@ -167,14 +167,14 @@ event_steps settings table meaning records now (Ticks node) range lawful there h
 
 -- each barrier has what the events added
 record RunSteps
-    (settings : Parameters) (records : Records) (events : List (Timed OtherCall)) (given : List (WorldAnswer Answer))
+    (settings : Parameters) (records : Records) (events : List (EventAt OtherCall)) (given : List (WorldAnswer Answer))
     (newer : Records) : Type 0 where
   holds : Holds settings newer
   notifies : (node : ℕ)
       → (barriers_of newer node).notifies ≡ (barriers_of records node).notifies ++ notifies_in node events given
   ended : (node : ℕ) → present_phase newer node ≡ present_phase records node + ended_in node events given
 
-run_steps : (settings : Parameters) (table : List (Option Entry)) (meaning : Meaning) (events : List (Timed OtherCall))
+run_steps : (settings : Parameters) (table : List (Option Entry)) (meaning : Meaning) (events : List (EventAt OtherCall))
     (records : Records) → AreInRange settings → IsLawfulMeaning meaning → AreAmong settings events
     → Holds settings records
     → RunSteps settings records events (answers_of (job_of settings table meaning) events records)
@@ -200,7 +200,7 @@ run_steps settings table meaning (timed ∷ events) records range lawful among h
 
 -- a run of more events goes on from where the first ones ended
 run_more : (settings : Parameters) (table : List (Option Entry)) (meaning : Meaning)
-    (events later : List (Timed OtherCall)) (records : Records)
+    (events later : List (EventAt OtherCall)) (records : Records)
     → run (job_of settings table meaning) (events ++ later) records
     ≡ run (job_of settings table meaning) later (run (job_of settings table meaning) events records)
 run_more settings table meaning [] later records = refl
@@ -213,7 +213,7 @@ same_outcome : (nodes : ℕ) (before after : Barriers) (more : ℕ → List Noti
     → is_mismatch nodes after phase ≡ is_mismatch nodes before phase
 same_outcome nodes before after more phase grows all =
     ap (λ (combined : Combination). combined.mismatch)
-    (all_of-same (notified after phase) (notified before phase) nodes
+    (all_of-same (notifies_of after phase) (notifies_of before phase) nodes
     (λ node there. let notify = all node there in
     ap (λ notifies. slice_get notifies phase) (grows node)
     ∙ (get-append_kept (before node).notifies (more node) phase notify.0 notify.1 ∙ sym notify.1)))
@@ -230,7 +230,7 @@ allowed : (settings : Parameters) (table : List (Option Entry)) (meaning : Meani
     → the_answer (unless_forbidden (endpoint_rules settings table meaning) thread judged local
     (answers.Barrier says, left)).0 ≡ the_answer (answers.Barrier answer)
     → says ≡ answer
-allowed settings table meaning thread (Ok done) local says left answer e = cc
+allowed settings table meaning thread (Ok call_outcome) local says left answer e = cc
 allowed settings table meaning thread (Err forbidden) local says left answer e = absurd (cc)
 
 -- what a try tells of barriers whose run is one by themselves
@@ -267,7 +267,7 @@ barrier_holds settings table meaning range lawful = record {
       (barriers_of (run (job_of settings table meaning) later records)) _ phase rest.notifies all;
   ended = λ events among.
       alone_law EndedByAll settings.nodes _ ended_by_all (steps events among).holds.alone;
-  notes = λ events among. alone_law AreCovered settings.nodes _ are_covered (steps events among).holds.alone;
+  notifications = λ events among. alone_law AreCovered settings.nodes _ are_covered (steps events among).holds.alone;
   abreast = λ events node other among there other_there.
       let alone = (steps events among).holds.alone in
       abreast settings.nodes (barriers_of (records_after settings table meaning events)) node other
@@ -277,7 +277,7 @@ barrier_holds settings table meaning range lawful = record {
   phases = λ events node among. omega (arith, (steps events among).ended node);
 }
   where
-    steps : (events : List (Timed OtherCall)) → AreAmong settings events
+    steps : (events : List (EventAt OtherCall)) → AreAmong settings events
         → RunSteps settings (at_the_opening settings) events
         (answers_of (job_of settings table meaning) events (at_the_opening settings))
         (records_after settings table meaning events)

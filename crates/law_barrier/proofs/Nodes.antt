@@ -1,4 +1,4 @@
--- What holds of each node: the notes of its barrier can be written, its requests for the handler of notes say notes
+-- What holds of each node: the notifications of its barrier can be written, its requests for the handler of notifications say notifications
 -- that its barrier sent, and its replies are no requests.
 use Rattle.std.proofs.Common.{◌≡◌, inl, inr, ℕ, List, [], ◌∷◌, ◌++◌, Option, Some, None, true, false, Bool, refl, sym}
 use Rattle.std.proofs.Common.{ap, ◌∙◌, subst, eqb, cond}
@@ -100,7 +100,7 @@ pub record NodeSteps
   pub holds : NodeHolds settings newer
   pub step : Steps settings.nodes (barriers_of records) node added newer.local.barrier
 
--- it does where its barrier becomes this one, and each note that it asks to be told was sent before
+-- it does where its barrier becomes this one, and each notification that it asks to be told was sent before
 pub stepping : (settings : Parameters) (records : Records) (node : ℕ) (added : Added) (newer : Node EndpointLocal)
     → Steps settings.nodes (barriers_of records) node added newer.local.barrier
     → AllSaid settings (barriers_of records node).sent newer.asked → AreReplies newer.ran

@@ -5,15 +5,15 @@ use Rattle.std.proofs.lemmas.List.{append-nil}
 use Rattle.std.specs.Prelude.{slice_get, suc}
 use Rattle.std.proofs.lemmas.Bool.{cases_Bool}
 use Rattle.base_lists.proofs.Places.{slice_get_kept}
-use Rattle.wire_message.specs.declared.note.BarrierNote.{BarrierNote}
-use Rattle.wire_message.specs.Notes.{IsNote}
+use Rattle.wire_message.specs.declared.notification.BarrierNotification.{BarrierNotification}
+use Rattle.wire_message.specs.Notifications.{IsNotification}
 use Rattle.part_barrier.specs.declared.known.Notify.{Notify}
 use Rattle.part_barrier.specs.declared.answer.Notified.{Notified}
 use Rattle.part_barrier.specs.declared.answer.Notified.TheVariants as told
 use Rattle.part_barrier.specs.declared.answer.BarrierAnswer.{BarrierAnswer}
 use Rattle.part_barrier.specs.declared.answer.BarrierAnswer.TheVariants as tried
-use Rattle.part_barrier.specs.Record.{BarrierRecord, SentNote, Try, notify_answer, notify_after, try_answer, try_after}
-use Rattle.part_barrier.specs.Record.{hear, note_to, send}
+use Rattle.part_barrier.specs.Record.{BarrierRecord, SentNotification, Try, notify_answer, notify_after, try_answer, try_after}
+use Rattle.part_barrier.specs.Record.{hear, notification_to, send}
 use Rattle.part_barrier.specs.Within.{IsNotedWithin}
 use Rattle.part_barrier.specs.World.{Barriers, Notifying, Trying, Sending, Hearing, put_record, hear_sent}
 use Rattle.part_barrier.proofs.Within.{stays_within}
@@ -137,52 +137,52 @@ step_try nodes barriers node try there within =
       ended = try_ends (barriers node) answer;
     }
 
-hear_keeps : (kept : BarrierRecord) (note : BarrierNote) → Grows kept.sent (hear kept note).sent
-hear_keeps kept note place one there =
-    elim (cases_Bool (eqb note.phase kept.ended || eqb note.phase (suc kept.ended))) [
+hear_keeps : (kept : BarrierRecord) (notification : BarrierNotification) → Grows kept.sent (hear kept notification).sent
+hear_keeps kept notification place one there =
+    elim (cases_Bool (eqb notification.phase kept.ended || eqb notification.phase (suc kept.ended))) [
       | inl takes ↦ rw takes there
       | inr drops ↦ rw drops there
     ]
 
-hear_notifies : (kept : BarrierRecord) (note : BarrierNote) → (hear kept note).notifies ≡ kept.notifies
-hear_notifies kept note = elim (cases_Bool (eqb note.phase kept.ended || eqb note.phase (suc kept.ended))) [
+hear_notifies : (kept : BarrierRecord) (notification : BarrierNotification) → (hear kept notification).notifies ≡ kept.notifies
+hear_notifies kept notification = elim (cases_Bool (eqb notification.phase kept.ended || eqb notification.phase (suc kept.ended))) [
   | inl takes ↦ rw takes refl
   | inr drops ↦ rw drops refl
 ]
 
--- a note comes that the other node sent
-pub step_hear : (nodes : ℕ) (barriers : Barriers) (node other place : ℕ) (one : SentNote) → node < nodes
-    → IsNotedWithin nodes (barriers node) → IsNote nodes one.note → slice_get (barriers other).sent place ≡ Some one
-    → Steps nodes barriers node nothing_added (hear (barriers node) one.note)
+-- a notification comes that the other node sent
+pub step_hear : (nodes : ℕ) (barriers : Barriers) (node other place : ℕ) (one : SentNotification) → node < nodes
+    → IsNotedWithin nodes (barriers node) → IsNotification nodes one.notification → slice_get (barriers other).sent place ≡ Some one
+    → Steps nodes barriers node nothing_added (hear (barriers node) one.notification)
 step_hear nodes barriers node other place one there within is sent = record {
-  within = (stays_within.1 nodes (barriers node) within).hear one.note is;
-  grows = hear_keeps (barriers node) one.note;
+  within = (stays_within.1 nodes (barriers node) within).hear one.notification is;
+  grows = hear_keeps (barriers node) one.notification;
   changes = inr (
     Hearing node other place,
     there,
-    ap (λ (heard : Option SentNote). put_record barriers node (hear_sent (barriers node) heard)) sent,
+    ap (λ (heard : Option SentNotification). put_record barriers node (hear_sent (barriers node) heard)) sent,
   );
-  notifies = hear_notifies (barriers node) one.note ∙ sym (append-nil (barriers node).notifies);
-  ended = omega (arith, hear_ended (barriers node) one.note);
+  notifies = hear_notifies (barriers node) one.notification ∙ sym (append-nil (barriers node).notifies);
+  ended = omega (arith, hear_ended (barriers node) one.notification);
 }
 
-send_keeps : (kept : BarrierRecord) (to : ℕ) (note : Option BarrierNote) → Grows kept.sent (send kept to note).sent
+send_keeps : (kept : BarrierRecord) (to : ℕ) (notification : Option BarrierNotification) → Grows kept.sent (send kept to notification).sent
 send_keeps kept to None place one there = there
-send_keeps kept to (Some note) place one there = slice_get_kept kept.sent _ place one there
+send_keeps kept to (Some notification) place one there = slice_get_kept kept.sent _ place one there
 
-send_notifies : (kept : BarrierRecord) (to : ℕ) (note : Option BarrierNote)
-    → (send kept to note).notifies ≡ kept.notifies
+send_notifies : (kept : BarrierRecord) (to : ℕ) (notification : Option BarrierNotification)
+    → (send kept to notification).notifies ≡ kept.notifies
 send_notifies kept to None = refl
-send_notifies kept to (Some note) = refl
+send_notifies kept to (Some notification) = refl
 
 pub step_send : (nodes : ℕ) (barriers : Barriers) (node to : ℕ) → node < nodes → IsNotedWithin nodes (barriers node)
-    → Steps nodes barriers node nothing_added (send (barriers node) to (note_to nodes node (barriers node) to))
+    → Steps nodes barriers node nothing_added (send (barriers node) to (notification_to nodes node (barriers node) to))
 step_send nodes barriers node to there within =
-    let note = note_to nodes node (barriers node) to in
+    let notification = notification_to nodes node (barriers node) to in
     record {
-      within = (stays_within.1 nodes (barriers node) within).send to note;
-      grows = send_keeps (barriers node) to note;
+      within = (stays_within.1 nodes (barriers node) within).send to notification;
+      grows = send_keeps (barriers node) to notification;
       changes = inr (Sending node to, there, refl);
-      notifies = send_notifies (barriers node) to note ∙ sym (append-nil (barriers node).notifies);
-      ended = omega (arith, send_ended (barriers node) to note);
+      notifies = send_notifies (barriers node) to notification ∙ sym (append-nil (barriers node).notifies);
+      ended = omega (arith, send_ended (barriers node) to notification);
     }

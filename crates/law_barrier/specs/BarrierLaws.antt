@@ -8,14 +8,14 @@ use Rattle.wire_message.specs.Parameters.{Parameters, AreInRange}
 use Rattle.part_handlers.specs.declared.table.Entry.{Entry}
 use Rattle.part_handlers.specs.Runs.{Meaning, IsLawfulMeaning}
 use Rattle.spec_node.specs.NodeStep.{OfCall}
-use Rattle.spec_network.specs.World.{Event, Timed, Does, WorldAnswer, OfNode, IsAmong, world_answer, run, answers_of}
+use Rattle.spec_network.specs.World.{Event, EventAt, Does, WorldAnswer, OfNode, IsAmong, world_answer, run, answers_of}
 use Rattle.part_barrier.specs.declared.known.Notify.{Notify}
 use Rattle.part_barrier.specs.declared.answer.Notified.TheVariants as told
 use Rattle.part_barrier.specs.declared.answer.BarrierAnswer.{BarrierAnswer}
 use Rattle.part_barrier.specs.declared.answer.BarrierAnswer.TheVariants as tried
 use Rattle.part_barrier.specs.World.{Barriers, AllNotified, IsOtherTry, EndedByAll, AreCovered, is_mismatch}
 use Rattle.node_rules.specs.BarrierCalls.{Notify as NotifyCall, TryBarrier, identifier}
-use Rattle.node_rules.specs.EndpointRules.{OtherCall, OnBarrier, Records, timed, at_the_opening, job_of}
+use Rattle.node_rules.specs.EndpointRules.{OtherCall, OnBarrier, Records, timed_event, at_the_opening, job_of}
 use Rattle.node_rules.specs.declared.answer.Answer.{Answer}
 use Rattle.node_rules.specs.declared.answer.Answer.TheVariants as answers
 
@@ -31,12 +31,12 @@ present_phase records node = (barriers_of records node).ended
 
 -- the records after these events, from the opening on
 abbrev pub records_after :
-    Parameters → List (Option Entry) → Meaning → List (Timed OtherCall) → Records
+    Parameters → List (Option Entry) → Meaning → List (EventAt OtherCall) → Records
 records_after settings table meaning events = run (job_of settings table meaning) events (at_the_opening settings)
 
 -- each event is one of the nodes that are there: a call or a tick of one, or a delivery between two
-abbrev pub AreAmong : Parameters → List (Timed OtherCall) → Type 0
-AreAmong settings events = AllByRecursion (λ (timed : Timed OtherCall). IsAmong settings timed.event) events
+abbrev pub AreAmong : Parameters → List (EventAt OtherCall) → Type 0
+AreAmong settings events = AllByRecursion (λ (timed : EventAt OtherCall). IsAmong settings timed_event.event) events
 
 -- ---- calls on the barrier
 
@@ -64,14 +64,15 @@ ended_by node (Does other thread call) answer = if other == node then ends_told 
 ended_by node event answer = 0
 
 -- the notifies of a node among these events with their answers, in order
-abbrev pub notifies_in : (node : ℕ) → List (Timed OtherCall) → List (WorldAnswer Answer) → List Notify
-notifies_in node (timed ∷ events) (answer ∷ given) =
-    notified_by node timed.event answer ++ notifies_in node events given
+abbrev pub notifies_in : (node : ℕ) → List (EventAt OtherCall) → List (WorldAnswer Answer) → List Notify
+notifies_in node (timed_event ∷ events) (answer ∷ given) =
+    notified_by node timed_event.event answer ++ notifies_in node events given
 notifies_in node events given = []
 
 -- how many phases of a node they ended
-abbrev pub ended_in : (node : ℕ) → List (Timed OtherCall) → List (WorldAnswer Answer) → ℕ
-ended_in node (timed ∷ events) (answer ∷ given) = ended_by node timed.event answer + ended_in node events given
+abbrev pub ended_in : (node : ℕ) → List (EventAt OtherCall) → List (WorldAnswer Answer) → ℕ
+ended_in node (timed_event ∷ events) (answer ∷ given) =
+    ended_by node timed_event.event answer + ended_in node events given
 ended_in node events given = 0
 
 -- ---- a try
@@ -84,8 +85,8 @@ pub record BarrierTry : Type 0 where
   pub id : ℤ
   pub flags : ℕ
 
-abbrev pub try_event : BarrierTry → Timed OtherCall
-try_event try = timed try.now (Does try.node try.thread (OnBarrier (TryBarrier try.id try.flags)))
+abbrev pub try_event : BarrierTry → EventAt OtherCall
+try_event try = timed_event try.now (Does try.node try.thread (OnBarrier (TryBarrier try.id try.flags)))
 
 -- the answer ends the node's present phase: it is GASNET_OK, or GASNET_ERR_BARRIER_MISMATCH
 abbrev pub EndsPhase : BarrierAnswer → Type 0
@@ -107,37 +108,38 @@ pub record TellsOutcome (settings : Parameters) (records : Records) (try : Barri
 -- of every run by events among the nodes, where handlers do this, registered in this table
 pub record BarrierHolds (settings : Parameters) (table : List (Option Entry)) (meaning : Meaning) : Type 0 where
   -- a try that ends a phase tells the outcome of all nodes' notifies
-  pub tells : (events : List (Timed OtherCall)) (try : BarrierTry) (answer : BarrierAnswer)
+  pub tells : (events : List (EventAt OtherCall)) (try : BarrierTry) (answer : BarrierAnswer)
       → AreAmong settings events → IsAmong settings (try_event try).event → EndsPhase answer
       → world_answer (job_of settings table meaning) (records_after settings table meaning events) (try_event try)
       ≡ OfNode (OfCall (answers.Barrier answer))
       → TellsOutcome settings (records_after settings table meaning events) try answer
   -- the outcome of a phase that all nodes have notified is the same ever after
-  pub final : (events later : List (Timed OtherCall)) (phase : ℕ)
+  pub final : (events later : List (EventAt OtherCall)) (phase : ℕ)
       → AreAmong settings events → AreAmong settings later
       → AllNotified settings.nodes (barriers_of (records_after settings table meaning events)) phase
       → is_mismatch settings.nodes (barriers_of (records_after settings table meaning (events ++ later))) phase
       ≡ is_mismatch settings.nodes (barriers_of (records_after settings table meaning events)) phase
   -- each phase that a node has ended was notified by all nodes
-  pub ended : (events : List (Timed OtherCall))
+  pub ended : (events : List (EventAt OtherCall))
       → AreAmong settings events
       → EndedByAll settings.nodes (barriers_of (records_after settings table meaning events))
-  -- each note that a node heard or sent tells of nodes that have notified its phase, and exactly what they notified
-  pub notes : (events : List (Timed OtherCall))
+  -- each notification that a node heard or sent tells of nodes that have notified its phase, and exactly what they
+  -- notified
+  pub notifications : (events : List (EventAt OtherCall))
       → AreAmong settings events
       → AreCovered settings.nodes (barriers_of (records_after settings table meaning events))
   -- no node is two phases ahead of another
-  pub abreast : (events : List (Timed OtherCall)) (node other : ℕ)
+  pub abreast : (events : List (EventAt OtherCall)) (node other : ℕ)
       → AreAmong settings events → node < settings.nodes → other < settings.nodes
       → present_phase (records_after settings table meaning events) node
       ≤ suc (present_phase (records_after settings table meaning events) other)
   -- the notifies of a node, of phase 0, of phase 1 and so on, are its calls that were answered Ok, in order
-  pub notifies : (events : List (Timed OtherCall)) (node : ℕ)
+  pub notifies : (events : List (EventAt OtherCall)) (node : ℕ)
       → AreAmong settings events
       → (barriers_of (records_after settings table meaning events) node).notifies
       ≡ notifies_in node events (answers_of (job_of settings table meaning) events (at_the_opening settings))
   -- the phases that it has ended are those that its tries ended
-  pub phases : (events : List (Timed OtherCall)) (node : ℕ)
+  pub phases : (events : List (EventAt OtherCall)) (node : ℕ)
       → AreAmong settings events
       → present_phase (records_after settings table meaning events) node
       ≡ ended_in node events (answers_of (job_of settings table meaning) events (at_the_opening settings))

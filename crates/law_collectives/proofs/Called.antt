@@ -19,7 +19,7 @@ use Rattle.node_core.specs.Kept.{Local}
 use Rattle.node_core.specs.ClientRules.{rules}
 use Rattle.node_rules.specs.CoreCalls.{LocalCall, Poll, if_allowed, local_does}
 use Rattle.node_rules.specs.EndpointLocal.{EndpointLocal, IsEndpointKept}
-use Rattle.node_rules.specs.EndpointRules.{OnCore, job_of, timed}
+use Rattle.node_rules.specs.EndpointRules.{OnCore, job_of, timed_event}
 use Rattle.node_rules.specs.declared.answer.Answer.{Answer}
 use Rattle.law_transfers.specs.Chunks.{writes_at}
 use Rattle.part_collective_area.specs.Area.{Area}
@@ -47,10 +47,10 @@ pub core_kept : (settings : Parameters) (table : List (Option Entry)) (meaning :
     ≡ writes_at group.records node ++ beside
     → SpareArea area beside
     → GroupHolds (job_of settings table meaning) area (with_records group
-    (world_after (job_of settings table meaning) group.records (timed now (Does node thread (OnCore call)))))
+    (world_after (job_of settings table meaning) group.records (timed_event now (Does node thread (OnCore call)))))
 core_kept settings table meaning area group now node thread call beside setting holds there writes spare =
     let job = job_of settings table meaning in
-    let event = timed now (Does node thread (OnCore call)) in
+    let event = timed_event now (Does node thread (OnCore call)) in
     let next = world_after job group.records event in
     let plain = plain_of group.records in
     let step = does_step job plain (plain_of next) node thread (OnCore call) (world_answer job group.records event)
@@ -89,7 +89,7 @@ pub poll_kept : (settings : Parameters) (table : List (Option Entry)) (meaning :
     (now node thread : ℕ) → Setting settings table meaning area
     → GroupHolds (job_of settings table meaning) area group → node < settings.nodes
     → GroupHolds (job_of settings table meaning) area (with_records group
-    (world_after (job_of settings table meaning) group.records (timed now (Does node thread (OnCore Poll)))))
+    (world_after (job_of settings table meaning) group.records (timed_event now (Does node thread (OnCore Poll)))))
 poll_kept settings table meaning area group now node thread setting holds there =
     core_kept settings table meaning area group now node thread Poll [] setting holds there
     (by_judged settings table meaning thread _ _ (group.records node).local.core

@@ -10,7 +10,7 @@ use Rattle.spec_network.specs.World.{Does, world_after, world_answer}
 use Rattle.spec_network.proofs.Worlds.{step_keeps}
 use Rattle.node_rules.specs.CoreCalls.{Poll}
 use Rattle.node_rules.specs.EndpointLocal.{IsEndpointKept}
-use Rattle.node_rules.specs.EndpointRules.{OnCore, Records, job_of, timed}
+use Rattle.node_rules.specs.EndpointRules.{OnCore, Records, job_of, timed_event}
 use Rattle.node_rules.proofs.Sound.{rules_sound}
 use Rattle.law_transfers.specs.Chunks.{EndpointJob, segment_at}
 use Rattle.part_collective_area.specs.declared.shape.Shape.{Shape}
@@ -22,7 +22,7 @@ use Rattle.law_collectives.specs.Groups.{Group, OfEnd, after_writes, does_end, e
 use Rattle.law_collectives.specs.Groups.{result_pieces}
 use Rattle.law_collectives.specs.Invariant.{GroupHolds}
 use Rattle.law_collectives.specs.CollectiveLaws.{CollectivesHold, EndsApart, EndsOk, InEveryJob, Try, bytes_given, group_at}
-use Rattle.law_collectives.specs.CollectiveLaws.{tried}
+use Rattle.law_collectives.specs.CollectiveLaws.{answer_to_try}
 use Rattle.law_collectives.proofs.Ending.{Ready, all_gave, all_same, own_shape, result_stands, shapes_apart}
 use Rattle.law_collectives.proofs.Events.{Setting}
 use Rattle.law_collectives.proofs.Tried.{dest_good, end_by_is, forbids_apart, forbids_ok, open_then}
@@ -110,7 +110,7 @@ told_ok job area group now node thread dest is =
         (is_bad_dest area job.settings.segment node (group.progress node).shape dest) refusal refused
         (sym (ap (λ (one : Option EndAnswer). (tries_by job area group now node thread dest one).0) refused) ∙ is))
     by_refusal None good =
-        let told = world_answer job group.records (timed now (Does node thread (OnCore Poll))) in
+        let told = world_answer job group.records (timed_event now (Does node thread (OnCore Poll))) in
         let by : end_by job area group now node thread dest told ≡ end_answers.Ended =
         sym (ap (λ (one : Option EndAnswer). (tries_by job area group now node thread dest one).0) good) ∙ is in
         record {
@@ -135,7 +135,7 @@ told_apart job area group now node thread dest other is =
         (is_bad_dest area job.settings.segment node (group.progress node).shape dest) refusal other refused
         (sym (ap (λ (one : Option EndAnswer). (tries_by job area group now node thread dest one).0) refused) ∙ is))
     by_refusal None good =
-        let told = world_answer job group.records (timed now (Does node thread (OnCore Poll))) in
+        let told = world_answer job group.records (timed_event now (Does node thread (OnCore Poll))) in
         let by : end_by job area group now node thread dest told ≡ end_answers.Mismatch other =
         sym (ap (λ (one : Option EndAnswer). (tries_by job area group now node thread dest one).0) good) ∙ is in
         record {
@@ -169,11 +169,11 @@ ends_records : (job : EndpointJob) (area : Area) (group : Group) (now node threa
     → (does_end job area group now node thread dest).0 ≡ end_answers.Ended
     → (does_end job area group now node thread dest).1.records
     ≡ after_writes job now node thread
-    (world_after job group.records (timed now (Does node thread (OnCore Poll))))
+    (world_after job group.records (timed_event now (Does node thread (OnCore Poll))))
     (writes_from dest (result_pieces job area group node))
 ends_records job area group now node thread dest none is =
-    let told = world_answer job group.records (timed now (Does node thread (OnCore Poll))) in
-    let polled = world_after job group.records (timed now (Does node thread (OnCore Poll))) in
+    let told = world_answer job group.records (timed_event now (Does node thread (OnCore Poll))) in
+    let polled = world_after job group.records (timed_event now (Does node thread (OnCore Poll))) in
     let by : end_by job area group now node thread dest told ≡ end_answers.Ended =
     sym (ap (λ (one : Option EndAnswer). (tries_by job area group now node thread dest one).0) none) ∙ is in
     ap (λ (one : Option EndAnswer). (tries_by job area group now node thread dest one).1.records) none
@@ -207,7 +207,7 @@ collectives_hold settings table meaning area range lawful registered serves good
         events_kept settings table meaning area (opening_group settings) try.events setting serves
         (opening_group_holds settings table meaning area setting) try.good
 
-    ok : (try : Try job_here area) → (tried try).0 ≡ OfEnd end_answers.Ended → EndsOk try
+    ok : (try : Try job_here area) → (answer_to_try try).0 ≡ OfEnd end_answers.Ended → EndsOk try
     ok try is =
         let group = group_at try in
         let node = try.node in
@@ -223,7 +223,7 @@ collectives_hold settings table meaning area range lawful registered serves good
         let mine = own_shape job_here area group node it own.0 own.1 in
         let pieces = result_pieces job_here area group node in
         let given = bytes_given group progress.ended 0 settings.nodes in
-        let poll = timed try.now (Does node try.thread (OnCore Poll)) in
+        let poll = timed_event try.now (Does node try.thread (OnCore Poll)) in
         let opened = open_then (is_open progress) (is_bad_dest area settings.segment node progress.shape try.dest)
         told.none in
         let place = is_good area settings.segment node progress.shape try.dest
@@ -246,12 +246,12 @@ collectives_hold settings table meaning area range lawful registered serves good
           all = all_gave job_here area group node it;
           same = λ from one low gave. all_same job_here area group node it found.1 own.0 own.1 from one low gave;
           result = subst (λ (result : List ℕ).
-              part (segment_at job_here (tried try).1.records node) try.dest (length result) ≡ result) same
+              part (segment_at job_here (answer_to_try try).1.records node) try.dest (length result) ≡ result) same
               (ap (λ (records : Records). part (segment_at job_here records node) try.dest (length (flat pieces))) after
               ∙ stands);
         }
 
-    apart : (try : Try job_here area) (other : ℕ) → (tried try).0 ≡ OfEnd (end_answers.Mismatch other) → EndsApart try other
+    apart : (try : Try job_here area) (other : ℕ) → (answer_to_try try).0 ≡ OfEnd (end_answers.Mismatch other) → EndsApart try other
     apart try other is =
         let group = group_at try in
         let node = try.node in

@@ -10,7 +10,7 @@ use Rattle.part_collective_area.specs.Area.{Area, IsArea, stamp_in, word_in, dat
 use Rattle.part_collective_area.specs.Results.{Contribution, pieces_of}
 use Rattle.law_collectives.specs.Phases.{IsReady}
 use Rattle.node_collectives.specs.Progress.{is_open, is_ready, other_shape}
-use Rattle.law_collectives.specs.Groups.{Group, gathered, result_pieces}
+use Rattle.law_collectives.specs.Groups.{Group, data_in_parts, result_pieces}
 use Rattle.law_collectives.specs.CollectiveLaws.{Gave, bytes_given, given_bytes}
 use Rattle.law_collectives.specs.Invariant.{GroupHolds, IsWholeAt, phases_of, sent_count}
 use Rattle.law_collectives.proofs.Phases.{ready_safe}
@@ -152,7 +152,7 @@ result_stands job area group node it none =
     let mine = own_shape job area group node it own.0 own.1 in
     let each = λ (at : ℕ) (low : at < area.nodes) (used : uses shape at node ≡ true).
     whole_at job area group node it at low none used in
-    same_pieces shape.kind shape.root shape.len (gathered job area group node)
+    same_pieces shape.kind shape.root shape.len (data_in_parts job area group node)
     (bytes_given group progress.ended 0 area.nodes) area.nodes node (record {
       whole = λ used. same_data area progress segment group 0 area.nodes
           (λ at low high. each at (omega (arith, high)) (used at (omega (arith, high))));
@@ -160,7 +160,7 @@ result_stands job area group node it none =
           let given = (it.holds.progress node it.there).given progress.ended own.0 own.1 in
           let is : own.0.shape.root ≡ shape.root = ap (λ (one : Shape). one.root) mine in
           let low : shape.root < area.nodes = (let root = given.root in omega (arith, root, is)) in
-          same_at (gathered job area group node) (bytes_given group progress.ended 0 area.nodes) shape.root
+          same_at (data_in_parts job area group node) (bytes_given group progress.ended 0 area.nodes) shape.root
           (data_at area progress segment 0 area.nodes shape.root shape.root low (omega arith)
           ∙ (ap Some (each shape.root low used)
           ∙ sym (given_at group progress.ended 0 area.nodes shape.root shape.root low (omega arith))));

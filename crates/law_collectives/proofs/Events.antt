@@ -4,13 +4,13 @@ use Rattle.std.proofs.Common.{None, refl, sym, ap, ◌∙◌, subst, arith}
 use Rattle.std.specs.Prelude.{◌≢◌, ◌==◌, ◌||◌, if◌then◌else◌}
 use Rattle.std.proofs.lemmas.Bool.{cases_eq, ne_eqb}
 use Rattle.std.proofs.lemmas.Option.{same_Some}
-use Rattle.base_lists.specs.Numbered.{numbered}
+use Rattle.base_lists.specs.Numbered.{element_at}
 use Rattle.base_lists.proofs.Cases.{none_some}
 use Rattle.base_lists.proofs.Numbered.{numbered_nil}
 use Rattle.wire_message.specs.Parameters.{Parameters}
 use Rattle.wire_message.specs.Content.{Content}
 use Rattle.part_segment.specs.Image.{Write}
-use Rattle.part_barrier.specs.Record.{SentNote}
+use Rattle.part_barrier.specs.Record.{SentNotification}
 use Rattle.part_transfers.specs.declared.operation.Next.{Next}
 use Rattle.part_handlers.specs.declared.table.Entry.{Entry}
 use Rattle.part_handlers.specs.Runs.{Meaning}
@@ -22,17 +22,17 @@ use Rattle.spec_node.specs.NodeStep.{OfDelivery}
 use Rattle.spec_node.specs.Record.{Request}
 use Rattle.spec_node.specs.Step.{reply_slot}
 use Rattle.std.proofs.Common.{map}
-use Rattle.spec_network.specs.World.{Event, RequestComes, Timed, OfNode, WorldAnswer, IsAmong}
+use Rattle.spec_network.specs.World.{Event, RequestComes, EventAt, OfNode, WorldAnswer, IsAmong}
 use Rattle.spec_network.specs.World.{world_answer, world_after}
-use Rattle.spec_network.specs.Plain.{Labelled, Plain, labelled, put_pair, plain_of}
+use Rattle.spec_network.specs.Plain.{PlainRequest, Plain, plain_request, put_pair, plain_of}
 use Rattle.spec_network.specs.Invariant.{Holds}
 use Rattle.spec_network.proofs.PlainSteps.{step_plain}
 use Rattle.spec_network.proofs.Worlds.{step_keeps}
 use Rattle.node_core.specs.ClientRules.{said_in}
 use Rattle.node_core.specs.Kept.{segment_of}
-use Rattle.node_core.specs.Library.{Work, Put, Get, Memset, Note, note_handler, run_answer, work_content}
+use Rattle.node_core.specs.Library.{Work, Put, Get, Memset, Notification, notification_handler, run_answer, work_content}
 use Rattle.node_rules.specs.EndpointLocal.{EndpointLocal, IsEndpointKept}
-use Rattle.node_rules.specs.EndpointRules.{OtherCall, Records, chunk_work, job_of, note_first}
+use Rattle.node_rules.specs.EndpointRules.{OtherCall, Records, chunk_work, job_of, notification_first}
 use Rattle.node_rules.specs.declared.answer.Answer.{Answer}
 use Rattle.law_transfers.specs.Chunks.{writes_at}
 use Rattle.law_transfers.proofs.Stretches.{AreSound}
@@ -68,14 +68,14 @@ work_handler : (version : ℕ) (segment : List ℕ) (work : Work)
 work_handler version segment (Put local remote len) is = omega (arith, is)
 work_handler version segment (Get local remote len) is = omega (arith, is)
 work_handler version segment (Memset remote len byte) is = omega (arith, is)
-work_handler version segment (Note note) is = omega (arith, is)
+work_handler version segment (Notification notification) is = omega (arith, is)
 
-sending_handler : (settings : Parameters) (segment : List ℕ) (note : Option SentNote) (chunk : Option Next)
-    (sending : Sending) → note_first settings segment note chunk ≡ Some sending
+sending_handler : (settings : Parameters) (segment : List ℕ) (notification : Option SentNotification) (chunk : Option Next)
+    (sending : Sending) → notification_first settings segment notification chunk ≡ Some sending
     → sending.content.handler ≢ collective_handler
 sending_handler settings segment (Some sent) chunk sending is =
     subst (λ (it : Sending). it.content.handler ≢ collective_handler) (same_Some _ _ is)
-    (work_handler settings.version segment (Note sent.note))
+    (work_handler settings.version segment (Notification sent.notification))
 sending_handler settings segment None (Some next) sending is =
     subst (λ (it : Sending). it.content.handler ≢ collective_handler) (same_Some _ _ is)
     (work_handler settings.version segment (chunk_work next))
@@ -89,8 +89,8 @@ no_run_writes size plain node (RequestComes from to number) (OfNode (OfDelivery 
 no_run_writes size plain node event answer none = refl
 
 -- a request that runs, where its handler is another one
-other_run_writes : (size : ℕ) (plain : Plain EndpointLocal) (node from to number : ℕ) (request : Labelled)
-    (answer : Delivered) → numbered (plain.requests from to) number ≡ Some request
+other_run_writes : (size : ℕ) (plain : Plain EndpointLocal) (node from to number : ℕ) (request : PlainRequest)
+    (answer : Delivered) → element_at (plain.requests from to) number ≡ Some request
     → request.content.handler ≢ collective_handler
     → collective_writes size plain node (RequestComes from to number) (OfNode (OfDelivery answer)) ≡ []
 other_run_writes size plain node from to number request (delivered.Ran at) there other =
@@ -105,15 +105,15 @@ other_run_writes size plain node from to number request (delivered.Ran at) there
     by_node false is = refl
 other_run_writes size plain node from to number request answer there other = refl
 
-run_writes : (size : ℕ) (plain : Plain EndpointLocal) (node from to number : ℕ) (request : Labelled)
-    (answer : Delivered) (at : SlotRef) → numbered (plain.requests from to) number ≡ Some request
+run_writes : (size : ℕ) (plain : Plain EndpointLocal) (node from to number : ℕ) (request : PlainRequest)
+    (answer : Delivered) (at : SlotRef) → element_at (plain.requests from to) number ≡ Some request
     → answer ≡ delivered.Ran at
     → collective_writes size plain node (RequestComes from to number) (OfNode (OfDelivery answer))
     ≡ message_at size to node request.content
 run_writes size plain node from to number request answer at there is =
     ap (λ (given : Delivered). collective_writes size plain node (RequestComes from to number)
     (OfNode (OfDelivery given))) is
-    ∙ ap (λ (found : Option Labelled). if to == node then request_writes size found else []) there
+    ∙ ap (λ (found : Option PlainRequest). if to == node then request_writes size found else []) there
 
 -- ---- quiet events
 
@@ -155,10 +155,10 @@ quiet_by settings table meaning area group next setting holds after asks fresh r
 }
 
 -- a run of another handler
-ran_other : (now next : Plain EndpointLocal) (from to : ℕ) (request : Labelled) (number : ℕ) (reply : Content)
+ran_other : (now next : Plain EndpointLocal) (from to : ℕ) (request : PlainRequest) (number : ℕ) (reply : Content)
     → next.requests ≡ now.requests
     → next.runs ≡ put_pair now.runs from to (now.runs from to ++ record { number = number; reply = reply } ∷ [])
-    → numbered (now.requests from to) number ≡ Some request → request.content.handler ≢ collective_handler
+    → element_at (now.requests from to) number ≡ Some request → request.content.handler ≢ collective_handler
     → RanSame now next
 ran_other now next from to request number reply requests runs there other one another phase =
     elim (cases_two one another from to) [
@@ -198,13 +198,13 @@ beside_only settings area now next event answer none written node has =
 
 -- of the node itself, none asks anything
 pub apart_nodes : (settings : Parameters) (table : List (Option Entry)) (meaning : Meaning) (area : Area) (group : Group)
-    (from to number : ℕ) (request : Labelled) → GroupHolds (job_of settings table meaning) area group
-    → numbered ((plain_of group.records).requests from to) number ≡ Some request → from ≢ to
+    (from to number : ℕ) (request : PlainRequest) → GroupHolds (job_of settings table meaning) area group
+    → element_at ((plain_of group.records).requests from to) number ≡ Some request → from ≢ to
 apart_nodes settings table meaning area group from to number request holds there same =
-    let own = subst (λ (at : ℕ). numbered ((plain_of group.records).requests from at) number ≡ Some request) (sym same)
+    let own = subst (λ (at : ℕ). element_at ((plain_of group.records).requests from at) number ≡ Some request) (sym same)
     there in
     numbered_nil number request
-    (sym (ap (λ (list : List Request). numbered (map labelled list) number) (holds.records.own from)) ∙ own)
+    (sym (ap (λ (list : List Request). element_at (map plain_request list) number) (holds.records.own from)) ∙ own)
 
 other_by : (settings : Parameters) (table : List (Option Entry)) (meaning : Meaning) (area : Area) (group : Group)
     (next : Records) (event : Event OtherCall) (answer : WorldAnswer Answer) → Setting settings table meaning area
@@ -224,7 +224,7 @@ other_by settings table meaning area group next event answer setting holds after
     (beside_only settings area group.records next event answer
     (λ node. no_run_writes settings.segment (plain_of group.records) node event answer quiet) written))
 other_by settings table meaning area group next event answer setting holds after among none written
-    (ThreadAsks from ask label is requests runs) =
+    (ThreadAsks from ask slot is requests runs) =
     let plain = plain_of group.records in
     let other : ask.what.handler ≢ collective_handler = subst IsNoCollective is none in
     let differs = λ (same : (said_in (segment_of settings (plain.local from).core) ask.what).handler
@@ -273,7 +273,7 @@ other_by settings table meaning area group next event answer setting holds after
         handler = ours;
         writes = λ node has.
             let it = written node has in
-            let at = reply_slot from first.request.label in
+            let at = reply_slot from first.request.slot in
             let told : said ≡ delivered.Ran at = first.runs_as ∙ ran_as settings.version first.request.content at ours
             in
             written_so job area group.records next node _ it.0 holds.records after
@@ -292,10 +292,10 @@ other_by settings table meaning area group next event answer setting holds after
   where
     ran_as : (version : ℕ) (content : Content) (at : SlotRef) → content.handler ≡ collective_handler
         → run_answer version content at ≡ delivered.Ran at
-    ran_as version content at ours = rw (ne_eqb content.handler note_handler (λ same. omega (arith, same, ours))) refl
+    ran_as version content at ours = rw (ne_eqb content.handler notification_handler (λ same. omega (arith, same, ours))) refl
 
 pub other_kept : (settings : Parameters) (table : List (Option Entry)) (meaning : Meaning) (area : Area)
-    (group : Group) (e : Timed OtherCall) → Setting settings table meaning area
+    (group : Group) (e : EventAt OtherCall) → Setting settings table meaning area
     → GroupHolds (job_of settings table meaning) area group
     → IsGroupEvent (job_of settings table meaning) area group (Other e)
     → GroupHolds (job_of settings table meaning) area

@@ -6,20 +6,20 @@ use Rattle.std.specs.Int.{w64, to_le_bytes, from_le_bytes}
 use Rattle.std.proofs.lemmas.List.Elements.{All-cons}
 use Rattle.wire_message.specs.Parameters.{Parameters}
 use Rattle.wire_message.specs.Content.{Content}
-use Rattle.wire_message.proofs.Noted.{joined_again}
+use Rattle.wire_message.proofs.Notified.{joined_again}
 use Rattle.part_segment.specs.Bytes.{part}
 use Rattle.part_segment.specs.Image.{Write, FitsIn, AllFit, overwritten, written_by}
 use Rattle.part_segment.proofs.Images.{length-overwritten, length-image, all_fit-append, all_fit_one}
 use Rattle.part_handlers.specs.declared.table.Entry.{Entry}
 use Rattle.part_handlers.specs.declared.rules.Role.TheVariants as role
-use Rattle.part_handlers.specs.Runs.{Frame, Start, Outcome, Meaning, closed, untouched}
+use Rattle.part_handlers.specs.Runs.{Frame, Start, Outcome, Meaning, after_return, nothing_done}
 use Rattle.spec_node.specs.Behaviour.{Contact}
 use Rattle.node_core.specs.Kept.{Local, IsKept, start_from, with_writes}
 use Rattle.node_core.specs.Library.{is_library, library_outcome}
 use Rattle.node_core.specs.HandlerRuns.{handlers_of, frame_of_run, landing, outcome, run_request, place_of}
 use Rattle.part_collective_area.specs.Area.{Area, IsArea, part_place, data_place, stamp_in, word_in, data_in}
 use Rattle.part_collective_area.specs.Served.{ServesCollectives, collective_content, collective_handler, header_arguments, header_at}
-use Rattle.part_collective_area.specs.Served.{header_for, number_at, stamped}
+use Rattle.part_collective_area.specs.Served.{header_for, number_at, outcome_of_piece}
 use Rattle.part_collective_area.proofs.Stamping.{header_is}
 use Rattle.law_collectives.specs.Groups.{content_writes}
 use Rattle.part_collective_area.specs.Area.{SpareArea}
@@ -231,16 +231,16 @@ collective_left settings table meaning contact content me local serves handler f
     let long : length start.segment ≡ settings.segment = length-image settings.segment landed.writes
     (all_fit-append settings.segment local.writes (landing content) kept.writes fit) in
     let header = λ (len : ℕ). header_for len content.args (place_of content) in
-    let run : outcome handlers role.Request contact content start ≡ closed frame (stamped frame start (untouched start))
-    = client content.handler frame start handler ∙ ap (closed frame) (serves frame start) in
+    let run : outcome handlers role.Request contact content start ≡ after_return frame (outcome_of_piece frame start (nothing_done start))
+    = client content.handler frame start handler ∙ ap (after_return frame) (serves frame start) in
     ap (λ (o : Outcome). landed.writes ++ o.writes) run
     ∙ (ap (λ (len : ℕ). landed.writes ++ header len) long
     ∙ (append_assoc local.writes (landing content) (header settings.segment)
     ∙ ap (λ (writes : List Write). local.writes ++ writes) (sym (by_handler content handler))))
   where
     client : (index : ℕ) (frame : Frame) (at : Start) → index ≡ collective_handler
-        → (if is_library index then library_outcome content at else closed frame (meaning index frame at))
-        ≡ closed frame (meaning collective_handler frame at)
+        → (if is_library index then library_outcome content at else after_return frame (meaning index frame at))
+        ≡ after_return frame (meaning collective_handler frame at)
     client index frame at is = rw is refl
 
     by_handler : (content : Content) → content.handler ≡ collective_handler

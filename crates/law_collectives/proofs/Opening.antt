@@ -9,7 +9,7 @@ use Rattle.base_lists.proofs.Numbered.{numbered_nil}
 use Rattle.wire_message.specs.Parameters.{Parameters}
 use Rattle.part_handlers.specs.declared.table.Entry.{Entry}
 use Rattle.part_handlers.specs.Runs.{Meaning}
-use Rattle.base_lists.specs.Numbered.{numbered}
+use Rattle.base_lists.specs.Numbered.{element_at}
 use Rattle.spec_network.proofs.Worlds.{opening_holds}
 use Rattle.node_rules.specs.EndpointLocal.{IsEndpointKept, nothing_begun}
 use Rattle.node_rules.specs.EndpointRules.{job_of, at_the_opening}
@@ -28,7 +28,7 @@ none_given zero x is = cc
 none_given (suc place) x is = cc
 
 -- nothing was asked
-none_asked : (phase number : ℕ) → asks_phase phase (numbered [] number) ≡ false
+none_asked : (phase number : ℕ) → asks_phase phase (element_at [] number) ≡ false
 none_asked phase zero = refl
 none_asked phase (suc place) = refl
 

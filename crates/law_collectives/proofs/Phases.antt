@@ -4,7 +4,7 @@ use Rattle.std.proofs.Common.{sym, ap, ◌∙◌, subst, arith}
 use Rattle.std.specs.Prelude.{◌≢◌}
 use Rattle.std.proofs.lemmas.Bool.{cases_eq, cases_lt, cases_Bool}
 use Rattle.law_collectives.specs.Phases.{Phases, IsNothing, PhaseEvent, Nothing, Starts, Sends, Runs, Ends, IsReady}
-use Rattle.law_collectives.specs.Phases.{MayHappen, RunsOne, RisesOne, Leaves, Happened, IsRun, last_of}
+use Rattle.law_collectives.specs.Phases.{MayHappen, RunsOne, RisesOne, Leaves, EventAndNext, IsRun, last_of}
 use Rattle.law_collectives.specs.Phases.{PairHolds, AllHold, IsSafe, ComesInTime, PhasesAreSafe}
 
 -- ---- the heart of it
@@ -423,7 +423,7 @@ kept nodes now next (Sends from to) all may left = kept_sends nodes now next fro
 kept nodes now next (Runs from to phase) all may left = kept_runs nodes now next from to phase all may left
 kept nodes now next (Ends node) all may left = kept_ends nodes now next node all may left
 
-pub kept_all : (nodes : ℕ) (now : Phases) (steps : List Happened) → AllHold nodes now → IsRun nodes now steps
+pub kept_all : (nodes : ℕ) (now : Phases) (steps : List EventAndNext) → AllHold nodes now → IsRun nodes now steps
     → AllHold nodes (last_of now steps)
 kept_all nodes now [] all it = all
 kept_all nodes now (step ∷ later) all it =

@@ -6,11 +6,11 @@ use Rattle.std.specs.List.{list_any}
 use Rattle.std.proofs.lemmas.Bool.{cases_eq, ne_eqb}
 use Rattle.std.proofs.lemmas.List.Folds.{list_any-append}
 use Rattle.base_lists.specs.Put.{put}
-use Rattle.base_lists.specs.Numbered.{numbered}
+use Rattle.base_lists.specs.Numbered.{element_at}
 use Rattle.base_lists.proofs.Put.{put_same, put_other}
 use Rattle.base_lists.proofs.Numbered.{numbered_push}
 use Rattle.spec_network.specs.Invariant.{Holds}
-use Rattle.spec_network.specs.Plain.{Labelled, Plain, Replied, IsRequest, put_pair, plain_of}
+use Rattle.spec_network.specs.Plain.{PlainRequest, Plain, RunReply, IsRequest, put_pair, plain_of}
 use Rattle.node_rules.specs.EndpointLocal.{EndpointLocal, IsEndpointKept}
 use Rattle.node_rules.specs.EndpointRules.{Records}
 use Rattle.law_transfers.specs.Chunks.{EndpointJob, segment_at}
@@ -24,13 +24,13 @@ use Rattle.law_collectives.proofs.Messages.{Untouched}
 
 -- ---- requests that are no messages of collectives
 
-pub asks_none : (phase : ℕ) (request : Labelled) → request.content.handler ≢ collective_handler
+pub asks_none : (phase : ℕ) (request : PlainRequest) → request.content.handler ≢ collective_handler
     → asks_phase phase (Some request) ≡ false
 asks_none phase request other = rw (ne_eqb request.content.handler collective_handler other) refl
 
-asks_push : (phase : ℕ) (requests : List Labelled) (request : Labelled) (number : ℕ)
+asks_push : (phase : ℕ) (requests : List PlainRequest) (request : PlainRequest) (number : ℕ)
     → request.content.handler ≢ collective_handler
-    → asks_phase phase (numbered (requests ++ request ∷ []) number) ≡ asks_phase phase (numbered requests number)
+    → asks_phase phase (element_at (requests ++ request ∷ []) number) ≡ asks_phase phase (element_at requests number)
 asks_push phase requests request zero other = refl
 asks_push phase [] request (suc zero) other = asks_none phase request other
 asks_push phase [] request (suc (suc place)) other = refl
@@ -65,49 +65,49 @@ pair_at items from to item one other = elim (cases_eq one from) [
 abbrev pub AsksSame : Plain EndpointLocal → Plain EndpointLocal → Type 0
 AsksSame now next =
     (from to number phase : ℕ)
-    → asks_phase phase (numbered (next.requests from to) number)
-    ≡ asks_phase phase (numbered (now.requests from to) number)
+    → asks_phase phase (element_at (next.requests from to) number)
+    ≡ asks_phase phase (element_at (now.requests from to) number)
 
 pub asks_same : (now next : Plain EndpointLocal) → next.requests ≡ now.requests → AsksSame now next
 asks_same now next is from to number phase =
-    ap (λ (requests : ℕ → ℕ → List Labelled). asks_phase phase (numbered (requests from to) number)) is
+    ap (λ (requests : ℕ → ℕ → List PlainRequest). asks_phase phase (element_at (requests from to) number)) is
 
-pub asks_more : (now next : Plain EndpointLocal) (from to : ℕ) (request : Labelled)
+pub asks_more : (now next : Plain EndpointLocal) (from to : ℕ) (request : PlainRequest)
     → next.requests ≡ put_pair now.requests from to (now.requests from to ++ request ∷ [])
     → request.content.handler ≢ collective_handler → AsksSame now next
 asks_more now next from to request is none one other number phase =
-    ap (λ (requests : ℕ → ℕ → List Labelled). asks_phase phase (numbered (requests one other) number)) is
+    ap (λ (requests : ℕ → ℕ → List PlainRequest). asks_phase phase (element_at (requests one other) number)) is
     ∙ elim (pair_at now.requests from to (now.requests from to ++ request ∷ []) one other) [
-      | inl here ↦ ap (λ (list : List Labelled). asks_phase phase (numbered list number)) here.2
+      | inl here ↦ ap (λ (list : List PlainRequest). asks_phase phase (element_at list number)) here.2
           ∙ (asks_push phase (now.requests from to) request number none
-          ∙ (ap (λ (it : ℕ). asks_phase phase (numbered (now.requests it to) number)) (sym here.0)
-          ∙ ap (λ (it : ℕ). asks_phase phase (numbered (now.requests one it) number)) (sym here.1)))
-      | inr there ↦ ap (λ (list : List Labelled). asks_phase phase (numbered list number)) there.1
+          ∙ (ap (λ (it : ℕ). asks_phase phase (element_at (now.requests it to) number)) (sym here.0)
+          ∙ ap (λ (it : ℕ). asks_phase phase (element_at (now.requests one it) number)) (sym here.1)))
+      | inr there ↦ ap (λ (list : List PlainRequest). asks_phase phase (element_at list number)) there.1
     ]
 
 -- no new message of collectives is among the requests
 abbrev pub NoneFresh : Plain EndpointLocal → Plain EndpointLocal → Type 0
 NoneFresh now next =
-    (from to number : ℕ) (request : Labelled) → IsRequest next from to number request
+    (from to number : ℕ) (request : PlainRequest) → IsRequest next from to number request
     → request.content.handler ≡ collective_handler → IsRequest now from to number request
 
 pub fresh_same : (now next : Plain EndpointLocal) → next.requests ≡ now.requests → NoneFresh now next
 fresh_same now next is from to number request there handler =
-    subst (λ (requests : ℕ → ℕ → List Labelled). numbered (requests from to) number ≡ Some request) is there
+    subst (λ (requests : ℕ → ℕ → List PlainRequest). element_at (requests from to) number ≡ Some request) is there
 
-pub fresh_more : (now next : Plain EndpointLocal) (from to : ℕ) (request : Labelled)
+pub fresh_more : (now next : Plain EndpointLocal) (from to : ℕ) (request : PlainRequest)
     → next.requests ≡ put_pair now.requests from to (now.requests from to ++ request ∷ [])
     → request.content.handler ≢ collective_handler → NoneFresh now next
 fresh_more now next from to request is none one other number found there handler =
-    let at = subst (λ (requests : ℕ → ℕ → List Labelled). numbered (requests one other) number ≡ Some found) is there in
+    let at = subst (λ (requests : ℕ → ℕ → List PlainRequest). element_at (requests one other) number ≡ Some found) is there in
     elim (pair_at now.requests from to (now.requests from to ++ request ∷ []) one other) [
       | inl here ↦ elim (numbered_push (now.requests from to) request number found
-          (subst (λ (list : List Labelled). numbered list number ≡ Some found) here.2 at)) [
-            | inl old ↦ subst (λ (it : ℕ). numbered (now.requests it other) number ≡ Some found) (sym here.0)
-                (subst (λ (it : ℕ). numbered (now.requests from it) number ≡ Some found) (sym here.1) old)
-            | inr new ↦ absurd (none (ap (λ (it : Labelled). it.content.handler) new.1 ∙ handler))
+          (subst (λ (list : List PlainRequest). element_at list number ≡ Some found) here.2 at)) [
+            | inl old ↦ subst (λ (it : ℕ). element_at (now.requests it other) number ≡ Some found) (sym here.0)
+                (subst (λ (it : ℕ). element_at (now.requests from it) number ≡ Some found) (sym here.1) old)
+            | inr new ↦ absurd (none (ap (λ (it : PlainRequest). it.content.handler) new.1 ∙ handler))
           ]
-      | inr apart ↦ subst (λ (list : List Labelled). numbered list number ≡ Some found) apart.1 at
+      | inr apart ↦ subst (λ (list : List PlainRequest). element_at list number ≡ Some found) apart.1 at
     ]
 
 -- ---- runs
@@ -123,21 +123,21 @@ RanSame now next = (from to phase : ℕ) → ran_phase next from to phase ≡ ra
 
 pub ran_same : (now next : Plain EndpointLocal) → AsksSame now next → next.runs ≡ now.runs → RanSame now next
 ran_same now next asks is from to phase =
-    ap (λ (runs : ℕ → ℕ → List Replied).
-    list_any (λ run. asks_phase phase (numbered (next.requests from to) run.number)) (runs from to)) is
-    ∙ any_same (λ (run : Replied). asks_phase phase (numbered (next.requests from to) run.number))
-    (λ (run : Replied). asks_phase phase (numbered (now.requests from to) run.number)) (now.runs from to)
+    ap (λ (runs : ℕ → ℕ → List RunReply).
+    list_any (λ run. asks_phase phase (element_at (next.requests from to) run.number)) (runs from to)) is
+    ∙ any_same (λ (run : RunReply). asks_phase phase (element_at (next.requests from to) run.number))
+    (λ (run : RunReply). asks_phase phase (element_at (now.requests from to) run.number)) (now.runs from to)
     (λ run. asks from to run.number phase)
 
 -- one more run
-pub ran_push : (now next : Plain EndpointLocal) (from to : ℕ) (run : Replied) → next.requests ≡ now.requests
+pub ran_push : (now next : Plain EndpointLocal) (from to : ℕ) (run : RunReply) → next.requests ≡ now.requests
     → next.runs ≡ put_pair now.runs from to (now.runs from to ++ run ∷ []) → (phase : ℕ)
     → ran_phase next from to phase
-    ≡ (ran_phase now from to phase || (asks_phase phase (numbered (now.requests from to) run.number) || false))
+    ≡ (ran_phase now from to phase || (asks_phase phase (element_at (now.requests from to) run.number) || false))
 ran_push now next from to run requests is phase =
-    let test = λ (list : List Labelled) (one : Replied). asks_phase phase (numbered list one.number) in
-    ap (λ (f : ℕ → ℕ → List Labelled). list_any (test (f from to)) (next.runs from to)) requests
-    ∙ (ap (λ (f : ℕ → ℕ → List Replied). list_any (test (now.requests from to)) (f from to)) is
+    let test = λ (list : List PlainRequest) (one : RunReply). asks_phase phase (element_at list one.number) in
+    ap (λ (f : ℕ → ℕ → List PlainRequest). list_any (test (f from to)) (next.runs from to)) requests
+    ∙ (ap (λ (f : ℕ → ℕ → List RunReply). list_any (test (now.requests from to)) (f from to)) is
     ∙ (elim (pair_at now.runs from to (now.runs from to ++ run ∷ []) from to) [
       | inl here ↦ ap (list_any (test (now.requests from to))) here.2
           ∙ list_any-append (test (now.requests from to)) (now.runs from to) (run ∷ [])
@@ -145,13 +145,13 @@ ran_push now next from to run requests is phase =
     ]))
 
 -- and nothing else
-pub ran_apart : (now next : Plain EndpointLocal) (from to : ℕ) (run : Replied) → next.requests ≡ now.requests
+pub ran_apart : (now next : Plain EndpointLocal) (from to : ℕ) (run : RunReply) → next.requests ≡ now.requests
     → next.runs ≡ put_pair now.runs from to (now.runs from to ++ run ∷ []) → (one other phase : ℕ)
     → (one ≢ from) ⊎ (other ≢ to) → ran_phase next one other phase ≡ ran_phase now one other phase
 ran_apart now next from to run requests is one other phase differ =
-    let test = λ (list : List Labelled) (it : Replied). asks_phase phase (numbered list it.number) in
-    ap (λ (f : ℕ → ℕ → List Labelled). list_any (test (f one other)) (next.runs one other)) requests
-    ∙ (ap (λ (f : ℕ → ℕ → List Replied). list_any (test (now.requests one other)) (f one other)) is
+    let test = λ (list : List PlainRequest) (it : RunReply). asks_phase phase (element_at list it.number) in
+    ap (λ (f : ℕ → ℕ → List PlainRequest). list_any (test (f one other)) (next.runs one other)) requests
+    ∙ (ap (λ (f : ℕ → ℕ → List RunReply). list_any (test (now.requests one other)) (f one other)) is
     ∙ (elim (pair_at now.runs from to (now.runs from to ++ run ∷ []) one other) [
       | inl here ↦ absurd (elim differ [ inl first ↦ first here.0 | inr second ↦ second here.1 ])
       | inr apart ↦ ap (list_any (test (now.requests one other))) apart.1

@@ -34,27 +34,27 @@ use Rattle.node_collectives.proofs.Sizes.{flat}
 two_as_one : (bytes first second : List ℕ) (dest : ℕ) → dest + length first + length second ≤ length bytes
     → with_part (with_part bytes dest first) (dest + length first) second ≡ with_part bytes dest (first ++ second)
 two_as_one bytes first second dest inside =
-    let front = take dest bytes in
+    let prefix = take dest bytes in
     let rest = drop (dest + length first) bytes in
     let whole = with_part bytes dest first in
-    let low : length front ≡ dest = length-take-le dest bytes (omega (arith, inside)) in
-    let both : length (front ++ first) ≡ dest + length first =
-    length-append front first ∙ ap (λ (n : ℕ). n + length first) low in
-    let same : whole ≡ (front ++ first) ++ rest = sym (append_assoc front first rest) in
-    let head : take (dest + length first) whole ≡ front ++ first =
-    ap (take (dest + length first)) same ∙ take_at (front ++ first) rest (dest + length first) both in
+    let low : length prefix ≡ dest = length-take-le dest bytes (omega (arith, inside)) in
+    let both : length (prefix ++ first) ≡ dest + length first =
+    length-append prefix first ∙ ap (λ (n : ℕ). n + length first) low in
+    let same : whole ≡ (prefix ++ first) ++ rest = sym (append_assoc prefix first rest) in
+    let head : take (dest + length first) whole ≡ prefix ++ first =
+    ap (take (dest + length first)) same ∙ take_at (prefix ++ first) rest (dest + length first) both in
     let behind : drop (dest + length first) whole ≡ rest =
-    ap (drop (dest + length first)) same ∙ drop_at (front ++ first) rest (dest + length first) both in
+    ap (drop (dest + length first)) same ∙ drop_at (prefix ++ first) rest (dest + length first) both in
     let tail : drop (dest + length first + length second) whole ≡ drop (dest + length first + length second) bytes =
     sym (drop-drop (length second) (dest + length first) whole)
     ∙ (ap (drop (length second)) behind ∙ drop-drop (length second) (dest + length first) bytes) in
     let count : dest + length first + length second ≡ dest + length (first ++ second) =
     (let many = length-append first second in omega (arith, many)) in
     ap (λ (xs : List ℕ). xs ++ (second ++ drop (dest + length first + length second) whole)) head
-    ∙ (ap (λ (xs : List ℕ). (front ++ first) ++ (second ++ xs))
+    ∙ (ap (λ (xs : List ℕ). (prefix ++ first) ++ (second ++ xs))
     (tail ∙ ap (λ (n : ℕ). drop n bytes) count)
-    ∙ (append_assoc front first (second ++ drop (dest + length (first ++ second)) bytes)
-    ∙ ap (λ (xs : List ℕ). front ++ xs)
+    ∙ (append_assoc prefix first (second ++ drop (dest + length (first ++ second)) bytes)
+    ∙ ap (λ (xs : List ℕ). prefix ++ xs)
     (sym (append_assoc first second (drop (dest + length (first ++ second)) bytes)))))
 
 all_as_one : (bytes : List ℕ) (dest : ℕ) (first : List ℕ) (pieces : List (List ℕ))

@@ -6,13 +6,13 @@ use Rattle.std.specs.List.{list_any, slice_get}
 use Rattle.std.proofs.lemmas.Bool.{cases_Bool, cases_eq, eq-eqb, ne_eqb}
 use Rattle.std.proofs.lemmas.Option.{same_Some, slice_get_within}
 use Rattle.spec_node.specs.declared.answer.Delivered.{Delivered}
-use Rattle.base_lists.specs.Numbered.{numbered}
+use Rattle.base_lists.specs.Numbered.{element_at}
 use Rattle.wire_message.specs.Content.{Content}
-use Rattle.wire_message.proofs.Noted.{joined_again}
+use Rattle.wire_message.proofs.Notified.{joined_again}
 use Rattle.part_segment.specs.Image.{Write, AllFit, image, written_by}
 use Rattle.part_segment.proofs.Images.{length-image, length-written_by, image-append}
-use Rattle.spec_network.specs.Plain.{Labelled, Plain, Replied, IsRequest, InRuns, is_among, plain_of}
-use Rattle.spec_network.specs.PlainStep.{RunsFirst, named}
+use Rattle.spec_network.specs.Plain.{PlainRequest, Plain, RunReply, IsRequest, InRuns, is_among, plain_of}
+use Rattle.spec_network.specs.PlainStep.{RunsFirst, request_name}
 use Rattle.spec_network.specs.Invariant.{Holds}
 use Rattle.node_rules.specs.EndpointLocal.{EndpointLocal, IsEndpointKept}
 use Rattle.node_rules.specs.EndpointRules.{Records}
@@ -37,8 +37,8 @@ use Rattle.law_collectives.proofs.Messages.{message_outside, message_stands, mes
 use Rattle.law_collectives.proofs.Quiet.{ran_apart, ran_push, with_records}
 
 -- a run that is found by a test
-found_any : (test : Replied → Bool) (runs : List Replied) → list_any test runs ≡ true
-    → (run : Replied) × (test run ≡ true) × (is_among run.number runs ≡ true)
+found_any : (test : RunReply → Bool) (runs : List RunReply) → list_any test runs ≡ true
+    → (run : RunReply) × (test run ≡ true) × (is_among run.number runs ≡ true)
 found_any test [] is = absurd (true≢false (sym is))
 found_any test (first ∷ later) is = elim (cases_Bool (test first)) [
   | inl passes ↦ (first, passes, rw (eq-eqb first.number first.number refl) refl)
@@ -52,7 +52,7 @@ found_any test (first ∷ later) is = elim (cases_Bool (test first)) [
     or_there false is = is
 
 -- a message that hasn't run: its phase hasn't
-pub phase_fresh : (job : EndpointJob) (area : Area) (group : Group) (from to number phase : ℕ) (request : Labelled)
+pub phase_fresh : (job : EndpointJob) (area : Area) (group : Group) (from to number phase : ℕ) (request : PlainRequest)
     → GroupHolds job area group → IsRequest (plain_of group.records) from to number request
     → asks_phase phase (Some request) ≡ true
     → (InRuns (plain_of group.records) from to number → ⊥)
@@ -62,7 +62,7 @@ phase_fresh job area group from to number phase request holds there asks new =
     elim (cases_Bool (ran_phase plain from to phase)) [
       | inr no_run ↦ no_run
       | inl ran ↦ (
-          let found = found_any (λ run. asks_phase phase (numbered (plain.requests from to) run.number))
+          let found = found_any (λ run. asks_phase phase (element_at (plain.requests from to) run.number))
           (plain.runs from to) ran in
           let same : found.0.number ≡ number = holds.once from to found.0.number number phase found.1
           (ap (asks_phase phase) there ∙ asks) in
@@ -70,16 +70,16 @@ phase_fresh job area group from to number phase request holds there asks new =
     ]
 
 -- the message of a phase asks that phase, and no other
-pub message_asks : (phase : ℕ) (shape offset : ℕ) (bytes : List ℕ) (label : ℕ) → phase + 1 < 2 ^ 64
-    → asks_phase phase (Some (record { content = collective_content (phase + 1) shape offset bytes; label = label }))
+pub message_asks : (phase : ℕ) (shape offset : ℕ) (bytes : List ℕ) (slot : ℕ) → phase + 1 < 2 ^ 64
+    → asks_phase phase (Some (record { content = collective_content (phase + 1) shape offset bytes; slot = slot }))
     ≡ true
-message_asks phase shape offset bytes label small = eq-eqb _ _ (joined_again (phase + 1) small)
+message_asks phase shape offset bytes slot small = eq-eqb _ _ (joined_again (phase + 1) small)
 
-pub message_apart : (phase other : ℕ) (shape offset : ℕ) (bytes : List ℕ) (label : ℕ) → phase + 1 < 2 ^ 64
+pub message_apart : (phase other : ℕ) (shape offset : ℕ) (bytes : List ℕ) (slot : ℕ) → phase + 1 < 2 ^ 64
     → other ≢ phase
-    → asks_phase other (Some (record { content = collective_content (phase + 1) shape offset bytes; label = label }))
+    → asks_phase other (Some (record { content = collective_content (phase + 1) shape offset bytes; slot = slot }))
     ≡ false
-message_apart phase other shape offset bytes label small apart =
+message_apart phase other shape offset bytes slot small apart =
     ne_eqb _ _ (λ same.
     let stamp = joined_again (phase + 1) small in
     apart (omega (arith, same, stamp)))
@@ -189,7 +189,7 @@ pub record RunsMessage (job : EndpointJob) (area : Area) (group : Group) (next :
   pub has_to : to < job.settings.nodes
   pub apart : from ≢ to
   pub answer : Delivered
-  pub first : RunsFirst job.behaviour.messages (plain_of group.records) (named from to number) answer (plain_of next)
+  pub first : RunsFirst job.behaviour.messages (plain_of group.records) (request_name from to number) answer (plain_of next)
   pub handler : first.request.content.handler ≡ collective_handler
   pub writes : (node : ℕ) → node < job.settings.nodes
       → Written job area group.records next node (message_at job.settings.segment to node first.request.content)
@@ -306,15 +306,15 @@ fresh_phase job area group next from to number it known =
     rw (ne_eqb to from (λ same. it.apart (sym same)))
     (phase_fresh job area group from to number known.message.phase it.first.request it.holds it.first.fresh.is
     (subst (λ (content : Content). asks_phase known.message.phase
-    (Some (record { content = content; label = it.first.request.label })) ≡ true) (sym known.message.content_is)
+    (Some (record { content = content; slot = it.first.request.slot })) ≡ true) (sym known.message.content_is)
     (message_asks known.message.phase (shape_word known.message.given.shape)
-    (data_place area (known.message.phase % 2) from) (data_for known.message.given from to) it.first.request.label
+    (data_place area (known.message.phase % 2) from) (data_for known.message.given from to) it.first.request.slot
     known.stamp_small)) it.first.fresh.new)
 
 -- what the request asks
 asks_one : (job : EndpointJob) (area : Area) (group : Group) (next : Records) (from to number : ℕ)
     (it : RunsMessage job area group next from to number) (phase : ℕ)
-    → asks_phase phase (numbered ((plain_of group.records).requests from to) number)
+    → asks_phase phase (element_at ((plain_of group.records).requests from to) number)
     ≡ asks_phase phase (Some it.first.request)
 asks_one job area group next from to number it phase = ap (asks_phase phase) it.first.fresh.is
 
@@ -330,7 +330,7 @@ runs_leaves job area group next from to number it known =
     let requests : after.requests ≡ plain.requests = ap (λ (p : Plain EndpointLocal). p.requests) it.first.leaves in
     let runs = ap (λ (p : Plain EndpointLocal). p.runs) it.first.leaves in
     let content = known.message.content_is in
-    let label = it.first.request.label in
+    let slot = it.first.request.slot in
     let word = shape_word known.message.given.shape in (
       (λ node. refl),
       (λ node. refl),
@@ -340,9 +340,9 @@ runs_leaves job area group next from to number it known =
             (ran_push plain after from to _ requests runs phase
             ∙ (ap (λ (asks : Bool). ran_phase plain from to phase || (asks || false))
             (asks_one job area group next from to number it phase
-            ∙ subst (λ (said : Content). asks_phase phase (Some (record { content = said; label = label })) ≡ true)
+            ∙ subst (λ (said : Content). asks_phase phase (Some (record { content = said; slot = slot })) ≡ true)
             (sym content) (message_asks phase word (data_place area (phase % 2) from)
-            (data_for known.message.given from to) label known.stamp_small))
+            (data_for known.message.given from to) slot known.stamp_small))
             ∙ or_true (ran_phase plain from to phase)));
         ran_others = λ one other of differ.
             ap (λ (ran : Bool). if other == one then nat_lt of (length (group.given one)) else ran)
@@ -353,10 +353,10 @@ runs_leaves job area group next from to number it known =
                   (ran_push plain after from to _ requests runs of
                   ∙ (ap (λ (asks : Bool). ran_phase plain from to of || (asks || false))
                   (asks_one job area group next from to number it of
-                  ∙ subst (λ (said : Content). asks_phase of (Some (record { content = said; label = label }))
+                  ∙ subst (λ (said : Content). asks_phase of (Some (record { content = said; slot = slot }))
                   ≡ false) (sym content)
                   (message_apart phase of word (data_place area (phase % 2) from)
-                  (data_for known.message.given from to) label known.stamp_small (elim differ [
+                  (data_for known.message.given from to) slot known.stamp_small (elim differ [
                     | inl first ↦ absurd (first both.0)
                     | inr side ↦ elim side [ inl second ↦ absurd (second both.1) | inr last ↦ last ]
                   ])))
@@ -397,7 +397,7 @@ runs_kept job area group next from to number it =
           record { started = one.started; shape = one.shape; given = one.given; small = one.small };
       messages = λ one other at request has_one has_other there handler.
           let old = holds.messages one other at request has_one has_other
-          (subst (λ (all : ℕ → ℕ → List Labelled). numbered (all one other) at ≡ Some request) requests there)
+          (subst (λ (all : ℕ → ℕ → List PlainRequest). element_at (all one other) at ≡ Some request) requests there)
           handler in
           record {
             phase = old.phase;
@@ -407,8 +407,8 @@ runs_kept job area group next from to number it =
             content_is = old.content_is;
           };
       once = λ one other at again of first second. holds.once one other at again of
-          (subst (λ (all : ℕ → ℕ → List Labelled). asks_phase of (numbered (all one other) at) ≡ true) requests first)
-          (subst (λ (all : ℕ → ℕ → List Labelled). asks_phase of (numbered (all one other) again) ≡ true) requests
+          (subst (λ (all : ℕ → ℕ → List PlainRequest). asks_phase of (element_at (all one other) at) ≡ true) requests first)
+          (subst (λ (all : ℕ → ℕ → List PlainRequest). asks_phase of (element_at (all one other) again) ≡ true) requests
           second);
       parts = λ node one of given has has_one stands gave.
           elim (cases_eq node to) [

@@ -10,13 +10,13 @@ use Rattle.part_segment.specs.Bytes.{part}
 use Rattle.part_handlers.specs.declared.table.Entry.{Entry}
 use Rattle.part_handlers.specs.Runs.{Meaning}
 use Rattle.base_lists.specs.Put.{put}
-use Rattle.base_lists.specs.Numbered.{numbered}
+use Rattle.base_lists.specs.Numbered.{element_at}
 use Rattle.base_lists.proofs.Put.{put_same, put_other}
 use Rattle.base_lists.proofs.Numbered.{numbered_kept, numbered_map, numbered_push}
 use Rattle.spec_node.specs.declared.answer.Asked.TheVariants as asked
 use Rattle.spec_node.specs.NodeStep.{site_of}
 use Rattle.spec_node.specs.Record.{Run}
-use Rattle.spec_network.specs.Plain.{Labelled, Plain, Replied, labelled, replied, put_pair, plain_of}
+use Rattle.spec_network.specs.Plain.{PlainRequest, Plain, RunReply, plain_request, run_reply, put_pair, plain_of}
 use Rattle.spec_network.specs.PlainStep.{AskStep, plain_said}
 use Rattle.spec_network.specs.Invariant.{Holds}
 use Rattle.node_rules.specs.EndpointLocal.{EndpointLocal, IsEndpointKept}
@@ -157,11 +157,11 @@ message_sent settings table meaning area group next node thread to slot number i
 
 -- ---- the requests then
 
-any_kept : (requests : List Labelled) (new : Labelled) (runs : List Replied) (phase : ℕ)
-    → ((place : ℕ) (run : Replied) → slice_get runs place ≡ Some run
-    → (request : Labelled) × (numbered requests run.number ≡ Some request))
-    → list_any (λ run. asks_phase phase (numbered (requests ++ new ∷ []) run.number)) runs
-    ≡ list_any (λ run. asks_phase phase (numbered requests run.number)) runs
+any_kept : (requests : List PlainRequest) (new : PlainRequest) (runs : List RunReply) (phase : ℕ)
+    → ((place : ℕ) (run : RunReply) → slice_get runs place ≡ Some run
+    → (request : PlainRequest) × (element_at requests run.number ≡ Some request))
+    → list_any (λ run. asks_phase phase (element_at (requests ++ new ∷ []) run.number)) runs
+    ≡ list_any (λ run. asks_phase phase (element_at requests run.number)) runs
 any_kept requests new [] phase there = refl
 any_kept requests new (run ∷ later) phase there =
     let first = there 0 run refl in
@@ -171,21 +171,21 @@ any_kept requests new (run ∷ later) phase there =
 
 -- a run is of a request
 run_named : (settings : Parameters) (table : List (Option Entry)) (meaning : Meaning) (records : Records)
-    → Holds (job_of settings table meaning) (IsEndpointKept settings) records → (from to place : ℕ) (run : Replied)
+    → Holds (job_of settings table meaning) (IsEndpointKept settings) records → (from to place : ℕ) (run : RunReply)
     → slice_get ((plain_of records).runs from to) place ≡ Some run
-    → (request : Labelled) × (numbered ((plain_of records).requests from to) run.number ≡ Some request)
+    → (request : PlainRequest) × (element_at ((plain_of records).requests from to) run.number ≡ Some request)
 run_named settings table meaning records holds from to place run at =
     let found = unmapped ((records to).ran from) place run at in
     let one = (holds.pair from to).named place found.0 found.1 in (
-      labelled one.0,
+      plain_request one.0,
       subst
-          (λ (n : ℕ). numbered (map labelled ((records from).asked to)) n ≡ Some (labelled one.0))
-          (ap (λ (r : Replied). r.number) found.2)
-          (numbered_map labelled ((records from).asked to) found.0.number one.0 one.1),
+          (λ (n : ℕ). element_at (map plain_request ((records from).asked to)) n ≡ Some (plain_request one.0))
+          (ap (λ (r : RunReply). r.number) found.2)
+          (numbered_map plain_request ((records from).asked to) found.0.number one.0 one.1),
     )
   where
-    unmapped : (runs : List Run) (place : ℕ) (run : Replied) → slice_get (map replied runs) place ≡ Some run
-        → (one : Run) × (slice_get runs place ≡ Some one) × (replied one ≡ run)
+    unmapped : (runs : List Run) (place : ℕ) (run : RunReply) → slice_get (map run_reply runs) place ≡ Some run
+        → (one : Run) × (slice_get runs place ≡ Some one) × (run_reply one ≡ run)
     unmapped (one ∷ later) zero run at = (one, refl, same_Some _ _ at)
     unmapped (one ∷ later) (suc place) run at = unmapped later place run at
     unmapped [] zero run at = absurd (none_some at)
@@ -206,9 +206,9 @@ pair_apart items from to item one other differ = elim (pair_at items from to ite
 ]
 
 -- who asks a phase then
-asked_push : (phase : ℕ) (requests : List Labelled) (new : Labelled) (number : ℕ)
-    → asks_phase phase (numbered (requests ++ new ∷ []) number) ≡ true
-    → (asks_phase phase (numbered requests number) ≡ true)
+asked_push : (phase : ℕ) (requests : List PlainRequest) (new : PlainRequest) (number : ℕ)
+    → asks_phase phase (element_at (requests ++ new ∷ []) number) ≡ true
+    → (asks_phase phase (element_at requests number) ≡ true)
     ⊎ ((number ≡ suc (length requests)) × (asks_phase phase (Some new) ≡ true))
 asked_push phase requests new zero is = inl is
 asked_push phase [] new (suc zero) is = inr (refl, is)
@@ -219,8 +219,8 @@ asked_push phase (first ∷ requests) new (suc (suc place)) is = elim (asked_pus
   | inr last ↦ inr (ap suc last.0, last.1)
 ]
 
-asked_some : (phase : ℕ) (found : Option Labelled) → asks_phase phase found ≡ true
-    → (request : Labelled) × (found ≡ Some request) × (request.content.handler ≡ collective_handler)
+asked_some : (phase : ℕ) (found : Option PlainRequest) → asks_phase phase found ≡ true
+    → (request : PlainRequest) × (found ≡ Some request) × (request.content.handler ≡ collective_handler)
 asked_some phase None is = absurd (true≢false (sym is))
 asked_some phase (Some request) is =
     (request, refl, eqb-true _ _ (and_first (request.content.handler == collective_handler) _ is))
@@ -304,12 +304,12 @@ sent_more settings table meaning area group next node thread to slot number it o
 
 -- the request that was asked
 abbrev new_of : (settings : Parameters) (table : List (Option Entry)) (meaning : Meaning) → Area → Group
-    → (node thread to slot : ℕ) → Labelled
+    → (node thread to slot : ℕ) → PlainRequest
 new_of settings table meaning area group node thread to slot =
     record {
       content = plain_said (site_of (job_of settings table meaning) node) (plain_of group.records)
           (step_ask area node thread to (group.progress node));
-      label = slot;
+      slot = slot;
     }
 
 -- segments are as they were
@@ -328,17 +328,17 @@ ran_sent settings table meaning area group next node thread to slot number it on
     let plain = plain_of group.records in
     let new = new_of settings table meaning area group node thread to slot in
     let more = plain.requests node to ++ new ∷ [] in
-    let test = λ (list : List Labelled) (run : Replied). asks_phase phase (numbered list run.number) in
+    let test = λ (list : List PlainRequest) (run : RunReply). asks_phase phase (element_at list run.number) in
     ap (λ (then_plain : Plain EndpointLocal). ran_phase then_plain one other phase) it.step.3
     ∙ elim (cases_two one other node to) [
-      | inr apart ↦ ap (λ (list : List Labelled). list_any (test list) (plain.runs one other))
+      | inr apart ↦ ap (λ (list : List PlainRequest). list_any (test list) (plain.runs one other))
           (pair_apart plain.requests node to more one other apart)
       | inl both ↦ subst
           (λ (f : ℕ). list_any (test (put_pair plain.requests node to more f other)) (plain.runs f other)
           ≡ list_any (test (plain.requests f other)) (plain.runs f other)) (sym both.0)
           (subst (λ (t : ℕ). list_any (test (put_pair plain.requests node to more node t)) (plain.runs node t)
           ≡ list_any (test (plain.requests node t)) (plain.runs node t)) (sym both.1)
-          (ap (λ (list : List Labelled). list_any (test list) (plain.runs node to))
+          (ap (λ (list : List PlainRequest). list_any (test list) (plain.runs node to))
           (pair_here plain.requests node to more)
           ∙ any_kept (plain.requests node to) new (plain.runs node to) phase
           (λ place run at. run_named settings table meaning group.records it.holds.records node to place run at)))
@@ -384,8 +384,8 @@ sent_leaves settings table meaning area group next node thread to slot number it
 message_then : (settings : Parameters) (table : List (Option Entry)) (meaning : Meaning) (area : Area)
     (group : Group) (next : Records) (node thread to slot number : ℕ)
     → SendsSo settings table meaning area group next node thread to slot number
-    → (one other at : ℕ) (request : Labelled) → one < settings.nodes → other < settings.nodes
-    → numbered ((plain_of next).requests one other) at ≡ Some request → request.content.handler ≡ collective_handler
+    → (one other at : ℕ) (request : PlainRequest) → one < settings.nodes → other < settings.nodes
+    → element_at ((plain_of next).requests one other) at ≡ Some request → request.content.handler ≡ collective_handler
     → IsMessageOf (job_of settings table meaning) area (group_sent group next node to) one other request.content
 message_then settings table meaning area group next node thread to slot number it one other at request has has_other
     there handler =
@@ -393,22 +393,22 @@ message_then settings table meaning area group next node thread to slot number i
     let plain = plain_of group.records in
     let new = new_of settings table meaning area group node thread to slot in
     let more = plain.requests node to ++ new ∷ [] in
-    let was = subst (λ (all : ℕ → ℕ → List Labelled). numbered (all one other) at ≡ Some request)
+    let was = subst (λ (all : ℕ → ℕ → List PlainRequest). element_at (all one other) at ≡ Some request)
     (ap (λ (p : Plain EndpointLocal). p.requests) it.step.3) there in
     elim (cases_two one other node to) [
       | inr apart ↦ old_message settings table meaning area group next node thread to slot number it one other at
           request has has_other
-          (subst (λ (list : List Labelled). numbered list at ≡ Some request)
+          (subst (λ (list : List PlainRequest). element_at list at ≡ Some request)
           (pair_apart plain.requests node to more one other apart) was) handler
       | inl both ↦ subst
           (λ (f : ℕ). IsMessageOf job area (group_sent group next node to) f other request.content) (sym both.0)
           (subst (λ (t : ℕ). IsMessageOf job area (group_sent group next node to) node t request.content)
           (sym both.1)
           (elim (numbered_push (plain.requests node to) new at request
-          (subst (λ (list : List Labelled). numbered list at ≡ Some request)
+          (subst (λ (list : List PlainRequest). element_at list at ≡ Some request)
           (pair_here plain.requests node to more)
-          (subst (λ (t : ℕ). numbered (put_pair plain.requests node to more node t) at ≡ Some request) both.1
-          (subst (λ (f : ℕ). numbered (put_pair plain.requests node to more f other) at ≡ Some request) both.0
+          (subst (λ (t : ℕ). element_at (put_pair plain.requests node to more node t) at ≡ Some request) both.1
+          (subst (λ (f : ℕ). element_at (put_pair plain.requests node to more f other) at ≡ Some request) both.0
           was)))) [
             | inl old ↦ old_message settings table meaning area group next node thread to slot number it node to at
                 request it.there it.to_there old handler
@@ -420,7 +420,7 @@ message_then settings table meaning area group next node thread to slot number i
                   given = message.given;
                   gave = message.gave;
                   sent = omega (arith, sent);
-                  content_is = ap (λ (asked_one : Labelled). asked_one.content) (sym last.1) ∙ message.content_is;
+                  content_is = ap (λ (asked_one : PlainRequest). asked_one.content) (sym last.1) ∙ message.content_is;
                 })
           ]))
     ]
@@ -428,8 +428,8 @@ message_then settings table meaning area group next node thread to slot number i
     old_message : (settings : Parameters) (table : List (Option Entry)) (meaning : Meaning) (area : Area)
         (group : Group) (next : Records) (node thread to slot number : ℕ)
         → SendsSo settings table meaning area group next node thread to slot number
-        → (one other at : ℕ) (request : Labelled) → one < settings.nodes → other < settings.nodes
-        → numbered ((plain_of group.records).requests one other) at ≡ Some request
+        → (one other at : ℕ) (request : PlainRequest) → one < settings.nodes → other < settings.nodes
+        → element_at ((plain_of group.records).requests one other) at ≡ Some request
         → request.content.handler ≡ collective_handler
         → IsMessageOf (job_of settings table meaning) area (group_sent group next node to) one other request.content
     old_message settings table meaning area group next node thread to slot number it one other at request has
@@ -448,7 +448,7 @@ message_then settings table meaning area group next node thread to slot number i
 none_earlier : (settings : Parameters) (table : List (Option Entry)) (meaning : Meaning) (area : Area)
     (group : Group) (next : Records) (node thread to slot number : ℕ)
     → SendsSo settings table meaning area group next node thread to slot number → (at phase : ℕ)
-    → asks_phase phase (numbered ((plain_of group.records).requests node to) at) ≡ true
+    → asks_phase phase (element_at ((plain_of group.records).requests node to) at) ≡ true
     → asks_phase phase (Some (new_of settings table meaning area group node thread to slot)) ≡ true → ⊥
 none_earlier settings table meaning area group next node thread to slot number it at phase old new =
     let ended = (group.progress node).ended in
@@ -460,16 +460,16 @@ none_earlier settings table meaning area group next node thread to slot number i
     let small = message.small in
     elim (cases_eq phase ended) [
       | inr apart ↦ absurd (true≢false (sym new
-          ∙ (ap (λ (content : Content). asks_phase phase (Some (record { content = content; label = slot })))
+          ∙ (ap (λ (content : Content). asks_phase phase (Some (record { content = content; slot = slot })))
           message.content_is
           ∙ message_apart ended phase (shape_word message.given.shape) (data_place area (ended % 2) node)
           (data_for message.given node to) slot small apart)))
       | inl same ↦ absurd (true≢false (sym old
           ∙ (ap (asks_phase phase) found.1
-          ∙ (ap (λ (content : Content). asks_phase phase (Some (record { content = content; label = found.0.label })))
+          ∙ (ap (λ (content : Content). asks_phase phase (Some (record { content = content; slot = found.0.slot })))
           earlier.content_is
           ∙ message_apart earlier.phase phase (shape_word earlier.given.shape)
-          (data_place area (earlier.phase % 2) node) (data_for earlier.given node to) found.0.label
+          (data_place area (earlier.phase % 2) node) (data_for earlier.given node to) found.0.slot
           (omega (arith, low, small)) (λ is. omega (arith, is, same, low))))))
     ]
 
@@ -477,29 +477,29 @@ once_then : (settings : Parameters) (table : List (Option Entry)) (meaning : Mea
     (group : Group) (next : Records) (node thread to slot number : ℕ)
     → SendsSo settings table meaning area group next node thread to slot number
     → (one other at again phase : ℕ)
-    → asks_phase phase (numbered ((plain_of next).requests one other) at) ≡ true
-    → asks_phase phase (numbered ((plain_of next).requests one other) again) ≡ true → at ≡ again
+    → asks_phase phase (element_at ((plain_of next).requests one other) at) ≡ true
+    → asks_phase phase (element_at ((plain_of next).requests one other) again) ≡ true → at ≡ again
 once_then settings table meaning area group next node thread to slot number it one other at again phase first second =
     let plain = plain_of group.records in
     let new = new_of settings table meaning area group node thread to slot in
     let more = plain.requests node to ++ new ∷ [] in
     let requests = ap (λ (p : Plain EndpointLocal). p.requests) it.step.3 in
-    let was = λ (i : ℕ) (asks : asks_phase phase (numbered ((plain_of next).requests one other) i) ≡ true).
-    subst (λ (all : ℕ → ℕ → List Labelled). asks_phase phase (numbered (all one other) i) ≡ true) requests asks in
+    let was = λ (i : ℕ) (asks : asks_phase phase (element_at ((plain_of next).requests one other) i) ≡ true).
+    subst (λ (all : ℕ → ℕ → List PlainRequest). asks_phase phase (element_at (all one other) i) ≡ true) requests asks in
     elim (cases_two one other node to) [
       | inr apart ↦ it.holds.once one other at again phase
-          (subst (λ (list : List Labelled). asks_phase phase (numbered list at) ≡ true)
+          (subst (λ (list : List PlainRequest). asks_phase phase (element_at list at) ≡ true)
           (pair_apart plain.requests node to more one other apart) (was at first))
-          (subst (λ (list : List Labelled). asks_phase phase (numbered list again) ≡ true)
+          (subst (λ (list : List PlainRequest). asks_phase phase (element_at list again) ≡ true)
           (pair_apart plain.requests node to more one other apart) (was again second))
       | inl both ↦ (
           let list_is : put_pair plain.requests node to more one other ≡ more =
           ap (λ (f : ℕ). put_pair plain.requests node to more f other) both.0
           ∙ (ap (λ (t : ℕ). put_pair plain.requests node to more node t) both.1
           ∙ pair_here plain.requests node to more) in
-          let here = λ (i : ℕ) (asks : asks_phase phase (numbered ((plain_of next).requests one other) i) ≡ true).
+          let here = λ (i : ℕ) (asks : asks_phase phase (element_at ((plain_of next).requests one other) i) ≡ true).
           asked_push phase (plain.requests node to) new i
-          (subst (λ (list : List Labelled). asks_phase phase (numbered list i) ≡ true) list_is (was i asks)) in
+          (subst (λ (list : List PlainRequest). asks_phase phase (element_at list i) ≡ true) list_is (was i asks)) in
           elim (here at first) [
             | inl one_old ↦ elim (here again second) [
               | inl other_old ↦ it.holds.once node to at again phase one_old other_old

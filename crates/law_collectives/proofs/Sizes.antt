@@ -13,7 +13,7 @@ use Rattle.part_collective_area.specs.Area.{Area, IsArea, SpareArea}
 use Rattle.part_collective_area.specs.Results.{result_len}
 use Rattle.node_collectives.specs.Progress.{is_bad_dest, is_open, writes_from}
 use Rattle.node_collectives.proofs.Sizes.{data_long, data_many, flat, good_spare, is_good, result_long}
-use Rattle.law_collectives.specs.Groups.{Group, gathered, result_pieces}
+use Rattle.law_collectives.specs.Groups.{Group, data_in_parts, result_pieces}
 use Rattle.law_collectives.specs.Invariant.{GroupHolds}
 use Rattle.law_collectives.proofs.Ending.{got}
 use Rattle.law_collectives.proofs.Events.{Setting}
@@ -51,7 +51,7 @@ result_sized job area group node good holds there opened =
     let segment = segment_at job group.records node in
     let shape = progress.shape in
     let it = limits job area group node holds there opened in
-    result_long shape.kind shape.root shape.len (gathered job area group node) area.nodes node
+    result_long shape.kind shape.root shape.len (data_in_parts job area group node) area.nodes node
     (data_many area progress segment 0 area.nodes)
     (data_long job.settings.segment area progress segment 0 area.nodes good (segment_long job area group node holds)
     it.few (omega arith)) it.root it.words

@@ -14,13 +14,13 @@ use Rattle.part_segment.proofs.Lists.{part_long}
 use Rattle.part_handlers.specs.declared.table.Entry.{Entry}
 use Rattle.part_handlers.specs.Runs.{Meaning}
 use Rattle.base_lists.specs.Put.{put}
-use Rattle.base_lists.specs.Numbered.{numbered}
+use Rattle.base_lists.specs.Numbered.{element_at}
 use Rattle.base_lists.proofs.Cases.{none_some}
 use Rattle.base_lists.proofs.Put.{put_same, put_other}
 use Rattle.base_lists.proofs.Places.{slice_get_push, slice_get_kept}
 use Rattle.spec_node.specs.declared.answer.Asked.TheVariants as asked
 use Rattle.spec_node.specs.NodeStep.{site_of}
-use Rattle.spec_network.specs.Plain.{Labelled, Plain, plain_of}
+use Rattle.spec_network.specs.Plain.{PlainRequest, Plain, plain_of}
 use Rattle.spec_network.specs.PlainStep.{AskStep}
 use Rattle.spec_network.specs.Invariant.{Holds}
 use Rattle.node_rules.specs.EndpointLocal.{EndpointLocal, IsEndpointKept}
@@ -608,7 +608,7 @@ started_kept settings table meaning area group next node thread shape from it =
           (start_leaves settings table meaning area group next node thread shape from it known);
       progress = progress_then settings table meaning area group next node thread shape from it known;
       messages = λ one other at request has_one has_other there handler.
-          let was = subst (λ (all : ℕ → ℕ → List Labelled). numbered (all one other) at ≡ Some request) requests there
+          let was = subst (λ (all : ℕ → ℕ → List PlainRequest). element_at (all one other) at ≡ Some request) requests there
           in
           let old = holds.messages one other at request has_one has_other was handler in
           let apart = apart_nodes settings table meaning area group one other at request holds was in
@@ -622,8 +622,8 @@ started_kept settings table meaning area group next node thread shape from it =
             content_is = old.content_is;
           };
       once = λ one other at again of first second. holds.once one other at again of
-          (subst (λ (all : ℕ → ℕ → List Labelled). asks_phase of (numbered (all one other) at) ≡ true) requests first)
-          (subst (λ (all : ℕ → ℕ → List Labelled). asks_phase of (numbered (all one other) again) ≡ true) requests
+          (subst (λ (all : ℕ → ℕ → List PlainRequest). asks_phase of (element_at (all one other) at) ≡ true) requests first)
+          (subst (λ (all : ℕ → ℕ → List PlainRequest). asks_phase of (element_at (all one other) again) ≡ true) requests
           second);
       parts = part_then settings table meaning area group next node thread shape from it known;
     }

@@ -8,13 +8,13 @@ use Rattle.wire_message.specs.Content.{Content, ack}
 use Rattle.part_segment.specs.Image.{AllFit}
 use Rattle.part_handlers.specs.declared.table.Entry.{Entry}
 use Rattle.part_handlers.specs.declared.rules.Role.TheVariants as role
-use Rattle.part_handlers.specs.Runs.{Frame, Meaning, Outcome, Start, closed}
+use Rattle.part_handlers.specs.Runs.{Frame, Meaning, Outcome, Start, after_return}
 use Rattle.base_lists.specs.Put.{put}
 use Rattle.base_lists.proofs.Put.{put_same, put_other}
 use Rattle.spec_node.specs.declared.answer.Asked.{Asked}
 use Rattle.spec_node.specs.declared.answer.Asked.TheVariants as asked
 use Rattle.spec_node.specs.Behaviour.{Ask, Contact}
-use Rattle.spec_node.specs.Step.{said, with_itself}
+use Rattle.spec_node.specs.Step.{request_content, with_itself}
 use Rattle.spec_node.specs.NodeStep.{site_of}
 use Rattle.spec_network.specs.Plain.{Plain, plain_of, with_plain}
 use Rattle.spec_network.specs.PlainStep.{AskStep}
@@ -119,11 +119,11 @@ collective_acks settings table meaning contact content local serves handler =
     let frame = frame_of_run handlers role.Request contact content in
     let start = start_from settings (with_writes local (landing content)) in
     ap (λ (run : Outcome). reply_or_ack run.reply)
-    (client content.handler frame start handler ∙ ap (closed frame) (serves frame start))
+    (client content.handler frame start handler ∙ ap (after_return frame) (serves frame start))
   where
     client : (index : ℕ) (frame : Frame) (at : Start) → index ≡ collective_handler
-        → (if is_library index then library_outcome content at else closed frame (meaning index frame at))
-        ≡ closed frame (meaning collective_handler frame at)
+        → (if is_library index then library_outcome content at else after_return frame (meaning index frame at))
+        ≡ after_return frame (meaning collective_handler frame at)
     client index frame at is = rw is refl
 
 -- what the node wrote then: what the message says
@@ -131,13 +131,13 @@ pub own_left : (settings : Parameters) (table : List (Option Entry)) (meaning : 
     (node : ℕ) (ask : Ask) → ServesCollectives meaning
     → Holds (job_of settings table meaning) (IsEndpointKept settings) now
     → AskStep (site_of (job_of settings table meaning) node) (plain_of now) ask asked.Ran (plain_of next)
-    → (said (site_of (job_of settings table meaning) node) (now node) ask).handler ≡ collective_handler
-    → AllFit settings.segment (landing (said (site_of (job_of settings table meaning) node) (now node) ask))
+    → (request_content (site_of (job_of settings table meaning) node) (now node) ask).handler ≡ collective_handler
+    → AllFit settings.segment (landing (request_content (site_of (job_of settings table meaning) node) (now node) ask))
     → writes_at next node ≡ writes_at now node
-    ++ content_writes settings.segment (said (site_of (job_of settings table meaning) node) (now node) ask)
+    ++ content_writes settings.segment (request_content (site_of (job_of settings table meaning) node) (now node) ask)
 own_left settings table meaning now next node ask serves holds step handler fit =
     let handlers = handlers_of settings table meaning in
-    let content = said (site_of (job_of settings table meaning) node) (now node) ask in
+    let content = request_content (site_of (job_of settings table meaning) node) (now node) ask in
     let core = (now node).local.core in
     let out = run_request handlers (with_itself node) content core in
     let written : writes_at next node ≡ (run_reply handlers (with_itself node) out.1 out.0).writes

@@ -24,7 +24,7 @@ use Rattle.spec_network.specs.World.{Asks, OfNode, WorldAnswer, world_after, wor
 use Rattle.spec_network.proofs.PlainSteps.{step_plain}
 use Rattle.spec_network.proofs.Worlds.{step_keeps}
 use Rattle.node_rules.specs.EndpointLocal.{IsEndpointKept}
-use Rattle.node_rules.specs.EndpointRules.{Records, job_of, timed}
+use Rattle.node_rules.specs.EndpointRules.{Records, job_of, timed_event}
 use Rattle.node_rules.specs.declared.answer.Answer.{Answer}
 use Rattle.law_transfers.specs.Chunks.{EndpointJob}
 use Rattle.part_collective_area.specs.declared.shape.Shape.{Shape}
@@ -44,7 +44,7 @@ use Rattle.node_collectives.specs.declared.answers.StartAnswer.{StartAnswer}
 abbrev starts : EndpointJob → Area → Group → (now node thread : ℕ) → Shape → (from : ℕ) → WorldAnswer Answer
     → StartAnswer × Group
 starts job area group now node thread shape from told =
-    let event = timed now (Asks node (start_ask area node thread (group.progress node) shape from)) in
+    let event = timed_event now (Asks node (start_ask area node thread (group.progress node) shape from)) in
     let answer = start_answer (asked_in told) in
     (answer, started_group job group node shape from answer (world_after job group.records event))
 
@@ -55,7 +55,7 @@ starts_by job area group now node thread shape from refusal =
     elim refusal [
       | Some told ↦ (told, group)
       | None ↦ (
-          let event = timed now (Asks node (start_ask area node thread (group.progress node) shape from)) in
+          let event = timed_event now (Asks node (start_ask area node thread (group.progress node) shape from)) in
           let answer = start_answer (asked_in (world_answer job group.records event)) in
           (answer, started_group job group node shape from answer (world_after job group.records event)))
     ]
@@ -102,7 +102,7 @@ record StartCall (settings : Parameters) (table : List (Option Entry)) (meaning 
 
 abbrev start_then : EndpointJob → Area → Group → (now node thread : ℕ) → Shape → (from : ℕ) → Records
 start_then job area group now node thread shape from =
-    world_after job group.records (timed now (Asks node (start_ask area node thread (group.progress node) shape from)))
+    world_after job group.records (timed_event now (Asks node (start_ask area node thread (group.progress node) shape from)))
 
 start_still : (settings : Parameters) (table : List (Option Entry)) (meaning : Meaning) (area : Area) (group : Group)
     (now node thread : ℕ) (shape : Shape) (from : ℕ)
@@ -118,7 +118,7 @@ start_still settings table meaning area group now node thread shape from it said
     let ask = start_ask area node thread (group.progress node) shape from in
     ask_still settings table meaning area group (start_then job area group now node thread shape from) node ask said
     it.setting it.holds
-    (step_keeps job (IsEndpointKept settings) group.records (timed now (Asks node ask)) it.setting.sound
+    (step_keeps job (IsEndpointKept settings) group.records (timed_event now (Asks node ask)) it.setting.sound
     it.holds.records it.there) step ran accepted_no
 
 start_by : (settings : Parameters) (table : List (Option Entry)) (meaning : Meaning) (area : Area) (group : Group)
@@ -131,7 +131,7 @@ start_by : (settings : Parameters) (table : List (Option Entry)) (meaning : Mean
     (starts (job_of settings table meaning) area group now node thread shape from (OfNode (OfRequest said))).1
 start_by settings table meaning area group now node thread shape from it asked.Ran step =
     let job = job_of settings table meaning in
-    let event = timed now (Asks node (start_ask area node thread (group.progress node) shape from)) in
+    let event = timed_event now (Asks node (start_ask area node thread (group.progress node) shape from)) in
     started_kept settings table meaning area group (start_then job area group now node thread shape from) node thread
     shape from (record {
       setting = it.setting;
@@ -177,7 +177,7 @@ start_kept settings table meaning area group now node thread shape from setting 
     by_refusal None is =
         let job = job_of settings table meaning in
         let ask = start_ask area node thread (group.progress node) shape from in
-        let event = timed now (Asks node ask) in
+        let event = timed_event now (Asks node ask) in
         let step = asks_step job (plain_of group.records) (plain_of (world_after job group.records event)) node ask
         (world_answer job group.records event)
         (step_plain job (IsEndpointKept settings) group.records event setting.sound holds.records) in

@@ -18,7 +18,7 @@ use Rattle.spec_network.specs.World.{Asks, OfNode, Unsent, WorldAnswer, world_af
 use Rattle.spec_network.proofs.PlainSteps.{step_plain}
 use Rattle.spec_network.proofs.Worlds.{step_keeps}
 use Rattle.node_rules.specs.EndpointLocal.{IsEndpointKept}
-use Rattle.node_rules.specs.EndpointRules.{Records, job_of, timed}
+use Rattle.node_rules.specs.EndpointRules.{Records, job_of, timed_event}
 use Rattle.node_rules.specs.declared.answer.Answer.{Answer}
 use Rattle.law_transfers.specs.Chunks.{EndpointJob}
 use Rattle.part_collective_area.specs.Area.{Area}
@@ -151,7 +151,7 @@ record Calls (settings : Parameters) (table : List (Option Entry)) (meaning : Me
 
 abbrev records_then : EndpointJob → Area → Group → (now node thread to : ℕ) → Records
 records_then job area group now node thread to =
-    world_after job group.records (timed now (Asks node (step_ask area node thread to (group.progress node))))
+    world_after job group.records (timed_event now (Asks node (step_ask area node thread to (group.progress node))))
 
 -- what a step does where its call was answered so
 abbrev goes : EndpointJob → Area → Group → (now node thread to many : ℕ) → WorldAnswer Answer → StepAnswer × Group
@@ -167,7 +167,7 @@ goes job area group now node thread to many answer =
 goes_so : (job : EndpointJob) (area : Area) (group : Group) (now node thread to many : ℕ) (said : Asked)
     → is_left node to (group.progress node) ≡ true
     → world_answer job group.records
-    (timed now (Asks node (step_ask area node thread to (group.progress node)))) ≡ OfNode (OfRequest said)
+    (timed_event now (Asks node (step_ask area node thread to (group.progress node)))) ≡ OfNode (OfRequest said)
     → GroupHolds job area (goes job area group now node thread to many (OfNode (OfRequest said))).1
     → GroupHolds job area (step_from job area group now node thread to (suc many)).1
 goes_so job area group now node thread to many said left is holds =
@@ -191,7 +191,7 @@ called settings table meaning area group now node thread to many it said ran acc
     let next = records_then job area group now node thread to in
     progress_kept job area (with_records group next) node progress
     (ask_still settings table meaning area group next node ask said it.setting it.holds
-    (step_keeps job (IsEndpointKept settings) group.records (timed now (Asks node ask)) it.setting.sound
+    (step_keeps job (IsEndpointKept settings) group.records (timed_event now (Asks node ask)) it.setting.sound
     it.holds.records it.there) step ran accepted) same
 
 exhausted_same : (progress : Progress) (to : ℕ) (exhausted : Bool) → SameButExhausted progress (with_exhausted progress to exhausted)
@@ -207,7 +207,7 @@ call_kept : (settings : Parameters) (table : List (Option Entry)) (meaning : Mea
     (now node thread to many : ℕ) → Calls settings table meaning area group now node thread to many
     → (said : Asked)
     → world_answer (job_of settings table meaning) group.records
-    (timed now (Asks node (step_ask area node thread to (group.progress node)))) ≡ OfNode (OfRequest said)
+    (timed_event now (Asks node (step_ask area node thread to (group.progress node)))) ≡ OfNode (OfRequest said)
     → AskStep (site_of (job_of settings table meaning) node) (plain_of group.records)
     (step_ask area node thread to (group.progress node)) said
     (plain_of (records_then (job_of settings table meaning) area group now node thread to))
@@ -222,7 +222,7 @@ call_kept settings table meaning area group now node thread to many it (asked.Ac
     number (record {
       setting = it.setting;
       holds = it.holds;
-      after = step_keeps job (IsEndpointKept settings) group.records (timed now (Asks node ask)) it.setting.sound
+      after = step_keeps job (IsEndpointKept settings) group.records (timed_event now (Asks node ask)) it.setting.sound
           it.holds.records it.there;
       there = it.there;
       to_there = it.to_there;
@@ -271,7 +271,7 @@ from_kept settings table meaning area group now node thread to zero setting hold
 from_kept settings table meaning area group now node thread to (suc many) setting holds there open_now low =
     let job = job_of settings table meaning in
     let ask = step_ask area node thread to (group.progress node) in
-    let event = timed now (Asks node ask) in
+    let event = timed_event now (Asks node ask) in
     elim (cases_Bool (is_left node to (group.progress node))) [
       | inr none ↦ rw none (from_kept settings table meaning area group now node thread (suc to) many setting holds
           there open_now (omega (arith, low)))

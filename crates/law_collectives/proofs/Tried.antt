@@ -12,7 +12,7 @@ use Rattle.spec_network.specs.World.{Does, OfNode, WorldAnswer, world_after, wor
 use Rattle.node_core.specs.Kept.{segment_of}
 use Rattle.node_rules.specs.CoreCalls.{OnSegment, Poll}
 use Rattle.node_rules.specs.Memory.{Set, range_fault, segment_does, unless_fault}
-use Rattle.node_rules.specs.EndpointRules.{OnCore, Records, job_of, timed}
+use Rattle.node_rules.specs.EndpointRules.{OnCore, Records, job_of, timed_event}
 use Rattle.node_rules.specs.declared.answer.Answer.{Answer}
 use Rattle.node_rules.specs.declared.answer.Answer.TheVariants as answers
 use Rattle.node_rules.specs.declared.answer.Local.{Local as LocalAnswer}
@@ -87,7 +87,7 @@ ended_kept : (settings : Parameters) (table : List (Option Entry)) (meaning : Me
     (segment_at (job_of settings table meaning) group.records node) ≡ true)
     → GroupHolds (job_of settings table meaning) area
     (ended_group (job_of settings table meaning) area group now node thread dest
-    (world_after (job_of settings table meaning) group.records (timed now (Does node thread (OnCore Poll)))) answer)
+    (world_after (job_of settings table meaning) group.records (timed_event now (Does node thread (OnCore Poll)))) answer)
 ended_kept settings table meaning area group now node thread dest answer setting holds there open_now spare ok apart =
     by_answer answer ok apart
   where
@@ -95,7 +95,7 @@ ended_kept settings table meaning area group now node thread dest answer setting
     job_here = job_of settings table meaning
 
     polled : Records
-    polled = world_after job_here group.records (timed now (Does node thread (OnCore Poll)))
+    polled = world_after job_here group.records (timed_event now (Does node thread (OnCore Poll)))
 
     -- the phase is ended, and then it polls
     after_poll : is_ready area node (group.progress node) (segment_at job_here group.records node) ≡ true
@@ -141,7 +141,7 @@ tries_by job area group now node thread dest refusal =
     elim refusal [
       | Some told ↦ (told, group)
       | None ↦ (
-          let poll = timed now (Does node thread (OnCore Poll)) in
+          let poll = timed_event now (Does node thread (OnCore Poll)) in
           let answer = end_by job area group now node thread dest (world_answer job group.records poll) in
           let polled = world_after job group.records poll in
           (answer, ended_group job area group now node thread dest polled answer))
@@ -198,7 +198,7 @@ end_kept settings table meaning area group now node thread dest setting holds th
         let job = job_of settings table meaning in
         let segment = segment_at job group.records node in
         let progress = group.progress node in
-        let told = world_answer job group.records (timed now (Does node thread (OnCore Poll))) in
+        let told = world_answer job group.records (timed_event now (Does node thread (OnCore Poll))) in
         let ready = is_ready area node progress segment in
         let exhausted = exhausted_node area node progress in
         let first : EndAnswer = elim (other_shape area progress segment) [ Some other ↦ end_answers.Mismatch other | None ↦ end_answers.Ended ] in

@@ -43,8 +43,8 @@ abbrev pub group_at : {job : EndpointJob} {area : Area} → Try job area → Gro
 group_at {job} {area} try = group_after job area (opening_group job.settings) try.events
 
 -- what it is answered, and the group then
-abbrev pub tried : {job : EndpointJob} {area : Area} → Try job area → GroupAnswer × Group
-tried {job} {area} try = group_does job area (group_at try) (End try.now try.node try.thread try.dest)
+abbrev pub answer_to_try : {job : EndpointJob} {area : Area} → Try job area → GroupAnswer × Group
+answer_to_try {job} {area} try = group_does job area (group_at try) (End try.now try.node try.thread try.dest)
 
 -- the phase that it tries to end
 abbrev pub phase_of : {job : EndpointJob} {area : Area} → Try job area → ℕ
@@ -65,7 +65,7 @@ pub record EndsOk {job : EndpointJob} {area : Area} (try : Try job area) : Type 
       → Gave (group_at try) node (phase_of try) given → given.shape ≡ own.shape
   pub result :
       let result = result_of own.shape (bytes_given (group_at try) (phase_of try) 0 job.settings.nodes) try.node in
-      part (segment_at job (tried try).1.records try.node) try.dest (length result) ≡ result
+      part (segment_at job (answer_to_try try).1.records try.node) try.dest (length result) ≡ result
 
 -- where it is answered that the node `other` has another shape: it has, and no smaller node has
 pub record EndsApart {job : EndpointJob} {area : Area} (try : Try job area) (other : ℕ) : Type 0 where
@@ -80,8 +80,8 @@ pub record EndsApart {job : EndpointJob} {area : Area} (try : Try job area) (oth
 -- ---- the law
 
 pub record CollectivesHold (job : EndpointJob) (area : Area) : Type 0 where
-  pub ok : (try : Try job area) → (tried try).0 ≡ OfEnd end_answers.Ended → EndsOk try
-  pub apart : (try : Try job area) (other : ℕ) → (tried try).0 ≡ OfEnd (end_answers.Mismatch other)
+  pub ok : (try : Try job area) → (answer_to_try try).0 ≡ OfEnd end_answers.Ended → EndsOk try
+  pub apart : (try : Try job area) (other : ℕ) → (answer_to_try try).0 ≡ OfEnd (end_answers.Mismatch other)
       → EndsApart try other
 
 -- so it is of each job with settings in range and lawful handlers that has collectives: the handler is registered, and

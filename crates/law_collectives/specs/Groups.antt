@@ -13,15 +13,15 @@ use Rattle.spec_node.specs.declared.answer.Asked.{Asked}
 use Rattle.spec_node.specs.declared.answer.Asked.TheVariants as asked
 use Rattle.spec_node.specs.declared.answer.Delivered.TheVariants as delivered
 use Rattle.spec_node.specs.NodeStep.{OfRequest, OfCall, OfDelivery}
-use Rattle.base_lists.specs.Numbered.{numbered}
-use Rattle.spec_network.specs.Plain.{Labelled, Plain, plain_of}
-use Rattle.spec_network.specs.World.{Timed, Event, Asks, Does, RequestComes, WorldAnswer, OfNode, IsAmong}
+use Rattle.base_lists.specs.Numbered.{element_at}
+use Rattle.spec_network.specs.Plain.{PlainRequest, Plain, plain_of}
+use Rattle.spec_network.specs.World.{EventAt, Event, Asks, Does, RequestComes, WorldAnswer, OfNode, IsAmong}
 use Rattle.spec_network.specs.World.{world_answer, world_after}
 use Rattle.node_core.specs.HandlerRuns.{landing, place_of}
 use Rattle.node_rules.specs.CoreCalls.{Poll, OnSegment}
 use Rattle.node_rules.specs.Memory.{Set}
 use Rattle.node_rules.specs.EndpointLocal.{EndpointLocal}
-use Rattle.node_rules.specs.EndpointRules.{OtherCall, OnCore, Records, at_the_opening, timed}
+use Rattle.node_rules.specs.EndpointRules.{OtherCall, OnCore, Records, at_the_opening, timed_event}
 use Rattle.node_rules.specs.declared.answer.Answer.{Answer}
 use Rattle.node_rules.specs.declared.answer.Answer.TheVariants as answers
 use Rattle.law_transfers.specs.Chunks.{EndpointJob, segment_at, writes_at}
@@ -56,7 +56,7 @@ opening_group settings =
 -- an event of the records that no collective makes; or a call of a thread of a node at this time: a start, a step that
 -- tries so many nodes at most (all of them, or those before the one at which memory ran out), a try to end
 pub data GroupEvent : Type 0 where
-  Other : Timed OtherCall → GroupEvent
+  Other : EventAt OtherCall → GroupEvent
   Start : (now node thread : ℕ) → Shape → (from : ℕ) → GroupEvent
   Step : (now node thread among : ℕ) → GroupEvent
   End : (now node thread dest : ℕ) → GroupEvent
@@ -96,7 +96,7 @@ does_start job area group now node thread shape from =
     elim (start_refusal area job.settings.segment (group.progress node) shape from) [
       | Some refusal ↦ (refusal, group)
       | None ↦ (
-          let event = timed now (Asks node (start_ask area node thread (group.progress node) shape from)) in
+          let event = timed_event now (Asks node (start_ask area node thread (group.progress node) shape from)) in
           let answer = start_answer (asked_in (world_answer job group.records event)) in
           (answer, started_group job group node shape from answer (world_after job group.records event)))
     ]
@@ -120,7 +120,7 @@ step_from job area group now node thread to zero = (step_answers.Nothing, group)
 step_from job area group now node thread to (suc many) =
     if is_left node to (group.progress node)
     then (
-    let event = timed now (Asks node (step_ask area node thread to (group.progress node))) in
+    let event = timed_event now (Asks node (step_ask area node thread to (group.progress node))) in
     let records = world_after job group.records event in
     elim (step_goes (group.progress node) to (asked_in (world_answer job group.records event))) [
       | Stops answer progress ↦ (answer, with_progress (record group { records = records }) node progress)
@@ -138,22 +138,22 @@ does_step job area group now node thread among =
 -- ---- a try to end
 
 -- the calls that write these, one after another
-abbrev pub write_event : (now node thread : ℕ) → Write → Timed OtherCall
-write_event now node thread write = timed now (Does node thread (OnCore (OnSegment (Set write))))
+abbrev pub write_event : (now node thread : ℕ) → Write → EventAt OtherCall
+write_event now node thread write = timed_event now (Does node thread (OnCore (OnSegment (Set write))))
 
 abbrev pub after_writes : EndpointJob → (now node thread : ℕ) → Records → List Write → Records
 after_writes job now node thread records writes =
     fold (λ now_records write. world_after job now_records (write_event now node thread write)) records writes
 
 -- the data of all nodes as it stands in the parts of the phase
-abbrev pub gathered : EndpointJob → Area → Group → (node : ℕ) → List (List ℕ)
-gathered job area group node =
+abbrev pub data_in_parts : EndpointJob → Area → Group → (node : ℕ) → List (List ℕ)
+data_in_parts job area group node =
     data_of_all area (group.progress node) (segment_at job group.records node) 0 area.nodes
 
 -- the pieces in which the result is written
 abbrev pub result_pieces : EndpointJob → Area → Group → (node : ℕ) → List (List ℕ)
 result_pieces job area group node =
-    pieces_of (group.progress node).shape (gathered job area group node) node
+    pieces_of (group.progress node).shape (data_in_parts job area group node) node
 
 -- after a try that was answered so, where its poll left these records
 abbrev pub ended_group : EndpointJob → Area → Group → (now node thread dest : ℕ) → Records → EndAnswer → Group
@@ -177,7 +177,7 @@ does_end job area group now node thread dest =
     elim (end_refusal area job.settings.segment node (group.progress node) dest) [
       | Some refusal ↦ (refusal, group)
       | None ↦ (
-          let poll = timed now (Does node thread (OnCore Poll)) in
+          let poll = timed_event now (Does node thread (OnCore Poll)) in
           let answer = end_by job area group now node thread dest (world_answer job group.records poll) in
           let polled = world_after job group.records poll in
           (answer, ended_group job area group now node thread dest polled answer))
@@ -208,7 +208,7 @@ content_writes segment content =
     then landing content ++ header_for segment content.args (place_of content)
     else []
 
-abbrev pub request_writes : (segment : ℕ) → Option Labelled → List Write
+abbrev pub request_writes : (segment : ℕ) → Option PlainRequest → List Write
 request_writes segment None = []
 request_writes segment (Some request) = content_writes segment request.content
 
@@ -216,11 +216,11 @@ request_writes segment (Some request) = content_writes segment request.content
 abbrev pub collective_writes : (segment : ℕ) → Plain EndpointLocal → (node : ℕ) → Event OtherCall → WorldAnswer Answer
     → List Write
 collective_writes segment plain node (RequestComes from to number) (OfNode (OfDelivery (delivered.Ran at))) =
-    if to == node then request_writes segment (numbered (plain.requests from to) number) else []
+    if to == node then request_writes segment (element_at (plain.requests from to) number) else []
 collective_writes segment plain node event answer = []
 
 -- what an event writes at the node, beside what a message of collectives writes that runs there, spares the area
-pub record OnlyCollectives (job : EndpointJob) (area : Area) (records : Records) (event : Timed OtherCall) (node : ℕ)
+pub record OnlyCollectives (job : EndpointJob) (area : Area) (records : Records) (event : EventAt OtherCall) (node : ℕ)
     : Type 0 where
   pub beside : List Write
   pub writes : writes_at (world_after job records event) node

@@ -5,8 +5,8 @@ use Rattle.std.specs.Prelude.{false}
 use Rattle.std.specs.Prelude.{List, [], length, Option, None, Some}
 use Rattle.std.specs.List.{list_any}
 use Rattle.wire_message.specs.Content.{Content}
-use Rattle.base_lists.specs.Numbered.{numbered}
-use Rattle.spec_network.specs.Plain.{Plain, Labelled, IsRequest, plain_of}
+use Rattle.base_lists.specs.Numbered.{element_at}
+use Rattle.spec_network.specs.Plain.{Plain, PlainRequest, IsRequest, plain_of}
 use Rattle.spec_network.specs.Invariant.{Holds}
 use Rattle.node_rules.specs.EndpointLocal.{EndpointLocal, IsEndpointKept}
 use Rattle.law_transfers.specs.Chunks.{EndpointJob, segment_at}
@@ -22,7 +22,7 @@ use Rattle.law_collectives.specs.CollectiveLaws.{Gave}
 -- ---- a group, as nodes that run collectives by themselves
 
 -- a request is the message of this phase
-abbrev pub asks_phase : (phase : ℕ) → Option Labelled → Bool
+abbrev pub asks_phase : (phase : ℕ) → Option PlainRequest → Bool
 asks_phase phase None = false
 asks_phase phase (Some request) =
     (request.content.handler == collective_handler) && (number_at request.content.args 0 == phase + 1)
@@ -30,7 +30,7 @@ asks_phase phase (Some request) =
 -- the message of the phase from the one node ran at the other
 abbrev pub ran_phase : Plain EndpointLocal → (from to phase : ℕ) → Bool
 ran_phase plain from to phase =
-    list_any (λ run. asks_phase phase (numbered (plain.requests from to) run.number)) (plain.runs from to)
+    list_any (λ run. asks_phase phase (element_at (plain.requests from to) run.number)) (plain.runs from to)
 
 -- how many phases a node that is this far has sent to another one
 abbrev pub sent_count : Progress → (to : ℕ) → ℕ
@@ -96,12 +96,12 @@ pub record GroupHolds (job : EndpointJob) (area : Area) (group : Group) : Type 0
   pub phases : AllHold job.settings.nodes (phases_of job area group)
   pub progress : (node : ℕ) → node < job.settings.nodes → ProgressHolds area group node
   -- each request of collectives is the message of a phase, and of each phase there is at most one
-  pub messages : (from to number : ℕ) (request : Labelled) → from < job.settings.nodes → to < job.settings.nodes
+  pub messages : (from to number : ℕ) (request : PlainRequest) → from < job.settings.nodes → to < job.settings.nodes
       → IsRequest (plain_of group.records) from to number request → request.content.handler ≡ collective_handler
       → IsMessageOf job area group from to request.content
   pub once : (from to number other phase : ℕ)
-      → asks_phase phase (numbered ((plain_of group.records).requests from to) number) ≡ true
-      → asks_phase phase (numbered ((plain_of group.records).requests from to) other) ≡ true → number ≡ other
+      → asks_phase phase (element_at ((plain_of group.records).requests from to) number) ≡ true
+      → asks_phase phase (element_at ((plain_of group.records).requests from to) other) ≡ true → number ≡ other
   -- what stands in the parts
   pub parts : (node from phase : ℕ) (given : Contribution) → node < job.settings.nodes → from < job.settings.nodes
       → stamp_in (segment_at job group.records node) area (phase % 2) from ≡ phase + 1 → Gave group from phase given

@@ -99,17 +99,17 @@ Leaves nodes now (Ends node) next =
     SameStarted now next × RisesOne now.ended next.ended node × SameSent nodes now next × SameRan nodes now next
 
 -- an event, and the state after it
-pub record Happened : Type 0 where
+pub record EventAndNext : Type 0 where
   pub event : PhaseEvent
   pub next : Phases
 
 -- each of these events may happen where it comes, and leaves the state behind it
-abbrev pub IsRun : (nodes : ℕ) → Phases → List Happened → Type 0
+abbrev pub IsRun : (nodes : ℕ) → Phases → List EventAndNext → Type 0
 IsRun nodes now [] = Unit {0}
 IsRun nodes now (step ∷ later) =
     MayHappen nodes now step.event × Leaves nodes now step.event step.next × IsRun nodes step.next later
 
-abbrev pub last_of : Phases → List Happened → Phases
+abbrev pub last_of : Phases → List EventAndNext → Phases
 last_of now [] = now
 last_of now (step ∷ later) = last_of step.next later
 
@@ -159,5 +159,5 @@ pub record PhasesHold (nodes : ℕ) (now : Phases) : Type 0 where
 
 abbrev pub PhasesAreSafe : Type 0
 PhasesAreSafe =
-    (nodes : ℕ) (opening : Phases) (steps : List Happened) → IsNothing opening
+    (nodes : ℕ) (opening : Phases) (steps : List EventAndNext) → IsNothing opening
     → IsRun nodes opening steps → PhasesHold nodes (last_of opening steps)

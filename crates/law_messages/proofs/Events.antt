@@ -5,7 +5,7 @@ use Rattle.part_handlers.specs.declared.table.Entry.{Entry}
 use Rattle.std.specs.Prelude.{Option}
 use Rattle.part_handlers.specs.Runs.{Meaning}
 use Rattle.spec_node.specs.NodeStep.{Job}
-use Rattle.spec_network.specs.World.{World, Timed, world_after, run}
+use Rattle.spec_network.specs.World.{World, EventAt, world_after, run}
 use Rattle.spec_network.proofs.Headline.{end_holds}
 use Rattle.spec_network.proofs.Worlds.{step_keeps, opening_holds}
 use Rattle.node_rules.specs.EndpointLocal.{IsEndpointKept, nothing_begun}
@@ -20,7 +20,7 @@ use Rattle.law_messages.specs.Events.{after_all, AtEach, Always}
 
 -- what is found at a moment is found once for all
 pub sometime_pull : {Local Call Told X : Type 0} (job : Job Local Call Told) (P : X → Moment Local Call → Type 0)
-    (events : List (Timed Call)) (world : World Local)
+    (events : List (EventAt Call)) (world : World Local)
     → Sometime job (λ moment. (x : X) × P x moment) events world → (x : X) × Sometime job (P x) events world
 sometime_pull job P [] world it = absurd it
 sometime_pull job P (e ∷ events) world it = elim it [
@@ -37,7 +37,7 @@ opening_all settings table meaning =
 
 -- the records after events
 pub all_holds : (settings : Parameters) (table : List (Option Entry)) (meaning : Meaning)
-    (events : List (Timed OtherCall)) → AreSound settings table meaning
+    (events : List (EventAt OtherCall)) → AreSound settings table meaning
     → AreAmong (job_of settings table meaning) events
     → AllHolds settings table meaning (after_all (job_of settings table meaning) events)
 all_holds settings table meaning events sound among =
@@ -46,7 +46,7 @@ all_holds settings table meaning events sound among =
 
 -- a fact of each moment of which the invariant holds
 each_around : (settings : Parameters) (table : List (Option Entry)) (meaning : Meaning) (fact : EndpointMoment → Type 0)
-    (last : Records) (events : List (Timed OtherCall)) (world : Records) → AreSound settings table meaning
+    (last : Records) (events : List (EventAt OtherCall)) (world : Records) → AreSound settings table meaning
     → AreAmong (job_of settings table meaning) events → AllHolds settings table meaning world
     → run (job_of settings table meaning) events world ≡ last
     → ((moment : EndpointMoment) → Around (job_of settings table meaning) (IsEndpointKept settings) moment
@@ -62,7 +62,7 @@ each_around settings table meaning fact last (e ∷ events) world sound among ho
     )
 
 pub always_around : (settings : Parameters) (table : List (Option Entry)) (meaning : Meaning)
-    (fact : EndpointMoment → Type 0) (events : List (Timed OtherCall)) → AreSound settings table meaning
+    (fact : EndpointMoment → Type 0) (events : List (EventAt OtherCall)) → AreSound settings table meaning
     → AreAmong (job_of settings table meaning) events
     → ((moment : EndpointMoment) → Around (job_of settings table meaning) (IsEndpointKept settings) moment
     → end_of (job_of settings table meaning) moment ≡ after_all (job_of settings table meaning) events → fact moment)

@@ -5,7 +5,7 @@ use Rattle.std.specs.Option.{option_map}
 use Rattle.std.proofs.lemmas.Option.{same_Some}
 use Rattle.base_lists.proofs.Numbered.{numbered_at}
 use Rattle.wire_message.specs.Parameters.{Parameters}
-use Rattle.wire_message.specs.Content.{addressed}
+use Rattle.wire_message.specs.Content.{message_at_address}
 use Rattle.wire_message.specs.Message.{spelling}
 use Rattle.part_handlers.specs.declared.table.Entry.{Entry}
 use Rattle.part_handlers.specs.Runs.{Meaning}
@@ -16,7 +16,7 @@ use Rattle.spec_node.specs.SlotMessages.{message_at, has_slot}
 use Rattle.spec_node.specs.Step.{request_slot}
 use Rattle.spec_node.proofs.Keeping.{open_found}
 use Rattle.spec_network.specs.Sent.{Place, Asking}
-use Rattle.spec_network.specs.World.{Timed}
+use Rattle.spec_network.specs.World.{EventAt}
 use Rattle.spec_network.proofs.Sending.{sent_are_recorded}
 use Rattle.node_rules.specs.EndpointLocal.{IsEndpointKept, nothing_begun}
 use Rattle.node_rules.specs.EndpointRules.{OtherCall, job_of}
@@ -39,7 +39,7 @@ became f None y is = absurd cc
 became f (Some x) y is = (x, refl, sym (same_Some (f x) y is))
 
 pub open_was_sent : (settings : Parameters) (table : List (Option Entry)) (meaning : Meaning)
-    (events : List (Timed OtherCall)) (node to slot : ℕ) (bytes : List ℕ) → AreSound settings table meaning
+    (events : List (EventAt OtherCall)) (node to slot : ℕ) (bytes : List ℕ) → AreSound settings table meaning
     → AreAmong (job_of settings table meaning) events
     → message_at settings node (after_all (job_of settings table meaning) events node) (request_slot to slot)
     ≡ Some bytes
@@ -62,5 +62,5 @@ open_was_sent settings table meaning events node to slot bytes sound among is =
           (opening_kept settings) among (Asking place request.content)).1
           (request, numbered_at requests number found.0 request found.1 found.2, found.4, refl);
       spells = open_.2
-          ∙ ap (λ (at : ℕ). spelling (addressed (address_in settings node to at number) request.content)) found.4;
+          ∙ ap (λ (at : ℕ). spelling (message_at_address (address_in settings node to at number) request.content)) found.4;
     }

@@ -9,8 +9,8 @@ use Rattle.wire_message.specs.Content.{Content}
 use Rattle.part_handlers.specs.declared.table.Entry.{Entry}
 use Rattle.part_handlers.specs.Runs.{Meaning}
 use Rattle.base_lists.proofs.Put.{put_same}
-use Rattle.spec_network.specs.Plain.{Plain, Labelled, Replied, IsRequest, InRuns, is_among, reply_of, plain_of}
-use Rattle.spec_network.specs.PlainStep.{Named, at_target, at_origin, RunsFirst}
+use Rattle.spec_network.specs.Plain.{Plain, PlainRequest, RunReply, IsRequest, InRuns, is_among, reply_of, plain_of}
+use Rattle.spec_network.specs.PlainStep.{RequestName, at_target, at_origin, RunsFirst}
 use Rattle.spec_network.proofs.PlainGrowing.{pair_same, in_replied, ran_stays}
 use Rattle.node_core.specs.HandlerRuns.{handlers_of, run_request, run_reply}
 use Rattle.node_rules.specs.EndpointLocal.{EndpointLocal, IsEndpointKept}
@@ -23,7 +23,7 @@ use Rattle.law_messages.specs.Requests.{RunLeaves, ReplyLeaves}
 
 -- ---- the reply of a request that runs
 
-reply_new : (runs : List Replied) (number : ℕ) (reply : Content) → is_among number runs ≡ false
+reply_new : (runs : List RunReply) (number : ℕ) (reply : Content) → is_among number runs ≡ false
     → reply_of number (runs ++ record { number = number; reply = reply } ∷ []) ≡ Some reply
 reply_new [] number reply none = rw (eq-eqb number number refl) refl
 reply_new (first ∷ later) number reply none =
@@ -33,15 +33,15 @@ reply_new (first ∷ later) number reply none =
 -- ---- a request runs
 
 -- what is known of it then: what ran is what was asked
-pub record RanThen (settings : Parameters) (table : List (Option Entry)) (meaning : Meaning) (name : Named)
-    (request : Labelled) (moment : EndpointMoment) (runs : Runs (job_of settings table meaning) name moment)
+pub record RanThen (settings : Parameters) (table : List (Option Entry)) (meaning : Meaning) (name : RequestName)
+    (request : PlainRequest) (moment : EndpointMoment) (runs : Runs (job_of settings table meaning) name moment)
     : Type 0 where
   pub first : RunsFirst (job_of settings table meaning).behaviour.messages (plain_of moment.before) name runs.answer
       (plain_of (after_in (job_of settings table meaning) moment))
   pub same : first.request ≡ request
 
-pub ran_then : (settings : Parameters) (table : List (Option Entry)) (meaning : Meaning) (name : Named)
-    (request : Labelled) (last : Records) (moment : EndpointMoment) → AreSound settings table meaning
+pub ran_then : (settings : Parameters) (table : List (Option Entry)) (meaning : Meaning) (name : RequestName)
+    (request : PlainRequest) (last : Records) (moment : EndpointMoment) → AreSound settings table meaning
     → Around (job_of settings table meaning) (IsEndpointKept settings) moment
     → end_of (job_of settings table meaning) moment ≡ last
     → IsRequest (plain_of last) name.from name.to name.number request
@@ -57,8 +57,8 @@ ran_then settings table meaning name request last moment sound around is asked r
     record { first = first; same = same_Some _ _ (sym there ∙ asked) }
 
 -- what its target keeps afterwards, and its reply
-pub run_leaves : (settings : Parameters) (table : List (Option Entry)) (meaning : Meaning) (name : Named)
-    (request : Labelled) (last : Records) (moment : EndpointMoment) → AreSound settings table meaning
+pub run_leaves : (settings : Parameters) (table : List (Option Entry)) (meaning : Meaning) (name : RequestName)
+    (request : PlainRequest) (last : Records) (moment : EndpointMoment) → AreSound settings table meaning
     → Around (job_of settings table meaning) (IsEndpointKept settings) moment
     → end_of (job_of settings table meaning) moment ≡ last
     → IsRequest (plain_of last) name.from name.to name.number request
@@ -71,7 +71,7 @@ run_leaves settings table meaning name request last moment sound around is asked
     let contact = at_target name first.request in
     let handlers = handlers_of settings table meaning in
     let core = (moment.before name.to).local.core in
-    let says : first.request.content ≡ request.content = ap (λ (l : Labelled). l.content) it.same in
+    let says : first.request.content ≡ request.content = ap (λ (l : PlainRequest). l.content) it.same in
     let out = run_request handlers contact first.request.content core in
     let before = (plain_of moment.before).runs name.from name.to in
     let new : is_among name.number before ≡ false = elim (cases_Bool (is_among name.number before))
@@ -91,7 +91,7 @@ run_leaves settings table meaning name request last moment sound around is asked
     }
 
 -- at the end it is among the runs
-pub ran_by_then : (settings : Parameters) (table : List (Option Entry)) (meaning : Meaning) (name : Named)
+pub ran_by_then : (settings : Parameters) (table : List (Option Entry)) (meaning : Meaning) (name : RequestName)
     (last : Records) (moment : EndpointMoment) → AreSound settings table meaning
     → Around (job_of settings table meaning) (IsEndpointKept settings) moment
     → end_of (job_of settings table meaning) moment ≡ last
@@ -113,7 +113,7 @@ ran_by_then settings table meaning name last moment sound around is runs =
 -- ---- its reply comes back
 
 -- what the requester keeps afterwards, where this is the reply that stands among the runs in the end
-pub reply_leaves : (settings : Parameters) (table : List (Option Entry)) (meaning : Meaning) (name : Named)
+pub reply_leaves : (settings : Parameters) (table : List (Option Entry)) (meaning : Meaning) (name : RequestName)
     (reply : Content) (last : Records) (moment : EndpointMoment) → AreSound settings table meaning
     → Around (job_of settings table meaning) (IsEndpointKept settings) moment
     → end_of (job_of settings table meaning) moment ≡ last

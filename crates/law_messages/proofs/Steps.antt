@@ -10,7 +10,7 @@ use Rattle.spec_node.specs.Behaviour.{Ask}
 use Rattle.spec_node.specs.NodeStep.{Job, site_of, NodeAnswer, OfRequest, OfCall, OfDelivery, OfTick}
 use Rattle.spec_network.specs.World.{Event, Asks, Does, RequestComes, ReplyComes, Ticks, WorldAnswer, OfNode, Unsent}
 use Rattle.spec_network.specs.Plain.{Plain}
-use Rattle.spec_network.specs.PlainStep.{named, AskStep, CallStep, NodeStep, PlainStep, RunStep, TakeStep, TickStep}
+use Rattle.spec_network.specs.PlainStep.{request_name, AskStep, CallStep, NodeStep, PlainStep, RunStep, TakeStep, TickStep}
 use Rattle.spec_network.specs.PlainStep.{UnsentStep}
 use Rattle.law_messages.specs.Steps.{IsNoRun, RequestStep, Same, ThreadAsks, NodeAsks, Runs}
 
@@ -23,8 +23,8 @@ same job p q e a none is = Same none (ap (λ (r : Plain _). r.requests) is) (ap 
 ask_step : {Local Call Told : Type 0} (job : Job Local Call Told) (p q : Plain Local) (i : ℕ) (ask : Ask)
     (b : WorldAnswer Told) (a : Asked) → AskStep (site_of job i) p ask a q
     → RequestStep {Call = Call} job p q (Asks i ask) b
-ask_step job p q i ask b (asked.Accepted to label k) h =
-    ThreadAsks i ask label refl (ap (λ (r : Plain _). r.requests) h.3) (ap (λ (r : Plain _). r.runs) h.3)
+ask_step job p q i ask b (asked.Accepted to slot k) h =
+    ThreadAsks i ask slot refl (ap (λ (r : Plain _). r.requests) h.3) (ap (λ (r : Plain _). r.runs) h.3)
 ask_step job p q i ask b asked.NotYet h = same job p q _ b tt h.3
 ask_step job p q i ask b asked.Exhausted h = same job p q _ b tt h.2
 ask_step job p q i ask b (asked.BadArg part) h = same job p q _ b tt h.2
@@ -36,7 +36,7 @@ ask_step job p q i ask b (asked.Forbidden forbidden) h =
 
 -- a request that comes
 run_step : {Local Call Told : Type 0} (job : Job Local Call Told) (p q : Plain Local) (i j k : ℕ) (a : Delivered)
-    → RunStep job.behaviour.messages p (named i j k) a q
+    → RunStep job.behaviour.messages p (request_name i j k) a q
     → RequestStep {Call = Call} {Told = Told} job p q (RequestComes i j k) (OfNode (OfDelivery a))
 run_step job p q i j k (delivered.Duplicate at) h = same job p q _ _ tt h.4
 run_step job p q i j k delivered.Stale h = same job p q _ _ tt h.3
@@ -45,7 +45,7 @@ run_step job p q i j k a h = Runs i j k a refl refl h
 
 -- a reply that comes
 take_step : {Local Call Told : Type 0} (job : Job Local Call Told) (p q : Plain Local) (i j k : ℕ)
-    (b : WorldAnswer Told) (a : Delivered) → TakeStep job.behaviour.messages p (named i j k) a q
+    (b : WorldAnswer Told) (a : Delivered) → TakeStep job.behaviour.messages p (request_name i j k) a q
     → RequestStep {Call = Call} job p q (ReplyComes i j k) b
 take_step job p q i j k b (delivered.Returned peer slot n) h =
     Same tt (ap (λ (r : Plain _). r.requests) h.leaves) (ap (λ (r : Plain _). r.runs) h.leaves)

@@ -8,9 +8,9 @@ use Rattle.part_handlers.specs.Runs.{Meaning}
 use Rattle.spec_node.specs.declared.answer.Asked.TheVariants as asked
 use Rattle.spec_node.specs.Behaviour.{Ask, Contact}
 use Rattle.spec_node.specs.NodeStep.{site_of, OfRequest}
-use Rattle.spec_network.specs.World.{Timed, Asks, OfNode, world_answer}
-use Rattle.spec_network.specs.Plain.{Labelled, reply_of, plain_of}
-use Rattle.spec_network.specs.PlainStep.{Named, plain_said}
+use Rattle.spec_network.specs.World.{EventAt, Asks, OfNode, world_answer}
+use Rattle.spec_network.specs.Plain.{PlainRequest, reply_of, plain_of}
+use Rattle.spec_network.specs.PlainStep.{RequestName, plain_said}
 use Rattle.node_core.specs.HandlerRuns.{handlers_of, run_request, run_reply}
 use Rattle.node_rules.specs.EndpointRules.{OtherCall, Records, job_of}
 use Rattle.law_transfers.specs.History.{after_in}
@@ -19,30 +19,30 @@ use Rattle.law_messages.specs.Events.{after_all}
 
 -- ---- it is accepted
 
--- a request of a thread: what it asks, and the label and the number that it got
+-- a request of a thread: what it asks, and the slot and the number that it got
 pub record AcceptedName : Type 0 where
   pub from : ℕ
   pub ask : Ask
   pub to : ℕ
-  pub label : ℕ
+  pub slot : ℕ
   pub number : ℕ
 
 -- what the request is that was asked in this state
-abbrev pub accepted_request : EndpointJob → Records → AcceptedName → Labelled
+abbrev pub accepted_request : EndpointJob → Records → AcceptedName → PlainRequest
 accepted_request job world name =
-    record { content = plain_said (site_of job name.from) (plain_of world) name.ask; label = name.label }
+    record { content = plain_said (site_of job name.from) (plain_of world) name.ask; slot = name.slot }
 
 -- a thread asks it after these events, and is answered that it is accepted
-pub record IsAccepted (job : EndpointJob) (before : List (Timed OtherCall)) (event : Timed OtherCall)
+pub record IsAccepted (job : EndpointJob) (before : List (EventAt OtherCall)) (event : EventAt OtherCall)
     (name : AcceptedName) : Type 0 where
   pub asks : event.event ≡ Asks name.from name.ask
   pub answered : world_answer job (after_all job before) event
-      ≡ OfNode (OfRequest (asked.Accepted name.to name.label name.number))
+      ≡ OfNode (OfRequest (asked.Accepted name.to name.slot name.number))
 
 -- ---- it runs, and its reply
 
 -- after the event the writes at the target are those that the run of this request leaves, and its reply is the run's
-pub record RunLeaves (settings : Parameters) (table : List (Option Entry)) (meaning : Meaning) (name : Named)
+pub record RunLeaves (settings : Parameters) (table : List (Option Entry)) (meaning : Meaning) (name : RequestName)
     (content : Content) (moment : EndpointMoment) : Type 0 where
   pub contact : Contact
   pub writes :
@@ -54,7 +54,7 @@ pub record RunLeaves (settings : Parameters) (table : List (Option Entry)) (mean
       ≡ Some out.1
 
 -- after the event the writes at the requester are those that the run of this reply leaves
-pub record ReplyLeaves (settings : Parameters) (table : List (Option Entry)) (meaning : Meaning) (name : Named)
+pub record ReplyLeaves (settings : Parameters) (table : List (Option Entry)) (meaning : Meaning) (name : RequestName)
     (reply : Content) (moment : EndpointMoment) : Type 0 where
   pub contact : Contact
   pub writes : writes_at (after_in (job_of settings table meaning) moment) name.from

@@ -3,7 +3,7 @@ use Rattle.std.proofs.Common.{ℕ, zero, suc, ◌+◌, ◌<◌, ◌≤◌, ◌^�
 use Rattle.std.specs.Prelude.{drop, replicate, pos}
 use Rattle.std.specs.Int.{w32, w64, to_le_bytes, cast_signed}
 use Rattle.std.specs.Int.RustNames.{FitsSigned}
-use Rattle.wire_message.specs.Notes.{high_half, low_half}
+use Rattle.wire_message.specs.Notifications.{high_half, low_half}
 use Rattle.part_segment.specs.Bytes.{part}
 use Rattle.part_segment.specs.Image.{Write, overwritten, written_by, image}
 use Rattle.law_traces.specs.Fitting.{AreBytes, WriteBytes}

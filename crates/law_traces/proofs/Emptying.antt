@@ -2,7 +2,7 @@
 use Rattle.std.proofs.Common.{◌≡◌, ℕ, zero, suc, Bool, true, false, true≢false, cond, ◌||◌, List, [], ◌∷◌, ◌++◌, map}
 use Rattle.std.proofs.Common.{Option, None, Some, refl, sym, ap, ap₂, ◌∙◌, subst}
 use Rattle.std.specs.Prelude.{is_some}
-use Rattle.base_lists.specs.Numbered.{numbered, change}
+use Rattle.base_lists.specs.Numbered.{element_at, change}
 use Rattle.base_lists.proofs.Update.{update-None}
 use Rattle.base_lists.specs.Put.{put}
 use Rattle.base_lists.proofs.Put.{put_own}
@@ -20,7 +20,7 @@ use Rattle.law_traces.specs.Empty.{IsCalm, EmptyTurnsLeave}
 
 -- ---- a tick that sends nothing
 
-change_past : {X : Type 0} (f : X → X) (xs : List X) (number : ℕ) → numbered xs number ≡ None → change f xs number ≡ xs
+change_past : {X : Type 0} (f : X → X) (xs : List X) (number : ℕ) → element_at xs number ≡ None → change f xs number ≡ xs
 change_past f xs zero e = refl
 change_past f xs (suc place) e = update-None xs place f e
 
@@ -30,9 +30,9 @@ cons_nil h = cc
 tick_calm : {Kept : Type 0} (site : Site Kept) (me now : ℕ) (node : Node Kept) (choice : TickChoice)
     → ticked_sends me node choice ≡ [] → after_tick site node now choice ≡ node
 tick_calm {Kept} site me now node (Retransmits due) e =
-    by_asked (numbered (node.asked due.peer) due.number) refl e
+    by_asked (element_at (node.asked due.peer) due.number) refl e
   where
-    by_asked : (o : Option Request) → numbered (node.asked due.peer) due.number ≡ o
+    by_asked : (o : Option Request) → element_at (node.asked due.peer) due.number ≡ o
         → asking me due.peer due.number o ≡ [] → after_tick site node now (Retransmits due) ≡ node
     by_asked None at h = ap (λ (f : ℕ → List Request). record node { asked = f })
         (ap (put node.asked due.peer) (change_past (sent_at now) (node.asked due.peer) due.number at)

@@ -6,7 +6,7 @@ use Rattle.std.proofs.lemmas.Bool.{cases_Bool, or_parts, and_parts, eqb-true}
 use Rattle.base_lists.proofs.Members.{all_append}
 use Rattle.wire_message.specs.Parameters.{Parameters}
 use Rattle.wire_message.specs.Content.{Content, code, is_ack, is_long, is_request}
-use Rattle.wire_message.specs.Notes.{argument}
+use Rattle.wire_message.specs.Notifications.{argument}
 use Rattle.part_segment.specs.Image.{Write}
 use Rattle.part_handlers.specs.declared.table.Entry.{Entry}
 use Rattle.part_handlers.specs.declared.rules.Role.{Role}

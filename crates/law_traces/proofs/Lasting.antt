@@ -15,7 +15,7 @@ use Rattle.spec_node.specs.NodeStep.{Job, IsAllSound, NodeEvent, Asks, Does, Com
 use Rattle.spec_node.specs.Spelled.{IsSpelled}
 use Rattle.spec_node.proofs.NodeEvents.{event_keeps}
 use Rattle.spec_node.proofs.Runs.{run_of_there}
-use Rattle.spec_network.specs.World.{World, opening, Timed, Fall, falls, after_at, world_after, IsAmong}
+use Rattle.spec_network.specs.World.{World, opening, EventAt, Fall, falls, after_at, world_after, IsAmong}
 use Rattle.spec_network.specs.Invariant.{Holds}
 use Rattle.spec_network.specs.Sent.{Packet, Asking, Replying, sender, IsRecorded}
 use Rattle.spec_network.proofs.Worlds.{Came, CameAt, falls_came, step_keeps, opening_holds}
@@ -138,7 +138,7 @@ came_there job IsKept world i Ticks holds came = came
 -- what is asked of a state holds after an event
 pub lasts_on : {Local Call Told : Type 0} (job : Job Local Call Told) (IsKept : (me : ℕ) → Local → Type 0)
     (Fits : Local → Type 0) (May : NodeEvent Call → Type 0) (world : World Local) (i : ℕ) (event : NodeEvent Call)
-    (timed : Timed Call) → IsAllSound job.behaviour IsKept → AreSpoken job IsKept Fits May
+    (timed : EventAt Call) → IsAllSound job.behaviour IsKept → AreSpoken job IsKept Fits May
     → Lasts job IsKept Fits world → IsAmong job.settings timed.event
     → falls job.settings world timed.event ≡ Some (record { node = i; event = event })
     → IsFit job.settings May event → Lasts job IsKept Fits (world_after job world timed)

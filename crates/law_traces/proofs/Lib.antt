@@ -4,7 +4,7 @@ pub mod Turns
 pub mod Runs
 pub mod Acting
 pub mod Emptying
-pub mod Fronting
+pub mod Prefixing
 pub mod Carrying
 pub mod Mosts
 pub mod Bytes

@@ -14,18 +14,18 @@ use Rattle.base_lists.proofs.Sums.{sum_le}
 use Rattle.spec_node.specs.declared.answer.Asked.{Asked}
 use Rattle.spec_node.specs.declared.answer.Asked.TheVariants as asked
 use Rattle.spec_node.specs.Record.{Request, Run, Node}
-use Rattle.spec_node.specs.Requests.{taken, unreturned}
+use Rattle.spec_node.specs.Requests.{taken_slots, outstanding}
 use Rattle.spec_node.specs.Executed.{slots_run}
-use Rattle.spec_node.specs.Held.{held_with, held}
+use Rattle.spec_node.specs.Held.{held_with, held_buffers}
 use Rattle.spec_node.specs.Behaviour.{Ask}
-use Rattle.spec_node.specs.Step.{new_request, said}
+use Rattle.spec_node.specs.Step.{new_request, request_content}
 use Rattle.spec_node.specs.Step.{Site, request_answer, after_request, TickChoice, Retransmits, Sends, Rests, tick_choice}
 use Rattle.spec_node.specs.Step.{after_tick}
 use Rattle.spec_node.specs.NodeStep.{Job, site_of, NodeEvent, Asks as NodeAsks, Does as NodeDoes, Comes}
 use Rattle.spec_node.specs.NodeStep.{Ticks as NodeTicks}
 use Rattle.spec_node.specs.NodeStep.{node_after}
-use Rattle.spec_node.proofs.Slots.{taken_push, unreturned-sent}
-use Rattle.spec_network.specs.World.{World, Timed, world_after, run}
+use Rattle.spec_node.proofs.Slots.{taken_push, outstanding-sent}
+use Rattle.spec_network.specs.World.{World, EventAt, world_after, run}
 use Rattle.spec_network.specs.MostHeld.{most_then, most_after}
 use Rattle.node_rules.specs.Called.{Requests, Performs}
 use Rattle.node_rules.specs.EndpointRules.{OtherCall}
@@ -40,30 +40,30 @@ use Rattle.law_traces.proofs.Stages.{fallen_here, fallen_other}
 
 -- one peer's requests are changed to others of which at least as many aren't back
 asked_more : {Kept : Type 0} (settings : Parameters) (me to : ℕ) (requests : List Request) (r q : Node Kept)
-    → q.asked ≡ put r.asked to requests → q.ran ≡ r.ran → unreturned (r.asked to) ≤ unreturned requests
+    → q.asked ≡ put r.asked to requests → q.ran ≡ r.ran → outstanding (r.asked to) ≤ outstanding requests
     → (peer : ℕ) → held_with settings me r peer ≤ held_with settings me q peer
 asked_more settings me to requests r q e f more peer =
     let runs : slots_run (q.ran peer) (credits_of settings peer me) ≡ slots_run (r.ran peer)
     (credits_of settings peer me) =
     ap (λ (g : ℕ → List Run). slots_run (g peer) (credits_of settings peer me)) f in
     elim (cases_eq peer to) [
-      | inl same ↦ (let at : unreturned (q.asked peer) ≡ unreturned requests =
-          ap (λ (g : ℕ → List Request). unreturned (g peer)) e
-          ∙ ap unreturned (ap (put r.asked to requests) same ∙ put_same r.asked to requests) in
-          let was : unreturned (r.asked peer) ≡ unreturned (r.asked to) = ap (λ p. unreturned (r.asked p)) same in
+      | inl same ↦ (let at : outstanding (q.asked peer) ≡ outstanding requests =
+          ap (λ (g : ℕ → List Request). outstanding (g peer)) e
+          ∙ ap outstanding (ap (put r.asked to requests) same ∙ put_same r.asked to requests) in
+          let was : outstanding (r.asked peer) ≡ outstanding (r.asked to) = ap (λ p. outstanding (r.asked p)) same in
           omega (arith, runs, at, was, more))
-      | inr other ↦ (let at : unreturned (q.asked peer) ≡ unreturned (r.asked peer) =
-          ap (λ (g : ℕ → List Request). unreturned (g peer)) e
-          ∙ ap unreturned (put_other r.asked to requests peer other) in
+      | inr other ↦ (let at : outstanding (q.asked peer) ≡ outstanding (r.asked peer) =
+          ap (λ (g : ℕ → List Request). outstanding (g peer)) e
+          ∙ ap outstanding (put_other r.asked to requests peer other) in
           omega (arith, runs, at))
     ]
 
 -- one request more
-unreturned_push : (requests : List Request) (request : Request)
-    → unreturned requests ≤ unreturned (requests ++ request ∷ [])
-unreturned_push requests request =
-    let e : unreturned (requests ++ request ∷ []) ≡ length (taken requests) + length (taken (request ∷ [])) =
-    ap length (taken_push requests request) ∙ length-append (taken requests) (taken (request ∷ [])) in
+outstanding_push : (requests : List Request) (request : Request)
+    → outstanding requests ≤ outstanding (requests ++ request ∷ [])
+outstanding_push requests request =
+    let e : outstanding (requests ++ request ∷ []) ≡ length (taken_slots requests) + length (taken_slots (request ∷ [])) =
+    ap length (taken_push requests request) ∙ length-append (taken_slots requests) (taken_slots (request ∷ [])) in
     omega (arith, e)
 
 request_grows : {Kept : Type 0} (site : Site Kept) (r : Node Kept) (now : ℕ) (ask : Ask) (answer : Asked) (peer : ℕ)
@@ -71,7 +71,7 @@ request_grows : {Kept : Type 0} (site : Site Kept) (r : Node Kept) (now : ℕ) (
     ≤ held_with site.settings site.me (after_request site r now ask answer) peer
 request_grows site r now ask (asked.Accepted p slot k) peer =
     asked_more site.settings site.me ask.to _ r (after_request site r now ask (asked.Accepted p slot k)) refl refl
-    (unreturned_push (r.asked ask.to) (new_request now slot (said site r ask))) peer
+    (outstanding_push (r.asked ask.to) (new_request now slot (request_content site r ask))) peer
 request_grows site r now ask asked.Ran peer = omega arith
 request_grows site r now ask (asked.BadArg part) peer = omega arith
 request_grows site r now ask (asked.Forbidden forbidden) peer = omega arith
@@ -83,10 +83,10 @@ tick_grows : {Kept : Type 0} (site : Site Kept) (r : Node Kept) (now : ℕ) (cho
     → held_with site.settings site.me r peer ≤ held_with site.settings site.me (after_tick site r now choice) peer
 tick_grows site r now (Retransmits due) peer =
     asked_more site.settings site.me due.peer _ r (after_tick site r now (Retransmits due)) refl refl
-    (let e = unreturned-sent now (r.asked due.peer) due.number in omega (arith, e)) peer
+    (let e = outstanding-sent now (r.asked due.peer) due.number in omega (arith, e)) peer
 tick_grows site r now (Sends sending) peer =
     asked_more site.settings site.me sending.to _ r (after_tick site r now (Sends sending)) refl refl
-    (unreturned_push (r.asked sending.to) _) peer
+    (outstanding_push (r.asked sending.to) _) peer
 tick_grows site r now Rests peer = omega arith
 
 -- it is no delivery
@@ -98,7 +98,7 @@ IsOwn NodeTicks = Unit {0}
 
 own_grows : {Local Call Told : Type 0} (job : Job Local Call Told) (me : ℕ) (r : Node Local) (now : ℕ)
     (event : NodeEvent Call) → IsOwn event
-    → held job.settings me r ≤ held job.settings me (node_after job me r now event)
+    → held_buffers job.settings me r ≤ held_buffers job.settings me (node_after job me r now event)
 own_grows job me r now (NodeAsks ask) own =
     sum_le (held_with job.settings me r) _ job.settings.nodes
     (λ peer low. request_grows (site_of job me) r now ask (request_answer (site_of job me) r ask) peer)
@@ -158,43 +158,43 @@ three a b c h = grind (arith, nat_tests)
 
 -- no delivery is among them
 own_most : {Local Call Told : Type 0} (job : Job Local Call Told) (n now : ℕ) (events : List (NodeEvent Call))
-    (happened : List (Timed Call)) (world : World Local) (most : ℕ → ℕ)
-    → AreEvents job world n now events happened → AreAllOwn events → held job.settings n (world n) ≤ most n
-    → (most_after job happened world most n ≡ max (most n) (held job.settings n (run job happened world n)))
-    × (held job.settings n (world n) ≤ held job.settings n (run job happened world n))
-own_most job n now [] [] world most A own le = (sym (max_of (most n) (held job.settings n (world n)) le), omega arith)
+    (happened : List (EventAt Call)) (world : World Local) (most : ℕ → ℕ)
+    → AreEvents job world n now events happened → AreAllOwn events → held_buffers job.settings n (world n) ≤ most n
+    → (most_after job happened world most n ≡ max (most n) (held_buffers job.settings n (run job happened world n)))
+    × (held_buffers job.settings n (world n) ≤ held_buffers job.settings n (run job happened world n))
+own_most job n now [] [] world most A own le = (sym (max_of (most n) (held_buffers job.settings n (world n)) le), omega arith)
 own_most job n now [] (timed ∷ rest) world most A own le = absurd A
 own_most job n now (event ∷ events) [] world most A own le = absurd A
 own_most {Local} job n now (event ∷ events) (timed ∷ rest) world most A own le =
     let x = world_after job world timed in
     let here : x n ≡ node_after job n (world n) timed.now event = fallen_here job world n event timed A.1 in
-    let up : held job.settings n (world n) ≤ held job.settings n (x n) =
-    subst (λ (r : Node Local). held job.settings n (world n) ≤ held job.settings n r) (sym here)
+    let up : held_buffers job.settings n (world n) ≤ held_buffers job.settings n (x n) =
+    subst (λ (r : Node Local). held_buffers job.settings n (world n) ≤ held_buffers job.settings n r) (sym here)
     (own_grows job n (world n) timed.now event own.0) in
     let ih = own_most job n now events rest x (most_then job.settings x most) A.2 own.1
-    (at_least (most n) (held job.settings n (x n))) in (
-      ih.0 ∙ three (most n) (held job.settings n (x n)) (held job.settings n (run job rest x n)) ih.1,
+    (at_least (most n) (held_buffers job.settings n (x n))) in (
+      ih.0 ∙ three (most n) (held_buffers job.settings n (x n)) (held_buffers job.settings n (run job rest x n)) ih.1,
       omega (arith, up, ih.1),
     )
 
 -- of the node of a turn
 turn_most : {Local Call Told : Type 0} (job : Job Local Call Told) (n now : ℕ) (events : List (NodeEvent Call))
-    (happened : List (Timed Call)) (world : World Local) (most : ℕ → ℕ)
-    → AreEvents job world n now events happened → AtMostOne events → held job.settings n (world n) ≤ most n
-    → most_after job happened world most n ≡ max (most n) (held job.settings n (run job happened world n))
-turn_most job n now [] [] world most A one le = sym (max_of (most n) (held job.settings n (world n)) le)
+    (happened : List (EventAt Call)) (world : World Local) (most : ℕ → ℕ)
+    → AreEvents job world n now events happened → AtMostOne events → held_buffers job.settings n (world n) ≤ most n
+    → most_after job happened world most n ≡ max (most n) (held_buffers job.settings n (run job happened world n))
+turn_most job n now [] [] world most A one le = sym (max_of (most n) (held_buffers job.settings n (world n)) le)
 turn_most job n now [] (timed ∷ rest) world most A one le = absurd A
 turn_most job n now (event ∷ events) [] world most A one le = absurd A
 turn_most job n now (event ∷ events) (timed ∷ rest) world most A one le =
     let x = world_after job world timed in
     let more = own_most job n now events rest x (most_then job.settings x most) A.2 one
-    (at_least (most n) (held job.settings n (x n))) in
-    more.0 ∙ three (most n) (held job.settings n (x n)) (held job.settings n (run job rest x n)) more.1
+    (at_least (most n) (held_buffers job.settings n (x n))) in
+    more.0 ∙ three (most n) (held_buffers job.settings n (x n)) (held_buffers job.settings n (run job rest x n)) more.1
 
 -- of every other node
 other_most : {Local Call Told : Type 0} (job : Job Local Call Told) (n now i : ℕ) (events : List (NodeEvent Call))
-    (happened : List (Timed Call)) (world : World Local) (most : ℕ → ℕ)
-    → AreEvents job world n now events happened → i ≢ n → held job.settings i (world i) ≤ most i
+    (happened : List (EventAt Call)) (world : World Local) (most : ℕ → ℕ)
+    → AreEvents job world n now events happened → i ≢ n → held_buffers job.settings i (world i) ≤ most i
     → (most_after job happened world most i ≡ most i) × (run job happened world i ≡ world i)
 other_most job n now i [] [] world most A o le = (refl, refl)
 other_most job n now i [] (timed ∷ rest) world most A o le = absurd A
@@ -203,10 +203,10 @@ other_most {Local} job n now i (event ∷ events) (timed ∷ rest) world most A 
     let x = world_after job world timed in
     let same : x i ≡ world i = fallen_other job world n event timed A.1 i o in
     let then_same : most_then job.settings x most i ≡ most i =
-    ap (λ (r : Node Local). max (most i) (held job.settings i r)) same
-    ∙ max_of (most i) (held job.settings i (world i)) le in
+    ap (λ (r : Node Local). max (most i) (held_buffers job.settings i r)) same
+    ∙ max_of (most i) (held_buffers job.settings i (world i)) le in
     let ih = other_most job n now i events rest x (most_then job.settings x most) A.2 o
-    (both (ap (λ (r : Node Local). held job.settings i r) (sym same)) (sym then_same) le) in
+    (both (ap (λ (r : Node Local). held_buffers job.settings i r) (sym same)) (sym then_same) le) in
     (ih.0 ∙ then_same, ih.1 ∙ same)
   where
     both : {a b c d : ℕ} → a ≡ b → c ≡ d → a ≤ c → b ≤ d
@@ -216,7 +216,7 @@ other_most {Local} job n now i (event ∷ events) (timed ∷ rest) world most A 
 
 -- the node after the events of a turn
 run_here : {Local Call Told : Type 0} (job : Job Local Call Told) (n now : ℕ) (events : List (NodeEvent Call))
-    (happened : List (Timed Call)) (world : World Local) → AreEvents job world n now events happened
+    (happened : List (EventAt Call)) (world : World Local) → AreEvents job world n now events happened
     → run job happened world n ≡ node_run job n now events (world n)
 run_here job n now [] [] world A = refl
 run_here job n now [] (timed ∷ rest) world A = absurd A
@@ -226,7 +226,7 @@ run_here job n now (event ∷ events) (timed ∷ rest) world A =
     ∙ ap (node_run job n now events)
     (fallen_here job world n event timed A.1 ∙ ap (λ k. node_after job n (world n) k event) A.0)
 
-most-append : {Local Call Told : Type 0} (job : Job Local Call Told) (first second : List (Timed Call))
+most-append : {Local Call Told : Type 0} (job : Job Local Call Told) (first second : List (EventAt Call))
     (world : World Local) (most : ℕ → ℕ) (i : ℕ)
     → most_after job (first ++ second) world most i
     ≡ most_after job second (run job first world) (most_after job first world most) i
@@ -236,19 +236,19 @@ most-append job (timed ∷ rest) second world most i =
     most-append job rest second x (most_then job.settings x most) i
 
 -- what depends on the number of node i alone
-most_at : {Local Call Told : Type 0} (job : Job Local Call Told) (events : List (Timed Call)) (world : World Local)
+most_at : {Local Call Told : Type 0} (job : Job Local Call Told) (events : List (EventAt Call)) (world : World Local)
     (f g : ℕ → ℕ) (i : ℕ) → f i ≡ g i → most_after job events world f i ≡ most_after job events world g i
 most_at job [] world f g i e = e
 most_at job (timed ∷ rest) world f g i e =
     let x = world_after job world timed in
     most_at job rest x (most_then job.settings x f) (most_then job.settings x g) i
-    (ap (λ (a : ℕ). max a (held job.settings i (x i))) e)
+    (ap (λ (a : ℕ). max a (held_buffers job.settings i (x i))) e)
 
 -- the most that node i held is that of its own entries
 pub run_most : {Kept Own : Type 0} (job : NodeJob Kept Own) (i : ℕ) (items : List NodeEntry)
-    (turns : List (List (Timed OtherCall))) (machines : Machines Kept Own) (world : World Kept) (most : ℕ → ℕ)
+    (turns : List (List (EventAt OtherCall))) (machines : Machines Kept Own) (world : World Kept) (most : ℕ → ℕ)
     → AreTurns job machines world items turns → ((n : ℕ) → world n ≡ (machines n).node)
-    → held job.job.settings i (world i) ≤ most i
+    → held_buffers job.job.settings i (world i) ≤ most i
     → most_after job.job (joined_events turns) world most i
     ≡ most_in job i (machines i) (own_entries i items) (most i)
 run_most job i [] [] machines world most T all le = refl
@@ -266,7 +266,7 @@ run_most {Kept} {Own} job i (item ∷ items) (happened ∷ more) machines world 
     v = run job.job happened world
 
     holds : Node Kept → ℕ
-    holds r = held job.job.settings i r
+    holds r = held_buffers job.job.settings i r
 
     -- the records after the turn
     here : v item.node ≡ t.after.node
@@ -277,7 +277,7 @@ run_most {Kept} {Own} job i (item ∷ items) (happened ∷ more) machines world 
     others : (k : ℕ) → k ≢ item.node → v k ≡ world k
     others k o =
         (other_most job.job item.node item.entry.now k t.events happened world
-        (λ q. held job.job.settings q (world q)) T.0.events o (omega arith)).1
+        (λ q. held_buffers job.job.settings q (world q)) T.0.events o (omega arith)).1
 
     after_same : (k : ℕ) → v k ≡ (after_entry job machines item k).node
     after_same k = elim (cases_eq k item.node) [
@@ -287,20 +287,20 @@ run_most {Kept} {Own} job i (item ∷ items) (happened ∷ more) machines world 
           (sym (put_other machines item.node t.after k o)))
     ]
 
-    by_node : ((now_most : ℕ → ℕ) → held job.job.settings i (v i) ≤ now_most i
+    by_node : ((now_most : ℕ → ℕ) → held_buffers job.job.settings i (v i) ≤ now_most i
         → most_after job.job (joined_events more) v now_most i
         ≡ most_in job i (after_entry job machines item i) (own_entries i items) (now_most i))
         → (item.node ≡ i) ⊎ (item.node ≢ i)
         → most_after job.job (joined_events more) v (most_after job.job happened world most) i
         ≡ most_in job i (machines i) (own_entries i (item ∷ items)) (most i)
     by_node go (inl e) =
-        let now_most : most_after job.job happened world most i ≡ max (most i) (held job.job.settings i (v i)) =
-        subst (λ k. most_after job.job happened world most k ≡ max (most k) (held job.job.settings k (v k))) e
+        let now_most : most_after job.job happened world most i ≡ max (most i) (held_buffers job.job.settings i (v i)) =
+        subst (λ k. most_after job.job happened world most k ≡ max (most k) (held_buffers job.job.settings k (v k))) e
         (turn_most job.job item.node item.entry.now t.events happened world most T.0.events
         (events_at_most job item.node (machines item.node) item.entry.thread item.entry.now item.entry.got)
-        (subst (λ k. held job.job.settings k (world k) ≤ most k) (sym e) le)) in
-        let rest = go (λ q. max (most q) (held job.job.settings q (v q)))
-        (at_least (most i) (held job.job.settings i (v i))) in
+        (subst (λ k. held_buffers job.job.settings k (world k) ≤ most k) (sym e) le)) in
+        let rest = go (λ q. max (most q) (held_buffers job.job.settings q (v q)))
+        (at_least (most i) (held_buffers job.job.settings i (v i))) in
         let mine : after_entry job machines item i
         ≡ (turn job i (machines i) item.entry.thread item.entry.now item.entry.got).after =
         ap (put machines item.node t.after) (sym e)
@@ -309,16 +309,16 @@ run_most {Kept} {Own} job i (item ∷ items) (happened ∷ more) machines world 
         let node_is : v i ≡ (turn job i (machines i) item.entry.thread item.entry.now item.entry.got).after.node =
         after_same i ∙ ap (λ (m : MachineState Kept Own). m.node) mine in
         most_at job.job (joined_events more) v (most_after job.job happened world most)
-        (λ q. max (most q) (held job.job.settings q (v q))) i now_most
+        (λ q. max (most q) (held_buffers job.job.settings q (v q))) i now_most
         ∙ (rest
         ∙ (ap₂ (λ (m : MachineState Kept Own) (a : ℕ). most_in job i m (own_entries i items) a) mine
-        (ap (λ (r : Node Kept). max (most i) (held job.job.settings i r)) node_is)
+        (ap (λ (r : Node Kept). max (most i) (held_buffers job.job.settings i r)) node_is)
         ∙ ap (λ (b : Bool). most_in job i (machines i)
         (cond b (item.entry ∷ own_entries i items) (own_entries i items)) (most i)) (sym (eq-eqb item.node i e))))
     by_node go (inr n) =
         let o : i ≢ item.node = λ h. n (sym h) in
         let kept = other_most job.job item.node item.entry.now i t.events happened world most T.0.events o le in
-        let rest = go most (subst (λ (r : Node Kept). held job.job.settings i r ≤ most i) (sym kept.1) le) in
+        let rest = go most (subst (λ (r : Node Kept). held_buffers job.job.settings i r ≤ most i) (sym kept.1) le) in
         let mine : after_entry job machines item i ≡ machines i = put_other machines item.node t.after i o in
         most_at job.job (joined_events more) v (most_after job.job happened world most) most i kept.0
         ∙ (rest

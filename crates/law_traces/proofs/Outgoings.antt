@@ -9,7 +9,7 @@ use Rattle.std.proofs.lemmas.Bool.{cases_Bool, eqb-true, ltb-true}
 use Rattle.std.proofs.lemmas.List.Elements.{Contains-append_cases}
 use Rattle.std.proofs.lemmas.Option.{same_Some}
 use Rattle.base_lists.specs.Put.{put}
-use Rattle.base_lists.specs.Numbered.{numbered}
+use Rattle.base_lists.specs.Numbered.{element_at}
 use Rattle.base_lists.proofs.Cases.{none_some}
 use Rattle.base_lists.proofs.Members.{all_append, contains_none, contains_one}
 use Rattle.base_lists.proofs.Numbered.{numbered_nil, numbered-change_here}
@@ -29,7 +29,7 @@ use Rattle.spec_node.specs.Record.{Request, Run, Node}
 use Rattle.spec_node.specs.Requests.{Due, next_claim, dues, all_dues, open_in, sent_at, is_open}
 use Rattle.spec_node.specs.Executed.{greatest, run_at, last_run}
 use Rattle.spec_node.specs.Behaviour.{Ask, is_request}
-use Rattle.spec_node.specs.Step.{Site, new_request, said, request_answer, after_request, address_fault}
+use Rattle.spec_node.specs.Step.{Site, new_request, request_content, request_answer, after_request, address_fault}
 use Rattle.spec_node.specs.Step.{first_why, refusal, slots_for, Verdict, Refused, Duplicated, Passed, Runs, Missed}
 use Rattle.spec_node.specs.Step.{Returns}
 use Rattle.spec_node.specs.Step.{Waits, unless_refused, unless_waiting, verdict}
@@ -66,7 +66,7 @@ record IsAskedIn {Local : Type 0} (settings : Parameters) (me : ℕ) (at : Place
   there : at.to < settings.nodes
   other : at.to ≢ me
   request : Request
-  found : numbered (node.asked at.to) at.number ≡ Some request
+  found : element_at (node.asked at.to) at.number ≡ Some request
   slot_is : request.slot ≡ at.slot
   says : request.content ≡ content
   out : request.back ≡ false
@@ -160,7 +160,7 @@ request_stays : {Local : Type 0} (site : Site Local) (now : ℕ) (node : Node Lo
     → IsInSlot site.settings site.me packet (after_request site node now ask answer)
 request_stays site now node ask (asked.Accepted to slot number) packet S =
     stays_by site.settings site.me packet node (after_request site node now ask (asked.Accepted to slot number))
-    (stay_push node.asked ask.to (new_request now slot (said site node ask))) refl S
+    (stay_push node.asked ask.to (new_request now slot (request_content site node ask))) refl S
 request_stays site now node ask asked.Ran packet S =
     stays_by site.settings site.me packet node (after_request site node now ask asked.Ran) (stay_same node.asked) refl S
 request_stays site now node ask (asked.Forbidden forbidden) packet S =
@@ -212,7 +212,7 @@ accepted_in settings me now to slot number content node after there other number
   there = there;
   other = other;
   request = new_request now slot content;
-  found = ap₂ (λ (requests : List Request) (k : ℕ). numbered requests k)
+  found = ap₂ (λ (requests : List Request) (k : ℕ). element_at requests k)
       (ap (λ (f : ℕ → List Request). f to) asked_is ∙ put_same node.asked to _) number_is
       ∙ slice_get_last (node.asked to) (new_request now slot content);
   slot_is = refl;
@@ -225,7 +225,7 @@ asked_in : {Local : Type 0} (site : Site Local) (now : ℕ) (node : Node Local) 
     → IsInSlot site.settings site.me packet (after_request site node now ask answer)
 asked_in site now node ask (asked.Accepted to slot number) e packet h =
     let says = accepted_says site node ask to slot number e in
-    let content = said site node ask in
+    let content = request_content site node ask in
     let after = after_request site node now ask (asked.Accepted to slot number) in
     let at : Place = record { from = site.me; to = ask.to; number = number; slot = slot } in
     one_stands site.settings site.me after packet (Asking at content) h
@@ -284,7 +284,7 @@ again_says site node message e =
     by_parts (refusal site message) (is_request message.kind)
     (eqb message.number (greatest message.slot (node.ran message.from)))
     (ltb message.number (greatest message.slot (node.ran message.from)))
-    (is_open message.slot (numbered (node.asked message.from) message.number))
+    (is_open message.slot (element_at (node.asked message.from) message.number))
     (site.behaviour.waits (content_of message) node.local) refl refl refl e
   where
     by_parts : (o : Option Why) (asks same less opens : Bool) (lock : Option ℕ) → refusal site message ≡ o
@@ -407,9 +407,9 @@ ticked_in {Local} job IsKept me now node (Retransmits due) sound I e packet h =
       sender_is = refl;
       there = there;
       other = λ same. numbered_nil due.number open_at.0
-          (sym (ap (λ list. numbered list due.number) (ap node.asked same ∙ I.own)) ∙ open_at.1);
+          (sym (ap (λ list. element_at list due.number) (ap node.asked same ∙ I.own)) ∙ open_at.1);
       request = sent_at now open_at.0;
-      found = ap (λ (list : List Request). numbered list due.number) (put_same node.asked due.peer _)
+      found = ap (λ (list : List Request). element_at list due.number) (put_same node.asked due.peer _)
           ∙ numbered-change_here (sent_at now) (node.asked due.peer) due.number open_at.0 open_at.1;
       slot_is = refl;
       says = refl;

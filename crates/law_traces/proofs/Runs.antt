@@ -9,9 +9,9 @@ use Rattle.base_lists.proofs.Members.{contains_none, all_append}
 use Rattle.base_lists.proofs.Put.{put_same, put_other}
 use Rattle.spec_node.specs.Record.{Node}
 use Rattle.spec_node.specs.NodeStep.{Job, NodeEvent}
-use Rattle.spec_network.specs.World.{World, Timed, WorldAnswer, OfNode, opening, falls, world_answer, world_after, run}
+use Rattle.spec_network.specs.World.{World, EventAt, WorldAnswer, OfNode, opening, falls, world_answer, world_after, run}
 use Rattle.spec_network.specs.World.{answers_of, IsAmong}
-use Rattle.spec_network.specs.Sent.{Packet, IsRecorded, sends_at, sent}
+use Rattle.spec_network.specs.Sent.{Packet, IsRecorded, sends_at, datagrams_sent}
 use Rattle.spec_network.proofs.Sending.{sent_are_recorded}
 use Rattle.node_rules.specs.EndpointRules.{OtherCall}
 use Rattle.node_rules.specs.declared.answer.Answer.{Answer}
@@ -27,12 +27,12 @@ use Rattle.law_traces.proofs.Turns.{IsSoundJob, turn_on}
 
 -- ---- two parts of a run
 
-run-append : {Local Call Told : Type 0} (job : Job Local Call Told) (first second : List (Timed Call))
+run-append : {Local Call Told : Type 0} (job : Job Local Call Told) (first second : List (EventAt Call))
     (world : World Local) → run job (first ++ second) world ≡ run job second (run job first world)
 run-append job [] second world = refl
 run-append job (timed ∷ rest) second world = run-append job rest second (world_after job world timed)
 
-answers_of-append : {Local Call Told : Type 0} (job : Job Local Call Told) (first second : List (Timed Call))
+answers_of-append : {Local Call Told : Type 0} (job : Job Local Call Told) (first second : List (EventAt Call))
     (world : World Local)
     → answers_of job (first ++ second) world ≡ answers_of job first world ++ answers_of job second (run job first world)
 answers_of-append job [] second world = refl
@@ -40,15 +40,15 @@ answers_of-append {Told = Told} job (timed ∷ rest) second world =
     ap (λ (more : List (WorldAnswer Told)). world_answer job world timed ∷ more)
     (answers_of-append job rest second (world_after job world timed))
 
-sent-append : {Local Call Told : Type 0} (job : Job Local Call Told) (first second : List (Timed Call))
-    (world : World Local) → sent job (first ++ second) world ≡ sent job first world ++ sent job second
+sent-append : {Local Call Told : Type 0} (job : Job Local Call Told) (first second : List (EventAt Call))
+    (world : World Local) → datagrams_sent job (first ++ second) world ≡ datagrams_sent job first world ++ datagrams_sent job second
     (run job first world)
 sent-append job [] second world = refl
 sent-append job (timed ∷ rest) second world =
     let after = world_after job world timed in
     let now = sends_at job world timed.now (falls job.settings world timed.event) in
     ap (λ (more : List Packet). now ++ more) (sent-append job rest second after)
-    ∙ sym (append_assoc now (sent job rest after) (sent job second (run job rest after)))
+    ∙ sym (append_assoc now (datagrams_sent job rest after) (datagrams_sent job second (run job rest after)))
 
 -- what a list was made from
 map_had : (f : Packet → ℕ × List ℕ) (packets : List Packet) (d : ℕ × List ℕ) → Contains (map f packets) d
@@ -64,16 +64,16 @@ map_had f (packet ∷ packets) d (suc place, low, is) =
 -- of machines and the world after these events, and of the datagrams that were given
 pub record Follows
     {Kept Own : Type 0} (job : NodeJob Kept Own) (IsKept : (me : ℕ) → Kept → Type 0) (Fits : Kept → Type 0)
-    (Written : Own → Type 0) (start : ℕ → Kept) (past : List (Timed OtherCall)) (world : World Kept)
+    (Written : Own → Type 0) (start : ℕ → Kept) (past : List (EventAt OtherCall)) (world : World Kept)
     (machines : Machines Kept Own) (given : List (ℕ × List ℕ)) : Type 0 where
   pub is : world ≡ run job.job past (opening start)
-  pub among : AllByRecursion (λ (timed : Timed OtherCall). IsAmong job.job.settings timed.event) past
+  pub among : AllByRecursion (λ (timed : EventAt OtherCall). IsAmong job.job.settings timed.event) past
   pub lasts : Lasts job.job IsKept Fits world
   pub same : (node : ℕ) → world node ≡ (machines node).node
   pub written : (node : ℕ) → Written (machines node).own
   -- each datagram that was given is that of a packet that was sent
   pub had : (to : ℕ) (bytes : List ℕ) → Contains given (to, bytes)
-      → (packet : Packet) × Contains (sent job.job past (opening start)) packet
+      → (packet : Packet) × Contains (datagrams_sent job.job past (opening start)) packet
       × (datagram job.job.settings packet ≡ (to, bytes))
 
 -- the opening
@@ -93,7 +93,7 @@ opening_follows job IsKept Fits Written start own kept fits written = record {
 -- each datagram that was given is that of a recorded message
 recorded : {Kept Own : Type 0} (job : NodeJob Kept Own) (IsKept : (me : ℕ) → Kept → Type 0)
     (Fits : Kept → Type 0) (May : NodeEvent OtherCall → Type 0) (Written : Own → Type 0) (start : ℕ → Kept)
-    (past : List (Timed OtherCall)) (world : World Kept) (machines : Machines Kept Own) (given : List (ℕ × List ℕ))
+    (past : List (EventAt OtherCall)) (world : World Kept) (machines : Machines Kept Own) (given : List (ℕ × List ℕ))
     → IsSoundJob job IsKept Fits May Written → ((node : ℕ) → IsKept node (start node))
     → Follows job IsKept Fits Written start past world machines given
     → (to : ℕ) (bytes : List ℕ) → Contains given (to, bytes)
@@ -109,8 +109,8 @@ recorded {Kept} job IsKept Fits May Written start past world machines given J ke
 -- one entry more
 follows_on : {Kept Own : Type 0} (job : NodeJob Kept Own) (IsKept : (me : ℕ) → Kept → Type 0)
     (Fits : Kept → Type 0) (May : NodeEvent OtherCall → Type 0) (Written : Own → Type 0) (start : ℕ → Kept)
-    (past : List (Timed OtherCall)) (world : World Kept) (machines : Machines Kept Own) (given : List (ℕ × List ℕ))
-    (item : NodeEntry) (happened : List (Timed OtherCall))
+    (past : List (EventAt OtherCall)) (world : World Kept) (machines : Machines Kept Own) (given : List (ℕ × List ℕ))
+    (item : NodeEntry) (happened : List (EventAt OtherCall))
     → IsSoundJob job IsKept Fits May Written → Follows job IsKept Fits Written start past world machines given
     → Stage job.job IsKept Fits world item.node item.entry.now (turn_of job machines item).events happened
     → Follows job IsKept Fits Written start (past ++ happened) (run job.job happened world)
@@ -121,15 +121,15 @@ follows_on {Kept} {Own} job IsKept Fits May Written start past world machines gi
     let after = run job.job happened world in
     let here : after node ≡ turn.after.node =
     S.here ∙ ap (node_run job.job node item.entry.now turn.events) (F.same node) in
-    let all_sent : sent job.job (past ++ happened) (opening start)
-    ≡ sent job.job past (opening start) ++ sent job.job happened world =
+    let all_sent : datagrams_sent job.job (past ++ happened) (opening start)
+    ≡ datagrams_sent job.job past (opening start) ++ datagrams_sent job.job happened world =
     sent-append job.job past happened (opening start)
-    ∙ ap (λ (w : World Kept). sent job.job past (opening start) ++ sent job.job happened w) (sym F.is) in
-    let now_sent : sent job.job happened world ≡ turn.packets =
+    ∙ ap (λ (w : World Kept). datagrams_sent job.job past (opening start) ++ datagrams_sent job.job happened w) (sym F.is) in
+    let now_sent : datagrams_sent job.job happened world ≡ turn.packets =
     S.sent_is ∙ ap (node_sends job.job node item.entry.now turn.events) (F.same node) in
     record {
       is = ap (run job.job happened) F.is ∙ sym (run-append job.job past happened (opening start));
-      among = all_append (λ (timed : Timed OtherCall). IsAmong job.job.settings timed.event) past happened
+      among = all_append (λ (timed : EventAt OtherCall). IsAmong job.job.settings timed.event) past happened
           F.among S.among;
       lasts = S.lasts;
       same = λ other. elim (cases_eq other node) [
@@ -150,13 +150,13 @@ follows_on {Kept} {Own} job IsKept Fits May Written start past world machines gi
         | inl was ↦ (let it = F.had to bytes was in (
           it.0,
           subst (λ (packets : List Packet). Contains packets it.0) (sym all_sent)
-              (Contains-append_left (sent job.job past (opening start)) (sent job.job happened world) it.0 it.1),
+              (Contains-append_left (datagrams_sent job.job past (opening start)) (datagrams_sent job.job happened world) it.0 it.1),
           it.2,
         ))
         | inr new ↦ (let it = map_had (datagram job.job.settings) turn.packets (to, bytes) new in (
           it.0,
           subst (λ (packets : List Packet). Contains packets it.0) (sym all_sent)
-              (Contains-append_right (sent job.job past (opening start)) (sent job.job happened world) it.0
+              (Contains-append_right (datagrams_sent job.job past (opening start)) (datagrams_sent job.job happened world) it.0
               (subst (λ (packets : List Packet). Contains packets it.0) (sym now_sent) it.1)),
           it.2,
         ))
@@ -168,21 +168,21 @@ follows_on {Kept} {Own} job IsKept Fits May Written start past world machines gi
 -- the turns of these entries are a run of the world from there
 pub record RunsOn
     {Kept Own : Type 0} (job : NodeJob Kept Own) (machines : Machines Kept Own) (world : World Kept)
-    (items : List NodeEntry) (turns : List (List (Timed OtherCall))) : Type 0 where
+    (items : List NodeEntry) (turns : List (List (EventAt OtherCall))) : Type 0 where
   pub turns_are : AreTurns job machines world items turns
-  pub among : AllByRecursion (λ (timed : Timed OtherCall). IsAmong job.job.settings timed.event) (joined_events turns)
+  pub among : AllByRecursion (λ (timed : EventAt OtherCall). IsAmong job.job.settings timed.event) (joined_events turns)
   pub nodes : (node : ℕ) → run job.job (joined_events turns) world node ≡ (after_all job machines items node).node
   pub answers : answers_of job.job (joined_events turns) world ≡ map OfNode (answers_by_all job machines items)
   pub sent_is : map (datagram job.job.settings)
-      (sent job.job (joined_events turns) world) ≡ given_by_all job machines items
+      (datagrams_sent job.job (joined_events turns) world) ≡ given_by_all job machines items
 
 pub runs_on : {Kept Own : Type 0} (job : NodeJob Kept Own) (IsKept : (me : ℕ) → Kept → Type 0)
     (Fits : Kept → Type 0) (May : NodeEvent OtherCall → Type 0) (Written : Own → Type 0) (start : ℕ → Kept)
-    (past : List (Timed OtherCall)) (world : World Kept) (machines : Machines Kept Own) (given : List (ℕ × List ℕ))
+    (past : List (EventAt OtherCall)) (world : World Kept) (machines : Machines Kept Own) (given : List (ℕ × List ℕ))
     (items : List NodeEntry)
     → IsSoundJob job IsKept Fits May Written → ((node : ℕ) → IsKept node (start node))
     → Follows job IsKept Fits Written start past world machines given → GoInOrder job machines given items
-    → (turns : List (List (Timed OtherCall))) × RunsOn job machines world items turns
+    → (turns : List (List (EventAt OtherCall))) × RunsOn job machines world items turns
 runs_on job IsKept Fits May Written start past world machines given [] J kept F go =
     ([], record { turns_are = tt; among = tt; nodes = F.same; answers = refl; sent_is = refl })
 runs_on {Kept} {Own} job IsKept Fits May Written start past world machines given (item ∷ items) J kept F go =
@@ -203,7 +203,7 @@ runs_on {Kept} {Own} job IsKept Fits May Written start past world machines given
     let answers : answers_of job.job happened world ≡ map OfNode turn.answers =
     S.answers ∙ ap (λ (x : Node Kept). map OfNode (node_answers job.job node item.entry.now turn.events x))
     (F.same node) in
-    let packets : sent job.job happened world ≡ turn.packets =
+    let packets : datagrams_sent job.job happened world ≡ turn.packets =
     S.sent_is ∙ ap (node_sends job.job node item.entry.now turn.events) (F.same node) in (
       happened ∷ more.0,
       record {
@@ -211,14 +211,14 @@ runs_on {Kept} {Own} job IsKept Fits May Written start past world machines given
           record { among = S.among; events = S.events_are; brings = it.2; answers = answers; sends = packets },
           R.turns_are,
         );
-        among = all_append (λ (timed : Timed OtherCall). IsAmong job.job.settings timed.event) happened rest
+        among = all_append (λ (timed : EventAt OtherCall). IsAmong job.job.settings timed.event) happened rest
             S.among R.among;
         nodes = λ other. ap (λ (w : World Kept). w other) (run-append job.job happened rest world) ∙ R.nodes other;
         answers = answers_of-append job.job happened rest world
             ∙ (ap₂ (λ (a b : List (WorldAnswer Answer)). a ++ b) answers R.answers
             ∙ sym (map-append OfNode turn.answers (answers_by_all job later items)));
         sent_is = ap (map (datagram job.job.settings)) (sent-append job.job happened rest world)
-            ∙ (map-append (datagram job.job.settings) (sent job.job happened world) (sent job.job rest after)
+            ∙ (map-append (datagram job.job.settings) (datagrams_sent job.job happened world) (datagrams_sent job.job rest after)
             ∙ ap₂ (λ (a b : List (ℕ × List ℕ)). a ++ b) (ap (map (datagram job.job.settings)) packets) R.sent_is);
       },
     )
@@ -230,7 +230,7 @@ pub run_from_opening : {Kept Own : Type 0} (job : NodeJob Kept Own) (IsKept : (m
     → IsSoundJob job IsKept Fits May Written → ((node : ℕ) → IsKept node (start node))
     → ((node : ℕ) → Fits (start node)) → ((node : ℕ) → Written (own node))
     → GoInOrder job (at_first (opening start) own) [] items
-    → (turns : List (List (Timed OtherCall))) × RunsOn job (at_first (opening start) own) (opening start) items turns
+    → (turns : List (List (EventAt OtherCall))) × RunsOn job (at_first (opening start) own) (opening start) items turns
 run_from_opening job IsKept Fits May Written start own items J kept fits written go =
     runs_on job IsKept Fits May Written start [] (opening start) (at_first (opening start) own) [] items J kept
     (opening_follows job IsKept Fits Written start own kept fits written) go

@@ -12,11 +12,11 @@ use Rattle.wire_message.specs.Parameters.{Parameters, AreInRange}
 use Rattle.wire_message.specs.declared.content.Address.{Address}
 use Rattle.wire_message.specs.declared.kind.Kind.{Kind}
 use Rattle.wire_message.specs.declared.kind.Kind.TheVariants as kind
-use Rattle.wire_message.specs.declared.note.BarrierNote.{BarrierNote}
-use Rattle.wire_message.specs.Content.{Content, addressed, ack, short_request, code, is_ack, is_kind, is_long}
+use Rattle.wire_message.specs.declared.notification.BarrierNotification.{BarrierNotification}
+use Rattle.wire_message.specs.Content.{Content, message_at_address, ack, short_request, code, is_ack, is_kind, is_long}
 use Rattle.wire_message.specs.Content.{IsWellAddressed, IsWellFormed}
 use Rattle.wire_message.specs.Message.{IsMessage}
-use Rattle.wire_message.specs.Notes.{IsNote, note_arguments, argument}
+use Rattle.wire_message.specs.Notifications.{IsNotification, notification_arguments, argument}
 use Rattle.wire_message.proofs.Addressing.{IsForHandler, for_handler, ack_formed}
 use Rattle.wire_message.proofs.Ranges.{is_message}
 use Rattle.part_segment.specs.Bytes.{part}
@@ -27,9 +27,9 @@ use Rattle.part_handlers.specs.Runs.{Frame, IsGood, IsLawful, is_reply_kind}
 use Rattle.spec_node.specs.Behaviour.{Asking, Category, Short, Medium, Long, PayloadFrom, Lent, Own}
 use Rattle.node_core.specs.ClientRules.{said_in, content_by, payload_in, payload_len, asking_fault, asking_faults}
 use Rattle.node_core.specs.ClientRules.{first_bad}
-use Rattle.node_core.specs.Library.{Work, Put, Get, Memset, Note, WorkFits, work_content, get_handler, fetched}
+use Rattle.node_core.specs.Library.{Work, Put, Get, Memset, Notification, WorkFits, work_content, get_handler, fetched_content}
 use Rattle.node_core.specs.Library.{fetch_said}
-use Rattle.node_core.specs.Library.{memset_handler, note_handler, fetch_arguments, fill_arguments}
+use Rattle.node_core.specs.Library.{memset_handler, notification_handler, fetch_arguments, fill_arguments}
 use Rattle.node_core.specs.Library.{has_wrong_args, is_no_fetch, is_beyond, natural, library_reply}
 use Rattle.node_core.specs.HandlerRuns.{reply_or_ack}
 use Rattle.law_traces.specs.Fitting.{AreNumbers, AreBytes, ContentFits, ReplyFits, PayloadFits}
@@ -40,7 +40,7 @@ use Rattle.node_core.proofs.Landings.{payload_small}
 
 -- wherever it goes it has a spelling
 pub record IsSpoken (content : Content) : Type 0 where
-  pub formed : (address : Address) → IsWellAddressed address → IsWellFormed (addressed address content)
+  pub formed : (address : Address) → IsWellAddressed address → IsWellFormed (message_at_address address content)
   pub handler : content.handler < 2 ^ 8
   pub offset : content.offset < 2 ^ 64
   pub fits : ContentFits content
@@ -55,9 +55,9 @@ pub record IsPlace (address : Address) : Type 0 where
   pub number : address.number < 2 ^ 64
 
 pub spoken_message : (address : Address) (content : Content) → IsPlace address → IsSpoken content
-    → IsMessage (addressed address content)
+    → IsMessage (message_at_address address content)
 spoken_message address content at says =
-    is_message (addressed address content) (record {
+    is_message (message_at_address address content) (record {
       job = at.job;
       from = at.from;
       to = at.to;
@@ -258,7 +258,7 @@ library_spoken settings segment content range right bytes = elim (cases_Bool (co
   | inl gets ↦
       let fetch = fetch_said content.args in
       let is = fetched_is settings content gets right in
-      rw gets (spoken_by (fetched segment fetch) (record {
+      rw gets (spoken_by (fetched_content segment fetch) (record {
         kind = refl;
         no_ack = refl;
         some_handler = omega arith;
@@ -273,48 +273,48 @@ library_spoken settings segment content range right bytes = elim (cases_Bool (co
 
 -- ---- requests of the library
 
--- the arguments of a note
-note_numbers : (version nodes : ℕ) (note : BarrierNote) → IsNote nodes note → AreNumbers (note_arguments version note)
-note_numbers version nodes note is = elim (cases_Bool (version == 1)) [
+-- the arguments of a notification
+notification_numbers : (version nodes : ℕ) (notification : BarrierNotification) → IsNotification nodes notification → AreNumbers (notification_arguments version notification)
+notification_numbers version nodes notification is = elim (cases_Bool (version == 1)) [
   | inl first ↦ rw first (
-    high_fits note.phase is.phase,
+    high_fits notification.phase is.phase,
     (
-      low_fits note.phase,
+      low_fits notification.phase,
       (
-        low_fits (slice_index note.mask 0),
+        low_fits (slice_index notification.mask 0),
         (
-          high_fits (slice_index note.mask 0) (is.mask.words 0),
+          high_fits (slice_index notification.mask 0) (is.mask.words 0),
           (
             is.id,
-            (small_fits note.flags (omega (arith, is.flags)), tt),
+            (small_fits notification.flags (omega (arith, is.flags)), tt),
           ),
         ),
       ),
     ),
   )
   | inr second ↦ rw second (
-    high_fits note.phase is.phase,
+    high_fits notification.phase is.phase,
     (
-      low_fits note.phase,
+      low_fits notification.phase,
       (
-        low_fits (slice_index note.mask 0),
+        low_fits (slice_index notification.mask 0),
         (
-          high_fits (slice_index note.mask 0) (is.mask.words 0),
+          high_fits (slice_index notification.mask 0) (is.mask.words 0),
           (
-            low_fits (slice_index note.mask 1),
+            low_fits (slice_index notification.mask 1),
             (
-              high_fits (slice_index note.mask 1) (is.mask.words 1),
+              high_fits (slice_index notification.mask 1) (is.mask.words 1),
               (
-                low_fits (slice_index note.mask 2),
+                low_fits (slice_index notification.mask 2),
                 (
-                  high_fits (slice_index note.mask 2) (is.mask.words 2),
+                  high_fits (slice_index notification.mask 2) (is.mask.words 2),
                   (
-                    low_fits (slice_index note.mask 3),
+                    low_fits (slice_index notification.mask 3),
                     (
-                      high_fits (slice_index note.mask 3) (is.mask.words 3),
+                      high_fits (slice_index notification.mask 3) (is.mask.words 3),
                       (
                         is.id,
-                        (small_fits note.flags (omega (arith, is.flags)), tt),
+                        (small_fits notification.flags (omega (arith, is.flags)), tt),
                       ),
                     ),
                   ),
@@ -328,8 +328,8 @@ note_numbers version nodes note is = elim (cases_Bool (version == 1)) [
   )
 ]
 
-note_few : (version : ℕ) (note : BarrierNote) → length (note_arguments version note) ≤ 16
-note_few version note = elim (cases_Bool (version == 1)) [
+notification_few : (version : ℕ) (notification : BarrierNotification) → length (notification_arguments version notification) ≤ 16
+notification_few version notification = elim (cases_Bool (version == 1)) [
   | inl first ↦ rw first (omega arith)
   | inr second ↦ rw second (omega arith)
 ]
@@ -386,6 +386,6 @@ work_spoken settings segment (Memset remote len byte) range fits bytes =
         ),
       ),
     )
-work_spoken settings segment (Note note) range fits bytes =
-    short_spoken note_handler (note_arguments settings.version note) (omega arith) (omega arith)
-    (note_few settings.version note) (note_numbers settings.version settings.nodes note fits)
+work_spoken settings segment (Notification notification) range fits bytes =
+    short_spoken notification_handler (notification_arguments settings.version notification) (omega arith) (omega arith)
+    (notification_few settings.version notification) (notification_numbers settings.version settings.nodes notification fits)

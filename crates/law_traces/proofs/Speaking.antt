@@ -22,9 +22,9 @@ use Rattle.spec_node.specs.declared.answer.Asked.TheVariants as asked
 use Rattle.spec_node.specs.declared.answer.Why.{Why}
 use Rattle.spec_node.specs.declared.answer.Why.TheVariants as why
 use Rattle.spec_node.specs.Record.{Request, Node}
-use Rattle.spec_node.specs.Requests.{unreturned, next_claim, free_slot}
+use Rattle.spec_node.specs.Requests.{outstanding, next_claim, free_slot}
 use Rattle.spec_node.specs.Behaviour.{Behaviour, Ask, Sending, Contact}
-use Rattle.spec_node.specs.Step.{said, request_answer, after_request, address_fault, first_why, Verdict}
+use Rattle.spec_node.specs.Step.{request_content, request_answer, after_request, address_fault, first_why, Verdict}
 use Rattle.spec_node.specs.Step.{Runs, Returns, verdict, with_sender, with_itself}
 use Rattle.spec_node.specs.Step.{after_delivery, TickChoice, Retransmits, Sends, Rests, tick_choice, next_due, can_ask}
 use Rattle.spec_node.specs.Step.{after_tick, slots_for, with_asked}
@@ -41,7 +41,7 @@ use Rattle.part_transfers.specs.declared.operation.Transfer.TheVariants as trans
 use Rattle.part_transfers.specs.Operation.{size}
 use Rattle.node_core.specs.Kept.{Local, segment_of, with_writes}
 use Rattle.node_core.specs.ClientRules.{rules}
-use Rattle.node_core.specs.Library.{Note, note_handler}
+use Rattle.node_core.specs.Library.{Notification, notification_handler}
 use Rattle.node_rules.specs.EndpointLocal.{EndpointLocal, IsEndpointKept, nothing_begun}
 use Rattle.node_rules.specs.Called.{Requests, Performs, node_event}
 use Rattle.node_rules.specs.CoreCalls.{SetCell, OnSegment}
@@ -61,8 +61,8 @@ use Rattle.node_rules.specs.declared.answer.Local.{Local as LocalAnswer}
 use Rattle.node_rules.specs.declared.answer.Local.TheVariants as local_answers
 use Rattle.node_rules.proofs.Kept.{IsFaultless, done_says}
 use Rattle.node_rules.proofs.Handled.{asking_well, run_replies}
-use Rattle.node_rules.proofs.Sending.{IsSent, IsNote, IsChunk, sending_is}
-use Rattle.node_rules.proofs.Works.{note_work_fits, chunk_work_fits, sending_well}
+use Rattle.node_rules.proofs.Sending.{IsSent, IsNotification, IsChunk, sending_is}
+use Rattle.node_rules.proofs.Works.{notification_work_fits, chunk_work_fits, sending_well}
 use Rattle.node_rules.proofs.Frames.{call_framed}
 use Rattle.law_traces.specs.Fitting.{CoreFits, KeptFits, CallFits, OtherFits, ContentFits, PayloadFits, AreNumbers}
 use Rattle.law_traces.specs.Fitting.{AreBytes, WriteBytes, IsFittingJob}
@@ -90,7 +90,7 @@ place_is settings table meaning from to slot number job from_in to_in apart slot
 -- the next claim of a pair
 claim_place : (settings : Parameters) (table : List (Option Entry)) (meaning : Meaning) (me to : ℕ)
     (requests : List Request) → IsFittingJob settings table meaning → me < settings.nodes → to < settings.nodes
-    → to ≢ me → length requests < settings.last → unreturned requests < credits_of settings me to
+    → to ≢ me → length requests < settings.last → outstanding requests < credits_of settings me to
     → IsPlace (address_in settings me to (next_claim requests).slot (next_claim requests).number)
 claim_place settings table meaning me to requests job here there other left free =
     let few = (few_credits settings job.range me to).few in
@@ -108,7 +108,7 @@ ask_spelled : (settings : Parameters) (table : List (Option Entry)) (meaning : M
 ask_spelled settings table meaning me now node ask (asked.Accepted to slot number) job here fits args payload e =
     let site = site_of (job_of settings table meaning) me in
     let says = accepted_says site node ask to slot number e in
-    let content = said site node ask in
+    let content = request_content site node ask in
     let spoken = asked_spoken settings table (segment_of settings node.local.core) ask.what job.range job.indexes
     says.faultless args payload (bytes_image settings.segment node.local.core.writes fits.writes) in
     let place = claim_place settings table meaning me ask.to (node.asked ask.to) job here says.to_in says.other
@@ -173,10 +173,10 @@ sending_spoken settings table meaning me can local sending job fits kept is =
     bytes = bytes_image settings.segment local.core.writes fits.writes
 
     by_kind : IsSent settings me can local sending → IsSpoken sending.content
-    by_kind (IsNote sent note_is same) =
+    by_kind (IsNotification sent notification_is same) =
         subst (λ (one : Sending). IsSpoken one.content) (sym same)
-        (work_spoken settings segment (Note sent.note) job.range
-        (note_work_fits settings me can local sent job.range kept note_is) bytes)
+        (work_spoken settings segment (Notification sent.notification) job.range
+        (notification_work_fits settings me can local sent job.range kept notification_is) bytes)
     by_kind (IsChunk next next_is same) =
         subst (λ (one : Sending). IsSpoken one.content) (sym same)
         (work_spoken settings segment (chunk_work next) job.range
@@ -209,7 +209,7 @@ ask_fits : (settings : Parameters) (table : List (Option Entry)) (meaning : Mean
     → KeptFits (after_request (site_of (job_of settings table meaning) me) node now ask answer).local
 ask_fits settings table meaning me now node ask asked.Ran job here fits args payload e =
     let site = site_of (job_of settings table meaning) me in
-    let content = said site node ask in
+    let content = request_content site node ask in
     let faultless = here_says site node ask e in
     let segment = segment_of settings node.local.core in
     let spoken = asked_spoken settings table segment ask.what job.range job.indexes faultless args payload
@@ -241,8 +241,8 @@ delivery_fits settings table meaning me node message _ job fits is from e = fits
 
 sent_fits : (settings : Parameters) (contact : Contact) (content : Content) (local : EndpointLocal) → KeptFits local
     → KeptFits (after_sent settings contact content local)
-sent_fits settings contact content local fits = elim (cases_Bool (content.handler == note_handler)) [
-  | inl note ↦ rw note fits
+sent_fits settings contact content local fits = elim (cases_Bool (content.handler == notification_handler)) [
+  | inl notification ↦ rw notification fits
   | inr chunk ↦ rw chunk fits
 ]
 

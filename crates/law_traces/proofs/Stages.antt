@@ -7,12 +7,12 @@ use Rattle.wire_message.specs.Content.{Content}
 use Rattle.base_lists.proofs.Put.{put_same, put_other}
 use Rattle.spec_node.specs.NodeStep.{Job, IsAllSound, NodeEvent, Comes, node_after}
 use Rattle.spec_node.proofs.Runs.{run_of_there}
-use Rattle.spec_network.specs.World.{World, Event, Asks, Does, RequestComes, ReplyComes, Timed, Fall, WorldAnswer}
+use Rattle.spec_network.specs.World.{World, Event, Asks, Does, RequestComes, ReplyComes, EventAt, Fall, WorldAnswer}
 use Rattle.spec_network.specs.World.{OfNode}
 use Rattle.spec_network.specs.World.{falls, request_event, reply_event, answer_at, after_at, world_after, run}
 use Rattle.spec_network.specs.World.{answers_of}
 use Rattle.spec_network.specs.World.{IsAmong}
-use Rattle.spec_network.specs.Sent.{Packet, Asking, Replying, sender, IsRecorded, sends_at, sent}
+use Rattle.spec_network.specs.Sent.{Packet, Asking, Replying, sender, IsRecorded, sends_at, datagrams_sent}
 use Rattle.node_rules.specs.Called.{Requests, Performs, node_event}
 use Rattle.node_rules.specs.EndpointRules.{OtherCall}
 use Rattle.node_rules.specs.declared.answer.Answer.{Answer}
@@ -24,11 +24,11 @@ use Rattle.law_traces.proofs.Lasting.{AreSpoken, Lasts, lasts_on}
 -- these events of the world are those of the node at that time
 pub record Stage
     {Local Call Told : Type 0} (job : Job Local Call Told) (IsKept : (me : ℕ) → Local → Type 0) (Fits : Local → Type 0)
-    (world : World Local) (node now : ℕ) (events : List (NodeEvent Call)) (happened : List (Timed Call)) : Type 0 where
-  pub among : AllByRecursion (λ (timed : Timed Call). IsAmong job.settings timed.event) happened
+    (world : World Local) (node now : ℕ) (events : List (NodeEvent Call)) (happened : List (EventAt Call)) : Type 0 where
+  pub among : AllByRecursion (λ (timed : EventAt Call). IsAmong job.settings timed.event) happened
   pub events_are : AreEvents job world node now events happened
   pub answers : answers_of job happened world ≡ map OfNode (node_answers job node now events (world node))
-  pub sent_is : sent job happened world ≡ node_sends job node now events (world node)
+  pub sent_is : datagrams_sent job happened world ≡ node_sends job node now events (world node)
   pub lasts : Lasts job IsKept Fits (run job happened world)
   pub here : run job happened world node ≡ node_run job node now events (world node)
   pub others : (other : ℕ) → other ≢ node → run job happened world other ≡ world other
@@ -48,7 +48,7 @@ stage_none job IsKept Fits world node now L = record {
 
 -- the node after what falls on it
 pub fallen_here : {Local Call Told : Type 0} (job : Job Local Call Told) (world : World Local) (node : ℕ)
-    (event : NodeEvent Call) (timed : Timed Call)
+    (event : NodeEvent Call) (timed : EventAt Call)
     → falls job.settings world timed.event ≡ Some (record { node = node; event = event })
     → world_after job world timed node ≡ node_after job node (world node) timed.now event
 fallen_here {Call = Call} job world node event timed is =
@@ -58,22 +58,22 @@ fallen_here {Call = Call} job world node event timed is =
 
 -- each other node
 pub fallen_other : {Local Call Told : Type 0} (job : Job Local Call Told) (world : World Local) (node : ℕ)
-    (event : NodeEvent Call) (timed : Timed Call)
+    (event : NodeEvent Call) (timed : EventAt Call)
     → falls job.settings world timed.event ≡ Some (record { node = node; event = event })
     → (other : ℕ) → other ≢ node → world_after job world timed other ≡ world other
 fallen_other {Call = Call} job world node event timed is other apart =
     subst (λ (o : Option (Fall Call)). after_at job world timed.now o other ≡ world other) (sym is)
     (put_other world node (node_after job node (world node) timed.now event) other apart)
 
--- one event more, at the front
+-- one event more, at the prefix
 pub stage_more : {Local Call Told : Type 0} (job : Job Local Call Told) (IsKept : (me : ℕ) → Local → Type 0)
     (Fits : Local → Type 0) (world : World Local) (node now : ℕ) (event : NodeEvent Call) (first : Event Call)
-    (events : List (NodeEvent Call)) (happened : List (Timed Call)) → IsAmong job.settings first
+    (events : List (NodeEvent Call)) (happened : List (EventAt Call)) → IsAmong job.settings first
     → falls job.settings world first ≡ Some (record { node = node; event = event })
     → Stage job IsKept Fits (world_after job world (record { now = now; event = first })) node now events happened
     → Stage job IsKept Fits world node now (event ∷ events) (record { now = now; event = first } ∷ happened)
 stage_more {Call = Call} {Told = Told} job IsKept Fits world node now event first events happened among is S =
-    let timed : Timed Call = record { now = now; event = first } in
+    let timed : EventAt Call = record { now = now; event = first } in
     let after = world_after job world timed in
     let here : after node ≡ node_after job node (world node) now event = fallen_here job world node event timed is in
     record {
@@ -96,13 +96,13 @@ pub try_stage : {Local : Type 0} (job : Job Local OtherCall Answer) (IsKept : (m
     (calls : List ThreadCall) → IsAllSound job.behaviour IsKept → AreSpoken job IsKept Fits May
     → node < job.settings.nodes → Lasts job IsKept Fits world
     → AllByRecursion (λ (made : ThreadCall). May (node_event thread made)) calls
-    → (happened : List (Timed OtherCall)) × Stage job IsKept Fits world node now (events_of thread calls) happened
+    → (happened : List (EventAt OtherCall)) × Stage job IsKept Fits world node now (events_of thread calls) happened
 try_stage job IsKept Fits May world node now thread [] sound spoken here L may =
     ([], stage_none job IsKept Fits world node now L)
 try_stage job IsKept Fits May world node now thread (Requests to asking ∷ calls) sound spoken here L may =
     let call = Requests to asking in
     let first : Event OtherCall = Asks node (record { thread = thread; to = to; what = asking }) in
-    let timed : Timed OtherCall = record { now = now; event = first } in
+    let timed : EventAt OtherCall = record { now = now; event = first } in
     let later = try_stage job IsKept Fits May (world_after job world timed) node now thread calls sound spoken here
     (lasts_on job IsKept Fits May world node (node_event thread call) timed sound spoken L here refl may.0) may.1 in (
       timed ∷ later.0,
@@ -112,7 +112,7 @@ try_stage job IsKept Fits May world node now thread (Requests to asking ∷ call
 try_stage job IsKept Fits May world node now thread (Performs done ∷ calls) sound spoken here L may =
     let call = Performs done in
     let first : Event OtherCall = Does node thread done in
-    let timed : Timed OtherCall = record { now = now; event = first } in
+    let timed : EventAt OtherCall = record { now = now; event = first } in
     let later = try_stage job IsKept Fits May (world_after job world timed) node now thread calls sound spoken here
     (lasts_on job IsKept Fits May world node (node_event thread call) timed sound spoken L here refl may.0) may.1 in (
       timed ∷ later.0,

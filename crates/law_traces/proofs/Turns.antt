@@ -10,7 +10,7 @@ use Rattle.wire_message.specs.Refusals.{first_refusal}
 use Rattle.wire_message.proofs.Laws.{again}
 use Rattle.spec_node.specs.Record.{Node}
 use Rattle.spec_node.specs.NodeStep.{IsAllSound, NodeEvent, Comes, Ticks as NodeTicks, node_after}
-use Rattle.spec_network.specs.World.{World, Event, Ticks, Timed, falls, world_after}
+use Rattle.spec_network.specs.World.{World, Event, Ticks, EventAt, falls, world_after}
 use Rattle.spec_network.specs.Sent.{Packet, Asking, Replying, IsRecorded, sender}
 use Rattle.node_rules.specs.Called.{node_event}
 use Rattle.node_rules.specs.EndpointRules.{OtherCall}
@@ -48,9 +48,9 @@ pub record Taken (Own : Type 0) : Type 0 where
 
 -- the events of a turn by what comes in it
 abbrev pub events_by : {Kept Own : Type 0} → NodeJob Kept Own → (me : ℕ) → Taken Own → (polls : Bool)
-    → (front : List (NodeEvent OtherCall)) → Node Kept → List (NodeEvent OtherCall)
-events_by job me taken polls front node =
-    let first : List (NodeEvent OtherCall) = cond polls (front ++ NodeTicks ∷ []) [] in
+    → (prefix : List (NodeEvent OtherCall)) → Node Kept → List (NodeEvent OtherCall)
+events_by job me taken polls prefix node =
+    let first : List (NodeEvent OtherCall) = cond polls (prefix ++ NodeTicks ∷ []) [] in
     first ++ try_events job me taken.thread taken.now taken.own (node_run job.job me taken.now first node)
 
 -- the bytes of a message: it comes
@@ -71,11 +71,11 @@ comes_is Call version bytes message is same spelled =
 -- the try alone
 try_on : {Kept Own : Type 0} (job : NodeJob Kept Own) (IsKept : (me : ℕ) → Kept → Type 0) (Fits : Kept → Type 0)
     (May : NodeEvent OtherCall → Type 0) (Written : Own → Type 0) (world : World Kept) (node : ℕ) (taken : Taken Own)
-    (front : List (NodeEvent OtherCall)) → IsSoundJob job IsKept Fits May Written → node < job.job.settings.nodes
+    (prefix : List (NodeEvent OtherCall)) → IsSoundJob job IsKept Fits May Written → node < job.job.settings.nodes
     → Lasts job.job IsKept Fits world → Written taken.own
-    → (happened : List (Timed OtherCall))
-    × Stage job.job IsKept Fits world node taken.now (events_by job node taken false front (world node)) happened
-try_on job IsKept Fits May Written world node taken front J here L W =
+    → (happened : List (EventAt OtherCall))
+    × Stage job.job IsKept Fits world node taken.now (events_by job node taken false prefix (world node)) happened
+try_on job IsKept Fits May Written world node taken prefix J here L W =
     let at = context job node taken.thread taken.now in
     try_stage job.job IsKept Fits May world node taken.now taken.thread (job.scripts.calls at taken.own (world node))
     J.sound J.spoken here L (J.written.calls at taken.own (world node) W (L.fits node))
@@ -85,11 +85,11 @@ tick_on : {Kept Own : Type 0} (job : NodeJob Kept Own) (IsKept : (me : ℕ) → 
     (May : NodeEvent OtherCall → Type 0) (Written : Own → Type 0) (world : World Kept) (node : ℕ) (taken : Taken Own)
     → IsSoundJob job IsKept Fits May Written → node < job.job.settings.nodes
     → Lasts job.job IsKept Fits world → Written taken.own
-    → (happened : List (Timed OtherCall))
+    → (happened : List (EventAt OtherCall))
     × Stage job.job IsKept Fits world node taken.now (events_by job node taken true [] (world node)) happened
 tick_on {Kept} job IsKept Fits May Written world node taken J here L W =
     let first : Event OtherCall = Ticks node in
-    let timed : Timed OtherCall = record { now = taken.now; event = first } in
+    let timed : EventAt OtherCall = record { now = taken.now; event = first } in
     let after = world_after job.job world timed in
     let same : after node ≡ node_after job.job node (world node) taken.now NodeTicks =
     fallen_here job.job world node NodeTicks timed refl in
@@ -109,13 +109,13 @@ come_on : {Kept Own : Type 0} (job : NodeJob Kept Own) (IsKept : (me : ℕ) → 
     → IsMessage (packet_message job.job.settings packet)
     → falls {Call = OtherCall} job.job.settings world (delivery packet)
     ≡ Some (record { node = node; event = Comes (packet_message job.job.settings packet) })
-    → (happened : List (Timed OtherCall))
+    → (happened : List (EventAt OtherCall))
     × Stage job.job IsKept Fits world node taken.now
     (events_by job node taken true (Comes (packet_message job.job.settings packet) ∷ []) (world node))
     (record { now = taken.now; event = delivery packet } ∷ happened)
 come_on {Kept} job IsKept Fits May Written world node taken packet J here L W recorded is falls_so =
     let first : Event OtherCall = delivery packet in
-    let timed : Timed OtherCall = record { now = taken.now; event = first } in
+    let timed : EventAt OtherCall = record { now = taken.now; event = first } in
     let event : NodeEvent OtherCall = Comes (packet_message job.job.settings packet) in
     let after = world_after job.job world timed in
     let there = recorded_among job.job IsKept world packet L.holds recorded in
@@ -148,7 +148,7 @@ turn_from : {Kept Own : Type 0} (job : NodeJob Kept Own) (IsKept : (me : ℕ) �
     → (packet : Packet) × IsRecorded world packet × (datagram job.job.settings packet ≡ (to, bytes)))
     → MayGet job node (record { node = world node; own = taken.own; outgoing = []; answer = None }) given taken.thread
     got
-    → (happened : List (Timed OtherCall))
+    → (happened : List (EventAt OtherCall))
     × Stage job.job IsKept Fits world node taken.now
     (events_by job node taken (job.polls taken.thread (world node).local) (comes job.job.settings.version got)
     (world node)) happened
@@ -181,11 +181,11 @@ turn_from job IsKept Fits May Written world node taken given (Some bytes) J here
     recorded_falls settings world packet had.1
     ∙ ap (λ (n : ℕ). Some (record { node = n; event = Comes message })) to in
     let it = come_on job IsKept Fits May Written world node taken packet J here L W had.1 is falls_so in
-    let happened : List (Timed OtherCall) = record { now = taken.now; event = delivery packet } ∷ it.0 in
+    let happened : List (EventAt OtherCall) = record { now = taken.now; event = delivery packet } ∷ it.0 in
     let polled = subst (λ (b : Bool). Stage job.job IsKept Fits world node taken.now
     (events_by job node taken b (Comes message ∷ []) (world node)) happened) (sym may.0) it.1 in
-    let whole = subst (λ (front : List (NodeEvent OtherCall)). Stage job.job IsKept Fits world node taken.now
-    (events_by job node taken (job.polls taken.thread (world node).local) front (world node)) happened)
+    let whole = subst (λ (prefix : List (NodeEvent OtherCall)). Stage job.job IsKept Fits world node taken.now
+    (events_by job node taken (job.polls taken.thread (world node).local) prefix (world node)) happened)
     (sym (comes_is OtherCall settings.version bytes message is (version_is settings packet) spelled)) polled in
     (happened, whole, (message, record { fits = is; is = sym spelled }, falls_so))
 
@@ -198,7 +198,7 @@ pub turn_on : {Kept Own : Type 0} (job : NodeJob Kept Own) (IsKept : (me : ℕ) 
     → ((to : ℕ) (bytes : List ℕ) → Contains given (to, bytes)
     → (packet : Packet) × IsRecorded world packet × (datagram job.job.settings packet ≡ (to, bytes)))
     → MayGet job node state given thread got
-    → (happened : List (Timed OtherCall))
+    → (happened : List (EventAt OtherCall))
     × Stage job.job IsKept Fits world node now (turn_events job node state thread now got) happened
     × Brings job.job.settings world node got happened
 turn_on {Kept} {Own} job IsKept Fits May Written world node thread now state given got J here L same W recorded may =

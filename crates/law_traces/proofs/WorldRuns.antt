@@ -5,9 +5,9 @@ use Rattle.std.specs.List.{slice_get}
 use Rattle.wire_message.specs.Parameters.{Parameters}
 use Rattle.part_handlers.specs.declared.table.Entry.{Entry as TableEntry}
 use Rattle.part_handlers.specs.Runs.{Meaning}
-use Rattle.spec_node.specs.Held.{held}
+use Rattle.spec_node.specs.Held.{held_buffers}
 use Rattle.spec_node.proofs.Holding.{held_nothing}
-use Rattle.spec_network.specs.World.{Timed}
+use Rattle.spec_network.specs.World.{EventAt}
 use Rattle.spec_network.specs.Headline.{IsGreatest}
 use Rattle.spec_network.proofs.Headline.{headline, run_greatest}
 use Rattle.node_rules.specs.EndpointLocal.{EndpointLocal, IsEndpointKept, nothing_begun}
@@ -17,20 +17,20 @@ use Rattle.node_rules.proofs.Sound.{rules_sound}
 use Rattle.law_transfers.proofs.Laws.{transfers_hold}
 use Rattle.law_barrier.proofs.Laws.{barrier_holds}
 use Rattle.base_turns.specs.declared.entry.Entry.{Entry}
-use Rattle.base_turns.specs.Fronts.{start, full, GoesOn}
+use Rattle.base_turns.specs.Prefixes.{start, full, GoesOn}
 use Rattle.base_turns.specs.Replay.{Steps}
 use Rattle.law_traces.specs.Scripts.{Scripts}
 use Rattle.law_traces.specs.Actions.{Reading, OwnScripts, scripts_of, ActionsMay}
 use Rattle.law_traces.specs.Turn.{MachineState}
-use Rattle.law_traces.specs.Order.{Ranked, NodeEntry, own_entries, job_steps, GoInOrder}
-use Rattle.law_traces.specs.Merged.{nodes_from, order_of, Carries, carried}
+use Rattle.law_traces.specs.Order.{RankedMachine, NodeEntry, own_entries, job_steps, GoInOrder}
+use Rattle.law_traces.specs.Merged.{nodes_from, order_of, Carries, with_machine_of}
 use Rattle.law_traces.specs.Fitting.{KeptFits, CallFits, CollectivesFit, IsFittingJob}
 use Rattle.law_traces.specs.WorldRun.{IsWorldRun, endpoint_job, opening_machines, joined_events}
 use Rattle.law_traces.proofs.Turns.{AreWritten}
 use Rattle.law_traces.proofs.Runs.{run_from_opening}
 use Rattle.law_traces.proofs.Acting.{are_written}
 use Rattle.law_traces.proofs.Carrying.{goes_back, start_same, full_same, order_same}
-use Rattle.law_traces.proofs.Fronting.{after_own, merged_order, merged_own}
+use Rattle.law_traces.proofs.Prefixing.{after_own, merged_order, merged_own}
 use Rattle.law_traces.proofs.Mosts.{run_most}
 use Rattle.law_traces.proofs.Speaking.{EventFits, are_spoken, call_event_fits, opening_fits}
 
@@ -41,7 +41,7 @@ world_run : {Own : Type 0} (settings : Parameters) (table : List (Option TableEn
     → AreWritten (endpoint_job settings table meaning scripts) KeptFits EventFits Written
     → ((node : ℕ) → Written (own node))
     → GoInOrder (endpoint_job settings table meaning scripts) (opening_machines settings own) [] items
-    → (turns : List (List (Timed OtherCall))) × IsWorldRun settings table meaning scripts own items turns
+    → (turns : List (List (EventAt OtherCall))) × IsWorldRun settings table meaning scripts own items turns
 world_run {Own} settings table meaning scripts Written own items fitting calls written go =
     let job = endpoint_job settings table meaning scripts in
     let sound = rules_sound settings table meaning fitting.range fitting.lawful in
@@ -73,7 +73,7 @@ world_run {Own} settings table meaning scripts Written own items fitting calls w
       },
     )
   where
-    none : (node : ℕ) → held settings node (at_the_opening settings node) ≤ 0
+    none : (node : ℕ) → held_buffers settings node (at_the_opening settings node) ≤ 0
     none node = let e = held_nothing settings node (nothing_begun settings) in omega (arith, e)
 
 -- of scripts whose actions are read as forms
@@ -82,7 +82,7 @@ pub scripts_run : {Action : Type 0} (settings : Parameters) (table : List (Optio
     → IsFittingJob settings table meaning
     → ((node : ℕ) → ActionsMay KeptFits CallFits CollectivesFit form (own node))
     → GoInOrder (endpoint_job settings table meaning (scripts_of form)) (opening_machines settings own) [] items
-    → (turns : List (List (Timed OtherCall)))
+    → (turns : List (List (EventAt OtherCall)))
     × IsWorldRun settings table meaning (scripts_of form) own items turns
 scripts_run settings table meaning form own items fitting acts go =
     world_run settings table meaning (scripts_of form) (ActionsMay KeptFits CallFits CollectivesFit form) own items fitting
@@ -97,7 +97,7 @@ pub merged_run : {Action : Type 0} (settings : Parameters) (table : List (Option
     → length traces ≤ settings.nodes
     → let nodes = nodes_from (opening_machines settings own) 0 traces in
     GoesOn (job_steps (endpoint_job settings table meaning (scripts_of form))) nodes (start nodes) list (full nodes)
-    → (turns : List (List (Timed OtherCall)))
+    → (turns : List (List (EventAt OtherCall)))
     × IsWorldRun settings table meaning (scripts_of form) own (order_of nodes (start nodes) list) turns
     × ((node : ℕ) (trace : List Entry) → slice_get traces node ≡ Some trace
     → own_entries node (order_of nodes (start nodes) list) ≡ trace)
@@ -111,25 +111,25 @@ merged_run settings table meaning form own traces list fitting acts few go =
 
 -- of states with more in them
 pub states_run : {Action State : Type 0} (settings : Parameters) (table : List (Option TableEntry)) (meaning : Meaning)
-    (form : Reading EndpointLocal Action) (become : Ranked EndpointLocal (OwnScripts Action) → State)
+    (form : Reading EndpointLocal Action) (become : RankedMachine EndpointLocal (OwnScripts Action) → State)
     (steps : Steps State) (own : ℕ → OwnScripts Action) (traces : List (List Entry)) (list : List ℕ)
     → IsFittingJob settings table meaning
     → ((node : ℕ) → ActionsMay KeptFits CallFits CollectivesFit form (own node))
     → length traces ≤ settings.nodes
     → Carries become (job_steps (endpoint_job settings table meaning (scripts_of form))) steps
-    → let nodes = map (carried become) (nodes_from (opening_machines settings own) 0 traces) in
+    → let nodes = map (with_machine_of become) (nodes_from (opening_machines settings own) 0 traces) in
     GoesOn steps nodes (start nodes) list (full nodes)
-    → (turns : List (List (Timed OtherCall)))
+    → (turns : List (List (EventAt OtherCall)))
     × IsWorldRun settings table meaning (scripts_of form) own (order_of nodes (start nodes) list) turns
     × ((node : ℕ) (trace : List Entry) → slice_get traces node ≡ Some trace
     → own_entries node (order_of nodes (start nodes) list) ≡ trace)
 states_run settings table meaning form become steps own traces list fitting acts few carries go =
     let nodes = nodes_from (opening_machines settings own) 0 traces in
-    let same : order_of (map (carried become) nodes) (start (map (carried become) nodes)) list
+    let same : order_of (map (with_machine_of become) nodes) (start (map (with_machine_of become) nodes)) list
     ≡ order_of nodes (start nodes) list =
-    order_same become nodes (start (map (carried become) nodes)) list
-    ∙ ap (λ (front : List ℕ). order_of nodes front list) (start_same become nodes) in
-    let gone = subst₂ (λ (front to : List ℕ). GoesOn steps (map (carried become) nodes) front list to)
+    order_same become nodes (start (map (with_machine_of become) nodes)) list
+    ∙ ap (λ (prefix : List ℕ). order_of nodes prefix list) (start_same become nodes) in
+    let gone = subst₂ (λ (prefix to : List ℕ). GoesOn steps (map (with_machine_of become) nodes) prefix list to)
     (start_same become nodes) (full_same become nodes) go in
     let it = merged_run settings table meaning form own traces list fitting acts few
     (goes_back become (job_steps (endpoint_job settings table meaning (scripts_of form))) steps carries nodes list

@@ -10,7 +10,7 @@ use Rattle.node_rules.specs.declared.answer.Answer.{Answer}
 use Rattle.node_collectives.specs.CollectivesState.{CollectivesState}
 use Rattle.law_traces.specs.declared.script_answer.ScriptAnswer.{ScriptAnswer}
 use Rattle.law_traces.specs.declared.script_answer.ScriptAnswer.TheVariants as said
-use Rattle.law_traces.specs.Scripts.{ThreadCall, Tried, TryContext, Scripts}
+use Rattle.law_traces.specs.Scripts.{ThreadCall, TryResult, TryContext, Scripts}
 
 -- what one try of a step that makes several calls does: these calls, in this order; the answer of the step, where the
 -- try ends it; and how far the node's collectives are then, where it changes that
@@ -137,7 +137,7 @@ progress_after form action rest began ended answer =
 -- how a try of this form went
 abbrev pub tried_form : {Kept Action : Type 0}
     → Form Kept → (action : Action) → (rest : List Action) → (began : Option Answer)
-    → (after : Node Kept) → (answer : Option Answer) → Tried (Progress Action)
+    → (after : Node Kept) → (answer : Option Answer) → TryResult (Progress Action)
 tried_form form action rest began after answer =
     let ended = ended_by form began after answer in
     record {
@@ -149,7 +149,7 @@ tried_form form action rest began after answer =
 -- how a try of the thread's next step went, where this is left of its script
 abbrev pub tried_step : {Kept Action : Type 0}
     → Reading Kept Action → StepContext → (began : Option Answer) → (left : List Action) → (before after : Node Kept)
-    → (answer : Option Answer) → Tried (Progress Action)
+    → (answer : Option Answer) → TryResult (Progress Action)
 tried_step form at began [] before after answer =
     record { left = record { left = []; began = began }; ended = None; began = false }
 tried_step form at began (action ∷ rest) before after answer =

@@ -3,11 +3,11 @@
 use Rattle.std.specs.Prelude.{ℕ, ◌≡◌, false, [], Option, None}
 use Rattle.spec_node.specs.Record.{Node}
 use Rattle.node_rules.specs.declared.answer.Answer.{Answer}
-use Rattle.law_traces.specs.Scripts.{NodeJob, Tried, TryContext}
+use Rattle.law_traces.specs.Scripts.{NodeJob, TryResult, TryContext}
 use Rattle.law_traces.specs.Turn.{MachineState, turn, context, try_events, try_answer, node_run, node_sends}
 
 -- how a try went of a node with this record
-abbrev pub tried_at : {Kept Own : Type 0} → NodeJob Kept Own → (me thread now : ℕ) → Own → Node Kept → Tried Own
+abbrev pub tried_at : {Kept Own : Type 0} → NodeJob Kept Own → (me thread now : ℕ) → Own → Node Kept → TryResult Own
 tried_at job me thread now own node =
     job.scripts.tried (context job me thread now) own node
     (node_run job.job me now (try_events job me thread now own node) node) (try_answer job me thread now own node)

@@ -7,19 +7,19 @@ use Rattle.wire_message.specs.Content.{is_version}
 use Rattle.part_handlers.specs.declared.table.Entry.{Entry as TableEntry}
 use Rattle.part_handlers.specs.Runs.{Meaning, IsLawfulMeaning}
 use Rattle.spec_node.specs.Record.{Node as Record}
-use Rattle.spec_network.specs.World.{Timed}
+use Rattle.spec_network.specs.World.{EventAt}
 use Rattle.node_rules.specs.EndpointLocal.{EndpointLocal, IsEndpointKept}
 use Rattle.node_rules.specs.EndpointRules.{OtherCall, RecordEvent, job_of}
 use Rattle.node_rules.specs.declared.answer.Answer.{Answer}
 use Rattle.base_turns.specs.declared.entry.Entry.{Entry}
-use Rattle.base_turns.specs.Fronts.{Node, start, full, Reaches}
+use Rattle.base_turns.specs.Prefixes.{Node, start, full, Reaches}
 use Rattle.base_turns.specs.Replay.{Steps}
 use Rattle.law_traces.specs.Scripts.{NodeJob, TryContext}
 use Rattle.law_traces.specs.Turn.{MachineState, turn_events}
 use Rattle.law_traces.specs.Outgoing.{StaysWell, ComesFirst, SentStands}
 use Rattle.law_traces.specs.Actions.{Reading, OwnScripts, scripts_of, ActionsMay}
-use Rattle.law_traces.specs.Order.{Ranked, job_steps, NodeEntry, own_entries, GoInOrder}
-use Rattle.law_traces.specs.Merged.{nodes_from, order_of, Carries, carried}
+use Rattle.law_traces.specs.Order.{RankedMachine, job_steps, NodeEntry, own_entries, GoInOrder}
+use Rattle.law_traces.specs.Merged.{nodes_from, order_of, Carries, with_machine_of}
 use Rattle.law_traces.specs.Fitting.{AreBytes, KeptFits, CallFits, CollectivesFit, IsFittingJob}
 use Rattle.law_traces.specs.WorldRun.{IsWorldRun, endpoint_job, opening_machines}
 
@@ -38,22 +38,22 @@ IsOrderARun {Action} form =
     (items : List NodeEntry)
     → MayRun settings table meaning form own
     → GoInOrder (endpoint_job settings table meaning (scripts_of form)) (opening_machines settings own) [] items
-    → (turns : List (List (Timed OtherCall)))
+    → (turns : List (List (EventAt OtherCall)))
     × IsWorldRun settings table meaning (scripts_of form) own items turns
 
 -- the nodes of a job of endpoints with these traces
 abbrev pub nodes_with : {Action : Type 0}
     → Parameters → (ℕ → OwnScripts Action) → (traces : List (List Entry))
-    → List (Node (Ranked EndpointLocal (OwnScripts Action)))
+    → List (Node (RankedMachine EndpointLocal (OwnScripts Action)))
 nodes_with settings own traces = nodes_from (opening_machines settings own) 0 traces
 
 -- the order of their entries that this list of nodes gives
-abbrev pub merged : {Action : Type 0}
+abbrev pub merged_order : {Action : Type 0}
     → Parameters → (ℕ → OwnScripts Action) → (traces : List (List Entry)) → (list : List ℕ) → List NodeEntry
-merged settings own traces list =
+merged_order settings own traces list =
     order_of (nodes_with settings own traces) (start (nodes_with settings own traces)) list
 
--- where a list of nodes reaches the front that has all entries, they are a run of the world in its order, and the
+-- where a list of nodes reaches the prefix that has all entries, they are a run of the world in its order, and the
 -- entries of each node in it are the node's trace
 abbrev pub IsMergeARun : {Action : Type 0} → Reading EndpointLocal Action → Type 0
 IsMergeARun {Action} form =
@@ -63,23 +63,24 @@ IsMergeARun {Action} form =
     → length traces ≤ settings.nodes
     → Reaches (job_steps (endpoint_job settings table meaning (scripts_of form))) (nodes_with settings own traces) list
     (full (nodes_with settings own traces))
-    → (turns : List (List (Timed OtherCall)))
-    × IsWorldRun settings table meaning (scripts_of form) own (merged settings own traces list) turns
+    → (turns : List (List (EventAt OtherCall)))
+    × IsWorldRun settings table meaning (scripts_of form) own (merged_order settings own traces list) turns
     × ((node : ℕ) (trace : List Entry) → slice_get traces node ≡ Some trace
-    → own_entries node (merged settings own traces list) ≡ trace)
+    → own_entries node (merged_order settings own traces list) ≡ trace)
 
 -- the same where the machines are states with more in them, of which is known what is known of the machines
 abbrev pub AreStatesARun : {Action State : Type 0}
-    → Reading EndpointLocal Action → (become : Ranked EndpointLocal (OwnScripts Action) → State) → Steps State → Type 0
+    → Reading EndpointLocal Action → (become : RankedMachine EndpointLocal (OwnScripts Action) → State) → Steps State
+    → Type 0
 AreStatesARun {Action} {State} form become steps =
     (settings : Parameters) (table : List (Option TableEntry)) (meaning : Meaning) (own : ℕ → OwnScripts Action)
     (traces : List (List Entry)) (list : List ℕ)
     → MayRun settings table meaning form own
     → length traces ≤ settings.nodes
     → Carries become (job_steps (endpoint_job settings table meaning (scripts_of form))) steps
-    → let nodes = map (carried become) (nodes_with settings own traces) in
+    → let nodes = map (with_machine_of become) (nodes_with settings own traces) in
     Reaches steps nodes list (full nodes)
-    → (turns : List (List (Timed OtherCall)))
+    → (turns : List (List (EventAt OtherCall)))
     × IsWorldRun settings table meaning (scripts_of form) own (order_of nodes (start nodes) list) turns
     × ((node : ℕ) (trace : List Entry) → slice_get traces node ≡ Some trace
     → own_entries node (order_of nodes (start nodes) list) ≡ trace)

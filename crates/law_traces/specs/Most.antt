@@ -1,7 +1,7 @@
 -- What is told of each node at the end of a run of traces, by the node's own trace.
 -- Origin: this project's profile.
 use Rattle.std.specs.Prelude.{ℕ, max, List, [], ◌∷◌, ◌++◌, Option, None, Some}
-use Rattle.spec_node.specs.Held.{held}
+use Rattle.spec_node.specs.Held.{held_buffers}
 use Rattle.base_turns.specs.declared.entry.Entry.{Entry}
 use Rattle.law_traces.specs.declared.script_answer.ScriptAnswer.{ScriptAnswer}
 use Rattle.law_traces.specs.Scripts.{NodeJob}
@@ -13,7 +13,7 @@ abbrev pub most_in : {Kept Own : Type 0}
 most_in job me state [] most = most
 most_in job me state (entry ∷ entries) most =
     let after = (turn job me state entry.thread entry.now entry.got).after in
-    most_in job me after entries (max most (held job.job.settings me after.node))
+    most_in job me after entries (max most (held_buffers job.job.settings me after.node))
 
 -- the answer of a script step, with its thread
 pub record StepAnswer : Type 0 where

@@ -8,7 +8,7 @@ use Rattle.spec_node.specs.NodeStep.{NodeAnswer}
 use Rattle.spec_network.specs.World.{World}
 use Rattle.base_turns.specs.declared.entry.Entry.{Entry}
 use Rattle.base_turns.specs.declared.turns.Turned.{Turned}
-use Rattle.base_turns.specs.Replay.{Steps, replayed}
+use Rattle.base_turns.specs.Replay.{Steps, replay_state}
 use Rattle.node_rules.specs.declared.answer.Answer.{Answer}
 use Rattle.law_traces.specs.Scripts.{NodeJob}
 use Rattle.law_traces.specs.Turn.{MachineState, Turn, turn, datagram}
@@ -16,19 +16,19 @@ use Rattle.law_traces.specs.Turn.{MachineState, Turn, turn, datagram}
 -- ---- the machine of one node
 
 -- a machine with its node's number
-pub record Ranked (Kept Own : Type 0) : Type 0 where
+pub record RankedMachine (Kept Own : Type 0) : Type 0 where
   pub me : ℕ
   pub state : MachineState Kept Own
 
 -- what a turn of it tells
 abbrev pub told_by : {Kept Own : Type 0}
-    → NodeJob Kept Own → Ranked Kept Own → (thread now : ℕ) → (got : Option (List ℕ)) → Turned
+    → NodeJob Kept Own → RankedMachine Kept Own → (thread now : ℕ) → (got : Option (List ℕ)) → Turned
 told_by job ranked thread now got =
     let it = turn job ranked.me ranked.state thread now got in
     record { changed = it.changed; stepped = it.stepped; sends = if it.changed then length it.packets else 0 }
 
 -- what is known of the machines of a job
-abbrev pub job_steps : {Kept Own : Type 0} → NodeJob Kept Own → Steps (Ranked Kept Own)
+abbrev pub job_steps : {Kept Own : Type 0} → NodeJob Kept Own → Steps (RankedMachine Kept Own)
 job_steps job = record {
   polls = λ ranked thread. job.polls thread ranked.state.node.local;
   after = λ ranked thread now got. record ranked { state = (turn job ranked.me ranked.state thread now got).after };
@@ -39,7 +39,7 @@ job_steps job = record {
 -- the machine of the node `me` after the entries of its trace
 abbrev pub replay : {Kept Own : Type 0}
     → NodeJob Kept Own → (me : ℕ) → MachineState Kept Own → List Entry → MachineState Kept Own
-replay job me state entries = (replayed (job_steps job) (record { me = me; state = state }) entries).state
+replay job me state entries = (replay_state (job_steps job) (record { me = me; state = state }) entries).state
 
 -- ---- the machines of all nodes
 

@@ -16,7 +16,7 @@ abbrev pub ThreadCall : Type 0
 ThreadCall = Meant
 
 -- how a try of a thread's step went
-pub record Tried (Own : Type 0) : Type 0 where
+pub record TryResult (Own : Type 0) : Type 0 where
   pub left : Own  -- what is left of the node's scripts
   pub ended : Option ScriptAnswer  -- the answer of the step, where the try ended it
   pub began : Bool  -- the try began its step, or changed the node's collectives, and didn't end the step
@@ -34,7 +34,7 @@ pub record TryContext : Type 0 where
 -- then what that record, the record after the calls and the answer of the first of them, if any was made, say
 pub record Scripts (Kept Own : Type 0) : Type 0 where
   pub calls : TryContext → Own → (before : Node Kept) → List ThreadCall
-  pub tried : TryContext → Own → (before after : Node Kept) → (answer : Option Answer) → Tried Own
+  pub tried : TryContext → Own → (before after : Node Kept) → (answer : Option Answer) → TryResult Own
 
 -- what all nodes of a job know: its settings and what its nodes do, its table of handlers and what these mean, which
 -- threads poll, by what a node keeps, and what scripts do

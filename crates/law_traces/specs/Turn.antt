@@ -4,7 +4,7 @@ use Rattle.std.specs.Prelude.{ℕ, Bool, true, false, ◌||◌, if◌then◌else
 use Rattle.std.specs.Prelude.{is_some, slice_get}
 use Rattle.std.specs.Option.{option_map}
 use Rattle.wire_message.specs.Parameters.{Parameters}
-use Rattle.wire_message.specs.Content.{Content, addressed, spelling}
+use Rattle.wire_message.specs.Content.{Content, message_at_address, spelling}
 use Rattle.wire_message.specs.Message.{Message}
 use Rattle.wire_message.specs.declared.content.Address.{Address}
 use Rattle.wire_message.specs.declared.refused.Refused.{Refused}
@@ -15,10 +15,10 @@ use Rattle.spec_node.specs.Invariant.{address_in}
 use Rattle.spec_node.specs.NodeStep.{Job, NodeEvent, Comes, Ticks, NodeAnswer, node_answer, node_after}
 use Rattle.spec_network.specs.Sent.{Packet, Asking, Replying, sends}
 use Rattle.node_rules.specs.Called.{node_event}
-use Rattle.node_rules.specs.EndpointRules.{OtherCall, RecordEvent, told}
+use Rattle.node_rules.specs.EndpointRules.{OtherCall, RecordEvent, answer_told}
 use Rattle.node_rules.specs.declared.answer.Answer.{Answer}
 use Rattle.law_traces.specs.declared.script_answer.ScriptAnswer.{ScriptAnswer}
-use Rattle.law_traces.specs.Scripts.{ThreadCall, Tried, TryContext, NodeJob}
+use Rattle.law_traces.specs.Scripts.{ThreadCall, TryResult, TryContext, NodeJob}
 
 -- ---- several events of a node at one time
 
@@ -61,7 +61,7 @@ address settings (Replying place content) = address_in settings place.to place.f
 
 -- the message itself
 abbrev pub packet_message : Parameters → Packet → Message
-packet_message settings packet = addressed (address settings packet) (says packet)
+packet_message settings packet = message_at_address (address settings packet) (says packet)
 
 -- its datagram, with the node that it is for
 abbrev pub datagram : Parameters → Packet → ℕ × List ℕ
@@ -88,7 +88,7 @@ events_of thread calls = map (node_event thread) calls
 abbrev pub first_answer : {Kept : Type 0}
     → Job Kept OtherCall Answer → (me thread now : ℕ) → List ThreadCall → Node Kept → Option Answer
 first_answer job me thread now calls node =
-    option_map (λ call. told (node_answer job me node now (node_event thread call))) (slice_get calls 0)
+    option_map (λ call. answer_told (node_answer job me node now (node_event thread call))) (slice_get calls 0)
 
 -- the events of the calls that it makes, where this is left of the scripts and it finds this record
 abbrev pub try_events : {Kept Own : Type 0}
@@ -161,7 +161,7 @@ tried_answer job me state thread now got =
 
 -- how the try went
 abbrev pub try_of : {Kept Own : Type 0}
-    → NodeJob Kept Own → (me : ℕ) → MachineState Kept Own → (thread now : ℕ) → (got : Option (List ℕ)) → Tried Own
+    → NodeJob Kept Own → (me : ℕ) → MachineState Kept Own → (thread now : ℕ) → (got : Option (List ℕ)) → TryResult Own
 try_of job me state thread now got =
     job.scripts.tried (context job me thread now) state.own (as_tried job me state thread now got)
     (node_run job.job me now (turn_events job me state thread now got) state.node)

@@ -10,8 +10,8 @@ use Rattle.part_handlers.specs.Locks.{holds}
 use Rattle.part_handlers.specs.declared.table.Entry.{Entry as TableEntry}
 use Rattle.part_handlers.specs.Runs.{Meaning}
 use Rattle.spec_node.specs.NodeStep.{Job, NodeEvent, Comes}
-use Rattle.spec_network.specs.World.{World, Timed, OfNode, falls, world_after, run, answers_of, IsAmong}
-use Rattle.spec_network.specs.Sent.{sent}
+use Rattle.spec_network.specs.World.{World, EventAt, OfNode, falls, world_after, run, answers_of, IsAmong}
+use Rattle.spec_network.specs.Sent.{datagrams_sent}
 use Rattle.spec_network.specs.Headline.{Headline, IsGreatest}
 use Rattle.node_rules.specs.EndpointLocal.{EndpointLocal, nothing_begun}
 use Rattle.node_rules.specs.EndpointRules.{OtherCall, at_the_opening, job_of}
@@ -27,7 +27,7 @@ use Rattle.law_traces.specs.Most.{most_in}
 
 -- these events of the world are, one after another, the events of the node at that time: each falls on it as that event
 abbrev pub AreEvents : {Local Call Told : Type 0}
-    → Job Local Call Told → World Local → (node now : ℕ) → List (NodeEvent Call) → List (Timed Call) → Type 0
+    → Job Local Call Told → World Local → (node now : ℕ) → List (NodeEvent Call) → List (EventAt Call) → Type 0
 AreEvents job world node now [] [] = Unit {0}
 AreEvents job world node now (event ∷ events) (timed ∷ rest) =
     (timed.now ≡ now) × (falls job.settings world timed.event ≡ Some (record { node = node; event = event }))
@@ -37,7 +37,7 @@ AreEvents job world node now _ _ = ⊥
 -- where a turn of the node got a datagram, the first of its events delivers the message that the datagram spells. So it
 -- is the delivery of a request that was accepted, or of the reply of a run, to that node
 abbrev pub Brings : {Local Call : Type 0}
-    → Parameters → World Local → (node : ℕ) → (got : Option (List ℕ)) → List (Timed Call) → Type 0
+    → Parameters → World Local → (node : ℕ) → (got : Option (List ℕ)) → List (EventAt Call) → Type 0
 Brings settings world node None events = Unit {0}
 Brings settings world node (Some bytes) [] = ⊥
 Brings settings world node (Some bytes) (timed ∷ rest) =
@@ -47,16 +47,16 @@ Brings settings world node (Some bytes) (timed ∷ rest) =
 -- these events of the world are the turn of that entry
 pub record IsTurn
     {Kept Own : Type 0} (job : NodeJob Kept Own) (machines : Machines Kept Own) (world : World Kept) (item : NodeEntry)
-    (happened : List (Timed OtherCall)) : Type 0 where
-  pub among : AllByRecursion (λ (timed : Timed OtherCall). IsAmong job.job.settings timed.event) happened
+    (happened : List (EventAt OtherCall)) : Type 0 where
+  pub among : AllByRecursion (λ (timed : EventAt OtherCall). IsAmong job.job.settings timed.event) happened
   pub events : AreEvents job.job world item.node item.entry.now (turn_of job machines item).events happened
   pub brings : Brings job.job.settings world item.node item.entry.got happened
   pub answers : answers_of job.job happened world ≡ map OfNode (turn_of job machines item).answers
-  pub sends : sent job.job happened world ≡ (turn_of job machines item).packets
+  pub sends : datagrams_sent job.job happened world ≡ (turn_of job machines item).packets
 
 -- the turns of these entries, one after another
 abbrev pub AreTurns : {Kept Own : Type 0} → NodeJob Kept Own → Machines Kept Own → World Kept → List NodeEntry
-    → (turns : List (List (Timed OtherCall))) → Type 0
+    → (turns : List (List (EventAt OtherCall))) → Type 0
 AreTurns job machines world [] [] = Unit {0}
 AreTurns job machines world (item ∷ items) (events ∷ turns) =
     IsTurn job machines world item events
@@ -89,10 +89,10 @@ opening_machines settings own = at_first (at_the_opening settings) own
 pub record IsWorldRun
     {Own : Type 0} (settings : Parameters) (table : List (Option TableEntry)) (meaning : Meaning)
     (scripts : Scripts EndpointLocal Own) (own : ℕ → Own) (items : List NodeEntry)
-    (turns : List (List (Timed OtherCall))) : Type 0 where
+    (turns : List (List (EventAt OtherCall))) : Type 0 where
   pub turns_are : AreTurns (endpoint_job settings table meaning scripts) (opening_machines settings own)
       (at_the_opening settings) items turns
-  pub among : AllByRecursion (λ (timed : Timed OtherCall). IsAmong settings timed.event) (joined_events turns)
+  pub among : AllByRecursion (λ (timed : EventAt OtherCall). IsAmong settings timed.event) (joined_events turns)
   -- it leaves each node the record that its machine's replay of its own entries has
   pub nodes : (node : ℕ)
       → run (job_of settings table meaning) (joined_events turns) (at_the_opening settings) node
@@ -107,7 +107,7 @@ pub record IsWorldRun
   pub answers : answers_of (job_of settings table meaning) (joined_events turns) (at_the_opening settings)
       ≡ map OfNode (answers_by_all (endpoint_job settings table meaning scripts) (opening_machines settings own) items)
   pub sent_is : map (datagram settings)
-      (sent (job_of settings table meaning) (joined_events turns) (at_the_opening settings))
+      (datagrams_sent (job_of settings table meaning) (joined_events turns) (at_the_opening settings))
       ≡ given_by_all (endpoint_job settings table meaning scripts) (opening_machines settings own) items
   -- so all that holds of every run of the world holds of it: the headline, and the laws of transfers and of the barrier
   pub headline : Headline (job_of settings table meaning) (λ node. nothing_begun settings) (joined_events turns)

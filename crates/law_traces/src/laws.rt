@@ -2,14 +2,14 @@
 
 ghost use Rattle.std.specs.Prelude.{◌≡◌, ℕ, List, map};
 ghost use Rattle.node_rules.specs.EndpointLocal.{EndpointLocal};
-ghost use Rattle.base_turns.specs.Fronts.{Node as FrontNode, GoesOn};
+ghost use Rattle.base_turns.specs.Prefixes.{Node as PrefixNode, GoesOn};
 ghost use Rattle.base_turns.specs.Replay.{Steps};
 ghost use Rattle.law_traces.specs.Actions.{Reading, OwnScripts};
-ghost use Rattle.law_traces.specs.Order.{Ranked};
+ghost use Rattle.law_traces.specs.Order.{RankedMachine};
 ghost use Rattle.law_traces.specs.Empty.{IsCalm, EmptyTurnsLeave};
 ghost use Rattle.law_traces.specs.Laws.{IsOrderARun, IsMergeARun, AreStatesARun};
 ghost use Rattle.law_traces.specs.Laws.{WaitingLeaves, TurnsComeFirst, TheySentStands};
-ghost use Rattle.law_traces.specs.Merged.{Carries, carried};
+ghost use Rattle.law_traces.specs.Merged.{Carries, with_machine_of};
 ghost use Rattle.law_traces.specs.Scripts.{NodeJob};
 
 /// Entries of the nodes' traces, in an order in which each can go, are a run of the world. `A` is
@@ -18,7 +18,7 @@ pub fn run_law<A>()
     ensures run { (form : Reading EndpointLocal A) → IsOrderARun form }
 {}
 
-/// Where a list of nodes reaches the front that has all entries, the entries in its order are a run
+/// Where a list of nodes reaches the prefix that has all entries, the entries in its order are a run
 /// of the world, and those of each node in it are the node's trace.
 pub fn merge_law<A>()
     ensures run { (form : Reading EndpointLocal A) → IsMergeARun form }
@@ -28,16 +28,16 @@ pub fn merge_law<A>()
 /// known of the machines.
 pub fn states_law<A, S>()
     ensures run { (form : Reading EndpointLocal A)
-        (become : Ranked EndpointLocal (OwnScripts A) → S) (steps : Steps S)
+        (become : RankedMachine EndpointLocal (OwnScripts A) → S) (steps : Steps S)
         → AreStatesARun form become steps }
 {}
 
 /// An order of the entries of machines is one of the machines that they become.
 pub fn carrying_law<M, N>()
     ensures { (become : M → N) (first : Steps M) (second : Steps N) → Carries become first second
-        → (nodes : List (FrontNode M)) (list front to : List ℕ)
-        → GoesOn second (map (carried become) nodes) front list to
-        → GoesOn first nodes front list to }
+        → (nodes : List (PrefixNode M)) (list prefix to : List ℕ)
+        → GoesOn second (map (with_machine_of become) nodes) prefix list to
+        → GoesOn first nodes prefix list to }
 {}
 
 /// An empty turn leaves the machine as it was, where a try that waits leaves the record.

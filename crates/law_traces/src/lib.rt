@@ -17,7 +17,7 @@
 //!   own entries tell. So the headline, the laws of transfers and the law of the barrier hold of it. Asked are settings
 //!   within their limits, lawful handlers, and that numbers fit their places in messages (`IsFittingJob`, `ActionsMay`,
 //!   `specs/Fitting.antt`).
-//! - `merge_law` [`run`]: so it is of the order by which a list of nodes reaches the front that has all entries
+//! - `merge_law` [`run`]: so it is of the order by which a list of nodes reaches the prefix that has all entries
 //!   (`Reaches`), and the entries of each node in it are the node's trace.
 //! - `states_law` [`run`]: the same at states with more in them, as those for which a machine stands.
 //! - `carrying_law`: what can go of machines that others become can go of them.

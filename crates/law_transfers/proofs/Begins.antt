@@ -29,7 +29,7 @@ use Rattle.node_rules.specs.TransferCalls.{TransferCall, Begin, BeginImplicit}
 use Rattle.node_rules.specs.TransferCalls.{Caller, transfer_kind}
 use Rattle.node_rules.specs.TransferCalls.{transfer_does, transfer_fault, is_at_once, begun_as, unless_bad}
 use Rattle.node_rules.specs.TransferCalls.{begin_says, after_beginning, implicit_mode}
-use Rattle.law_transfers.specs.TransferLaws.{IsBeginning, called}
+use Rattle.law_transfers.specs.TransferLaws.{IsBeginning, transfer_event}
 
 -- ---- calls of the world
 
@@ -48,7 +48,7 @@ does_there settings table meaning world node thread call =
 -- what the node keeps after it
 pub left_there : (settings : Parameters) (table : List (Option Entry)) (meaning : Meaning) (world : Records)
     (now node thread : ℕ) (call : TransferCall)
-    → (world_after (job_of settings table meaning) world (called now node thread call) node).local
+    → (world_after (job_of settings table meaning) world (transfer_event now node thread call) node).local
     ≡ (does_there settings table meaning world node thread call).1
 left_there settings table meaning world now node thread call =
     ap (λ (n : Node EndpointLocal). n.local) (put_same world node _)
@@ -56,7 +56,7 @@ left_there settings table meaning world now node thread call =
 -- what it is answered
 pub told_there : (settings : Parameters) (table : List (Option Entry)) (meaning : Meaning) (world : Records)
     (now node thread : ℕ) (call : TransferCall) (answer : Answer)
-    → world_answer (job_of settings table meaning) world (called now node thread call) ≡ OfNode (OfCall answer)
+    → world_answer (job_of settings table meaning) world (transfer_event now node thread call) ≡ OfNode (OfCall answer)
     → (does_there settings table meaning world node thread call).0 ≡ answer
 told_there settings table meaning world now node thread call answer is = same _ answer is
   where
@@ -139,9 +139,9 @@ answer_same one other e = cc
 pub begins_last : (settings : Parameters) (table : List (Option Entry)) (meaning : Meaning) (world : Records)
     (now node thread : ℕ) (call : TransferCall) (transfer : Transfer) (number : ℕ)
     → IsBeginning call transfer number (world_answer (job_of settings table meaning) world
-    (called now node thread call))
+    (transfer_event now node thread call))
     → BeginsLast (world node).local.operations
-    (world_after (job_of settings table meaning) world (called now node thread call) node).local.operations thread
+    (world_after (job_of settings table meaning) world (transfer_event now node thread call) node).local.operations thread
     number transfer
 begins_last settings table meaning world now node thread (Begin register asked) transfer number is =
     let caller = caller_of settings world node thread in
@@ -156,7 +156,7 @@ begins_last settings table meaning world now node thread (Begin register asked) 
     (left_there settings table meaning world now node thread call
     ∙ ap (λ (out : Answer × EndpointLocal). out.1) does) in
     subst (λ t. BeginsLast (world node).local.operations
-    (world_after (job_of settings table meaning) world (called now node thread call) node).local.operations thread
+    (world_after (job_of settings table meaning) world (transfer_event now node thread call) node).local.operations thread
     number t) is.0
     (record { mode = it.mode; number_is = it.number_is; after_is = left ∙ it.after_is })
   where
@@ -176,7 +176,7 @@ begins_last settings table meaning world now node thread (BeginImplicit asked) t
     (left_there settings table meaning world now node thread call
     ∙ ap (λ (out : Answer × EndpointLocal). out.1) does) in
     subst (λ t. BeginsLast (world node).local.operations
-    (world_after (job_of settings table meaning) world (called now node thread call) node).local.operations thread
+    (world_after (job_of settings table meaning) world (transfer_event now node thread call) node).local.operations thread
     number t) is.0
     (record { mode = it.mode; number_is = it.number_is; after_is = left ∙ it.after_is })
   where

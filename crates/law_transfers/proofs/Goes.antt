@@ -11,10 +11,10 @@ use Rattle.part_handlers.specs.declared.table.Entry.{Entry}
 use Rattle.part_handlers.specs.declared.rules.Forbidden.{Forbidden}
 use Rattle.part_handlers.specs.declared.message.Which.{Which}
 use Rattle.part_handlers.specs.Runs.{Meaning}
-use Rattle.base_lists.specs.Numbered.{numbered}
+use Rattle.base_lists.specs.Numbered.{element_at}
 use Rattle.part_regions.specs.Regions.{has_begun}
 use Rattle.spec_node.specs.NodeStep.{OfCall}
-use Rattle.spec_network.specs.World.{Timed, Event, OfNode, world_answer, world_after}
+use Rattle.spec_network.specs.World.{EventAt, Event, OfNode, world_answer, world_after}
 use Rattle.part_transfers.specs.declared.operation.Handle.{Handle}
 use Rattle.part_transfers.specs.declared.operation.Mode.{Mode}
 use Rattle.part_transfers.specs.declared.operation.Mode.TheVariants.{Explicit}
@@ -41,7 +41,7 @@ use Rattle.node_rules.specs.TransferCalls.{SyncSome, SyncImplicit, Caller, trans
 use Rattle.node_rules.specs.TransferCalls.{handle_in, transfer_fault, is_at_once, begun_as, unless_bad, begin_says}
 use Rattle.node_rules.specs.TransferCalls.{after_beginning, implicit_mode, written_at_once}
 use Rattle.law_transfers.specs.Chunks.{writes_at}
-use Rattle.law_transfers.specs.TransferLaws.{called, members_by, synced_by, OkGoes, OwnIsDone}
+use Rattle.law_transfers.specs.TransferLaws.{transfer_event, members_by, synced_by, OkGoes, OwnIsDone}
 use Rattle.law_transfers.proofs.Begins.{caller_of, left_there, told_there, allowed_there, begun_same, started_same}
 use Rattle.node_rules.proofs.Syncing.{sync_all, bad_handle, not_yours}
 
@@ -100,13 +100,13 @@ go_at choice number (first ∷ later) (suc place) operation at is =
 pub record IsOver (after : List Operation) (thread number : ℕ) (operation : Operation) : Type 0 where
   pub own : operation.thread ≡ thread
   pub complete : is_complete operation ≡ true
-  pub marked : numbered after number ≡ Some (record operation { synced = true })
+  pub marked : element_at after number ≡ Some (record operation { synced = true })
 
 -- where those chosen are the thread's and complete, and go
 chosen_over : (thread : ℕ) (choice : Choice) (operations : List Operation) (number : ℕ) (operation : Operation)
     → list_any (is_other thread) (chosen choice 1 operations) ≡ false
     → list_all is_complete (chosen choice 1 operations) ≡ true
-    → numbered operations number ≡ Some operation → choice number operation ≡ true
+    → element_at operations number ≡ Some operation → choice number operation ≡ true
     → IsOver (go choice 1 operations) thread number operation
 chosen_over thread choice operations zero operation own complete at is = absurd (cc)
 chosen_over thread choice operations (suc place) operation own complete at is =
@@ -120,7 +120,7 @@ chosen_over thread choice operations (suc place) operation own complete at is =
 -- one that is known to be the thread's
 known_over : (thread : ℕ) (choice : Choice) (operations : List Operation) (number : ℕ) (operation : Operation)
     → operation.thread ≡ thread → is_complete operation ≡ true
-    → numbered operations number ≡ Some operation → choice number operation ≡ true
+    → element_at operations number ≡ Some operation → choice number operation ≡ true
     → IsOver (go choice 1 operations) thread number operation
 known_over thread choice operations zero operation own complete at is = absurd (cc)
 known_over thread choice operations (suc place) operation own complete at is = record {
@@ -132,7 +132,7 @@ known_over thread choice operations (suc place) operation own complete at is = r
 -- those chosen are complete
 complete_at : (choice : Choice) (operations : List Operation) (number : ℕ) (operation : Operation)
     → list_all is_complete (chosen choice 1 operations) ≡ true
-    → numbered operations number ≡ Some operation → choice number operation ≡ true → is_complete operation ≡ true
+    → element_at operations number ≡ Some operation → choice number operation ≡ true → is_complete operation ≡ true
 complete_at choice operations zero operation all at is = absurd (cc)
 complete_at choice operations (suc place) operation all at is =
     chosen_complete choice 1 operations place operation all at (ap (λ n. choice n operation) (omega arith) ∙ is)
@@ -140,7 +140,7 @@ complete_at choice operations (suc place) operation all at is =
 -- and the thread's
 own_at : (thread : ℕ) (choice : Choice) (operations : List Operation) (number : ℕ) (operation : Operation)
     → list_any (is_other thread) (chosen choice 1 operations) ≡ false
-    → numbered operations number ≡ Some operation → choice number operation ≡ true → operation.thread ≡ thread
+    → element_at operations number ≡ Some operation → choice number operation ≡ true → operation.thread ≡ thread
 own_at thread choice operations zero operation none at is = absurd (cc)
 own_at thread choice operations (suc place) operation none at is =
     chosen_own thread choice 1 operations place operation none at (ap (λ n. choice n operation) (omega arith) ∙ is)
@@ -149,7 +149,7 @@ own_at thread choice operations (suc place) operation none at is =
 
 handle_over : (exhausted : ℕ → Bool) (thread handle : ℕ) (operations : List Operation) (number : ℕ) (operation : Operation)
     → handle_answer exhausted thread handle operations ≡ synced.Ok
-    → numbered operations number ≡ Some operation → members_by handle operations number operation ≡ true
+    → element_at operations number ≡ Some operation → members_by handle operations number operation ≡ true
     → IsOver (after_handle synced.Ok handle operations) thread number operation
 handle_over exhausted thread handle operations number operation ok at is =
     let both = and_parts (not (handle == 0)) (members handle operations number operation) is in
@@ -218,7 +218,7 @@ here_own thread operations is = elim (cases_Bool (is_empty operations)) [
 
 -- a member of one of the handles is the thread's
 listed_own : (thread : ℕ) (operations : List Operation) (number : ℕ) (operation : Operation) (test : Handle → Bool)
-    (handles : List Handle) → numbered operations number ≡ Some operation
+    (handles : List Handle) → element_at operations number ≡ Some operation
     → ((handle : Handle) → test handle ≡ true
     → ((handle.serial == 0) ≡ false) × (members handle.serial operations number operation ≡ true))
     → fault_of thread operations handles ≡ None → list_any test handles ≡ true → operation.thread ≡ thread
@@ -242,7 +242,7 @@ listed_own thread operations number operation test (handle ∷ later) at means n
 
 -- a member of a handle that is whole is complete
 whole_complete : (operations : List Operation) (number : ℕ) (operation : Operation) (handles : List Handle)
-    → numbered operations number ≡ Some operation
+    → element_at operations number ≡ Some operation
     → list_any (λ (handle : Handle). is_whole operations handle && members handle.serial operations number operation)
     handles ≡ true
     → is_complete operation ≡ true
@@ -259,7 +259,7 @@ whole_complete operations number operation (handle ∷ later) at any =
 
 all_over : (exhausted : ℕ → Bool) (thread : ℕ) (handles : List Handle) (operations : List Operation) (number : ℕ)
     (operation : Operation) → all_answer exhausted thread handles operations ≡ synced.Ok
-    → numbered operations number ≡ Some operation → members_of handles operations number operation ≡ true
+    → element_at operations number ≡ Some operation → members_of handles operations number operation ≡ true
     → IsOver (left_by synced.Ok (members_of handles operations) operations) thread number operation
 all_over exhausted thread handles operations number operation ok at is =
     let it = without_fault (fault_of thread operations handles) _ (fault_not_ok thread operations handles) ok in
@@ -273,7 +273,7 @@ all_over exhausted thread handles operations number operation ok at is =
 
 some_over : (exhausted : ℕ → Bool) (thread : ℕ) (handles : List Handle) (operations : List Operation) (number : ℕ)
     (operation : Operation) → some_answer exhausted thread handles operations ≡ synced.Ok
-    → numbered operations number ≡ Some operation → whole_of handles operations number operation ≡ true
+    → element_at operations number ≡ Some operation → whole_of handles operations number operation ≡ true
     → IsOver (left_by synced.Ok (whole_of handles operations) operations) thread number operation
 some_over exhausted thread handles operations number operation ok at is =
     let it = without_fault (fault_of thread operations handles) _ (fault_not_ok thread operations handles) ok in
@@ -289,7 +289,7 @@ some_over exhausted thread handles operations number operation ok at is =
 
 implicit_over : (exhausted : ℕ → Bool) (thread : ℕ) (some : ImplicitKinds) (operations : List Operation) (number : ℕ)
     (operation : Operation) → implicit_answer exhausted thread some operations ≡ synced.Ok
-    → numbered operations number ≡ Some operation → implicit_of thread some number operation ≡ true
+    → element_at operations number ≡ Some operation → implicit_of thread some number operation ≡ true
     → IsOver (left_by synced.Ok (implicit_of thread some) operations) thread number operation
 implicit_over exhausted thread some operations number operation ok at is =
     let one = and_parts (not operation.synced)
@@ -315,7 +315,7 @@ over_as after says thread number operation ok it =
 
 call_over : (caller : Caller) (call : TransferCall) (local : EndpointLocal) (number : ℕ) (operation : Operation)
     → (transfer_does caller call local).0 ≡ answers.Synced synced.Ok
-    → numbered local.operations number ≡ Some operation
+    → element_at local.operations number ≡ Some operation
     → synced_by call caller.thread local number operation ≡ true
     → IsOver (transfer_does caller call local).1.operations caller.thread number operation
 call_over caller (Sync register) local number operation told at is =
@@ -356,11 +356,11 @@ call_over caller _ local number operation told at is = absurd (true≢false (sym
 -- in the job
 there_over : (settings : Parameters) (table : List (Option Entry)) (meaning : Meaning) (world : Records)
     (now node thread : ℕ) (call : TransferCall) (number : ℕ) (operation : Operation)
-    → world_answer (job_of settings table meaning) world (called now node thread call)
+    → world_answer (job_of settings table meaning) world (transfer_event now node thread call)
     ≡ OfNode (OfCall (answers.Synced synced.Ok))
-    → numbered (world node).local.operations number ≡ Some operation
+    → element_at (world node).local.operations number ≡ Some operation
     → synced_by call thread (world node).local number operation ≡ true
-    → IsOver (world_after (job_of settings table meaning) world (called now node thread call) node).local.operations
+    → IsOver (world_after (job_of settings table meaning) world (transfer_event now node thread call) node).local.operations
     thread number operation
 there_over settings table meaning world now node thread call number operation answered at is =
     let told = told_there settings table meaning world now node thread call (answers.Synced synced.Ok) answered in
@@ -380,14 +380,14 @@ pub ok_goes : (settings : Parameters) (table : List (Option Entry)) (meaning : M
     → OkGoes (job_of settings table meaning)
 ok_goes settings table meaning world timed number operation syncs =
     let job = job_of settings table meaning in
-    let at = called timed.now syncs.node syncs.thread syncs.call in
+    let at = transfer_event timed.now syncs.node syncs.thread syncs.call in
     let is : timed ≡ at = ap (λ (e : Event OtherCall). record { now = timed.now; event = e }) syncs.event in
     let it = there_over settings table meaning world timed.now syncs.node syncs.thread syncs.call number operation
     (ap (world_answer job world) (sym is) ∙ syncs.answered) syncs.there syncs.chosen in
     record {
       own = it.own;
       complete = it.complete;
-      marked = ap (λ (e : Timed OtherCall). numbered (world_after job world e syncs.node).local.operations number) is
+      marked = ap (λ (e : EventAt OtherCall). element_at (world_after job world e syncs.node).local.operations number) is
           ∙ it.marked;
     }
 
@@ -438,7 +438,7 @@ own_is_done settings table meaning world now node thread (Begin register asked) 
     (left_there settings table meaning world now node thread call
     ∙ ap (λ (out : Answer × EndpointLocal). out.1) does) in
     subst (λ t. ((size t ≡ 0) ⊎ (target t ≡ node))
-    × (writes_at (world_after (job_of settings table meaning) world (called now node thread call)) node
+    × (writes_at (world_after (job_of settings table meaning) world (transfer_event now node thread call)) node
     ≡ writes_at world node ++ written_at_once (segment_of settings (world node).local.core) t)) is.0
     (it.own, left ∙ it.written)
   where
@@ -457,7 +457,7 @@ own_is_done settings table meaning world now node thread (BeginImplicit asked) t
     (left_there settings table meaning world now node thread call
     ∙ ap (λ (out : Answer × EndpointLocal). out.1) does) in
     subst (λ t. ((size t ≡ 0) ⊎ (target t ≡ node))
-    × (writes_at (world_after (job_of settings table meaning) world (called now node thread call)) node
+    × (writes_at (world_after (job_of settings table meaning) world (transfer_event now node thread call)) node
     ≡ writes_at world node ++ written_at_once (segment_of settings (world node).local.core) t)) is.0
     (it.own, left ∙ it.written)
   where

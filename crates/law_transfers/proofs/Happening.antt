@@ -7,9 +7,9 @@ use Rattle.spec_node.specs.declared.answer.Delivered.{Delivered}
 use Rattle.spec_node.specs.declared.answer.Delivered.TheVariants as delivered
 use Rattle.spec_node.specs.Behaviour.{Behaviour}
 use Rattle.spec_node.specs.NodeStep.{Job, IsAllSound, OfDelivery}
-use Rattle.spec_network.specs.World.{World, Timed, OfNode, IsAmong, world_answer, world_after, run}
+use Rattle.spec_network.specs.World.{World, EventAt, OfNode, IsAmong, world_answer, world_after, run}
 use Rattle.spec_network.specs.Plain.{Plain, InRuns, is_among, plain_of}
-use Rattle.spec_network.specs.PlainStep.{Named, at_target, RunsFirst, RunStep, Takes, TakeStep, PlainStep}
+use Rattle.spec_network.specs.PlainStep.{RequestName, at_target, RunsFirst, RunStep, Takes, TakeStep, PlainStep}
 use Rattle.spec_network.specs.Invariant.{Holds}
 use Rattle.spec_network.specs.Headline.{Grows, IsRanAnswer, IsReturned, request_comes, reply_comes}
 use Rattle.spec_network.proofs.Worlds.{step_keeps}
@@ -30,7 +30,7 @@ pub record Around {Local Call Told : Type 0} (job : Job Local Call Told) (IsKept
 
 -- one fact gives another
 pub sometime_map : {Local Call Told : Type 0} (job : Job Local Call Told) (P Q : Moment Local Call → Type 0)
-    (events : List (Timed Call)) (world : World Local) → ((moment : Moment Local Call) → P moment → Q moment)
+    (events : List (EventAt Call)) (world : World Local) → ((moment : Moment Local Call) → P moment → Q moment)
     → Sometime job P events world → Sometime job Q events world
 sometime_map job P Q [] world f it = it
 sometime_map {Call = Call} job P Q (e ∷ events) world f it = elim it [
@@ -40,7 +40,7 @@ sometime_map {Call = Call} job P Q (e ∷ events) world f it = elim it [
 
 -- one fact gives another, in a run of which the invariant holds
 pub sometime_around : {Local Call Told : Type 0} (job : Job Local Call Told) (IsKept : (me : ℕ) → Local → Type 0)
-    (P Q : Moment Local Call → Type 0) (events : List (Timed Call)) (world : World Local)
+    (P Q : Moment Local Call → Type 0) (events : List (EventAt Call)) (world : World Local)
     → IsAllSound job.behaviour IsKept → AreAmong job events → Holds job IsKept world
     → ((moment : Moment Local Call) → Around job IsKept moment → end_of job moment ≡ run job events world → P moment
     → Q moment)
@@ -62,7 +62,7 @@ holds_then job IsKept moment sound around = step_keeps job IsKept moment.before 
 
 -- a fact that says something of the whole
 pub sometime_out : {Local Call Told : Type 0} (job : Job Local Call Told) (P : Moment Local Call → Type 0) (Q : Type 0)
-    (events : List (Timed Call)) (world : World Local) → ((moment : Moment Local Call) → P moment → Q)
+    (events : List (EventAt Call)) (world : World Local) → ((moment : Moment Local Call) → P moment → Q)
     → Sometime job P events world → Q
 sometime_out job P Q [] world f it = absurd it
 sometime_out job P Q (e ∷ events) world f it = elim it [
@@ -80,7 +80,7 @@ grows_more p q r one two = record {
 }
 
 pub run_grows : {Local Call Told : Type 0} (job : Job Local Call Told) (IsKept : (me : ℕ) → Local → Type 0)
-    (events : List (Timed Call)) (world : World Local) → IsAllSound job.behaviour IsKept → AreAmong job events
+    (events : List (EventAt Call)) (world : World Local) → IsAllSound job.behaviour IsKept → AreAmong job events
     → Holds job IsKept world → Grows (plain_of world) (plain_of (run job events world))
 run_grows job IsKept [] world sound among holds = grows_same _ _ refl
 run_grows job IsKept (e ∷ events) world sound among holds =
@@ -109,10 +109,10 @@ grown_before job IsKept moment sound around =
 -- ---- a request runs
 
 -- the step of a delivery that is answered so, as one of the plain world
-run_step : {Local : Type 0} (behaviour : Behaviour Local) (p q : Plain Local) (name : Named) (b : Delivered)
+run_step : {Local : Type 0} (behaviour : Behaviour Local) (p q : Plain Local) (name : RequestName) (b : Delivered)
     → IsRanAnswer b → RunStep behaviour p name b q → RunsFirst behaviour p name b q
 run_step behaviour p q name (delivered.Ran at) says h = h
-run_step behaviour p q name (delivered.Noted at note) says h = h
+run_step behaviour p q name (delivered.Notified at notification) says h = h
 run_step behaviour p q name (delivered.Duplicate at) says h = absurd says.1
 run_step behaviour p q name delivered.Stale says h = absurd says.1
 run_step behaviour p q name (delivered.Returned to slot number) says h = absurd says.1
@@ -122,7 +122,7 @@ run_step behaviour p q name (delivered.Refused why) says h = absurd says.1
 
 -- what a request that runs leaves
 pub runs_first : {Local Call Told : Type 0} (job : Job Local Call Told) (IsKept : (me : ℕ) → Local → Type 0)
-    (world : World Local) (e : Timed Call) (name : Named) (b : Delivered) → IsAllSound job.behaviour IsKept
+    (world : World Local) (e : EventAt Call) (name : RequestName) (b : Delivered) → IsAllSound job.behaviour IsKept
     → Holds job IsKept world → IsRanAnswer b → e.event ≡ request_comes name
     → world_answer job world e ≡ OfNode (OfDelivery b)
     → RunsFirst job.behaviour.messages (plain_of world) name b (plain_of (world_after job world e))
@@ -132,7 +132,7 @@ runs_first job IsKept world e name b sound holds says event answered =
     (step_plain job IsKept world e sound holds))
 
 -- the request runs, and what that leaves
-pub record RanAs {Local Call Told : Type 0} (job : Job Local Call Told) (name : Named) (moment : Moment Local Call)
+pub record RanAs {Local Call Told : Type 0} (job : Job Local Call Told) (name : RequestName) (moment : Moment Local Call)
     : Type 0 where
   pub runs : Runs job name moment
   pub first : RunsFirst job.behaviour.messages (plain_of moment.before) name runs.answer
@@ -140,7 +140,7 @@ pub record RanAs {Local Call Told : Type 0} (job : Job Local Call Told) (name : 
 
 -- what ran at the end had run before, or ran at one of the events
 pub runs_happen : {Local Call Told : Type 0} (job : Job Local Call Told) (IsKept : (me : ℕ) → Local → Type 0)
-    (events : List (Timed Call)) (world : World Local) (name : Named) → IsAllSound job.behaviour IsKept
+    (events : List (EventAt Call)) (world : World Local) (name : RequestName) → IsAllSound job.behaviour IsKept
     → AreAmong job events → Holds job IsKept world
     → InRuns (plain_of (run job events world)) name.from name.to name.number
     → InRuns (plain_of world) name.from name.to name.number
@@ -163,7 +163,7 @@ runs_happen job IsKept (e ∷ events) world name sound among holds ran =
 
 -- after it ran it is among the runs
 ran_after : {Local Call Told : Type 0} (job : Job Local Call Told) (IsKept : (me : ℕ) → Local → Type 0)
-    (world : World Local) (e : Timed Call) (later : List (Timed Call)) (name : Named) → IsAllSound job.behaviour IsKept
+    (world : World Local) (e : EventAt Call) (later : List (EventAt Call)) (name : RequestName) → IsAllSound job.behaviour IsKept
     → Holds job IsKept world → Runs job name (record { before = world; timed = e; later = later })
     → InRuns (plain_of (world_after job world e)) name.from name.to name.number
 ran_after job IsKept world e later name sound holds it =
@@ -175,7 +175,7 @@ ran_after job IsKept world e later name sound holds it =
 
 -- what ran doesn't run again
 never_again : {Local Call Told : Type 0} (job : Job Local Call Told) (IsKept : (me : ℕ) → Local → Type 0)
-    (events : List (Timed Call)) (world : World Local) (name : Named) → IsAllSound job.behaviour IsKept
+    (events : List (EventAt Call)) (world : World Local) (name : RequestName) → IsAllSound job.behaviour IsKept
     → AreAmong job events → Holds job IsKept world
     → InRuns (plain_of world) name.from name.to name.number → Sometime job (Runs job name) events world → ⊥
 never_again job IsKept [] world name sound among holds ran it = it
@@ -193,7 +193,7 @@ never_again job IsKept (e ∷ events) world name sound among holds ran it =
 
 -- what hadn't run, and ran at the end, ran once
 pub runs_once : {Local Call Told : Type 0} (job : Job Local Call Told) (IsKept : (me : ℕ) → Local → Type 0)
-    (events : List (Timed Call)) (world : World Local) (name : Named) → IsAllSound job.behaviour IsKept
+    (events : List (EventAt Call)) (world : World Local) (name : RequestName) → IsAllSound job.behaviour IsKept
     → AreAmong job events → Holds job IsKept world
     → (InRuns (plain_of world) name.from name.to name.number → ⊥)
     → InRuns (plain_of (run job events world)) name.from name.to name.number
@@ -219,11 +219,11 @@ runs_once job IsKept (e ∷ events) world name sound among holds new ran =
 
 -- ---- a reply comes back
 
-take_step : {Local : Type 0} (behaviour : Behaviour Local) (p q : Plain Local) (name : Named) (b : Delivered)
+take_step : {Local : Type 0} (behaviour : Behaviour Local) (p q : Plain Local) (name : RequestName) (b : Delivered)
     → IsReturned b → TakeStep behaviour p name b q → Takes behaviour p name b q
 take_step behaviour p q name (delivered.Returned to slot number) says h = h
 take_step behaviour p q name (delivered.Ran at) says h = absurd says
-take_step behaviour p q name (delivered.Noted at note) says h = absurd says
+take_step behaviour p q name (delivered.Notified at notification) says h = absurd says
 take_step behaviour p q name (delivered.Duplicate at) says h = absurd says
 take_step behaviour p q name delivered.Stale says h = absurd says
 take_step behaviour p q name delivered.Late says h = absurd says
@@ -232,7 +232,7 @@ take_step behaviour p q name (delivered.Refused why) says h = absurd says
 
 -- what a reply that is taken leaves
 pub takes_first : {Local Call Told : Type 0} (job : Job Local Call Told) (IsKept : (me : ℕ) → Local → Type 0)
-    (world : World Local) (e : Timed Call) (name : Named) (b : Delivered) → IsAllSound job.behaviour IsKept
+    (world : World Local) (e : EventAt Call) (name : RequestName) (b : Delivered) → IsAllSound job.behaviour IsKept
     → Holds job IsKept world → IsReturned b → e.event ≡ reply_comes name
     → world_answer job world e ≡ OfNode (OfDelivery b)
     → Takes job.behaviour.messages (plain_of world) name b (plain_of (world_after job world e))
@@ -242,14 +242,14 @@ takes_first job IsKept world e name b sound holds says event answered =
     (step_plain job IsKept world e sound holds))
 
 -- the reply is taken, and what that leaves
-pub record BackAs {Local Call Told : Type 0} (job : Job Local Call Told) (name : Named) (moment : Moment Local Call)
+pub record BackAs {Local Call Told : Type 0} (job : Job Local Call Told) (name : RequestName) (moment : Moment Local Call)
     : Type 0 where
   pub comes : ComesBack job name moment
   pub takes : Takes job.behaviour.messages (plain_of moment.before) name comes.answer (plain_of (after_in job moment))
 
 -- what is back at the end was back before, or came back at one of the events
 pub backs_happen : {Local Call Told : Type 0} (job : Job Local Call Told) (IsKept : (me : ℕ) → Local → Type 0)
-    (events : List (Timed Call)) (world : World Local) (name : Named) → IsAllSound job.behaviour IsKept
+    (events : List (EventAt Call)) (world : World Local) (name : RequestName) → IsAllSound job.behaviour IsKept
     → AreAmong job events → Holds job IsKept world
     → (plain_of (run job events world)).back name.from name.to name.number ≡ true
     → ((plain_of world).back name.from name.to name.number ≡ true)
@@ -272,7 +272,7 @@ backs_happen job IsKept (e ∷ events) world name sound among holds back =
     ]
 
 back_after : {Local Call Told : Type 0} (job : Job Local Call Told) (IsKept : (me : ℕ) → Local → Type 0)
-    (world : World Local) (e : Timed Call) (later : List (Timed Call)) (name : Named) → IsAllSound job.behaviour IsKept
+    (world : World Local) (e : EventAt Call) (later : List (EventAt Call)) (name : RequestName) → IsAllSound job.behaviour IsKept
     → Holds job IsKept world → ComesBack job name (record { before = world; timed = e; later = later })
     → (plain_of (world_after job world e)).back name.from name.to name.number ≡ true
 back_after job IsKept world e later name sound holds it =
@@ -283,7 +283,7 @@ back_after job IsKept world e later name sound holds it =
     ∙ put_same (p.back name.from name.to) name.number true)
 
 never_back : {Local Call Told : Type 0} (job : Job Local Call Told) (IsKept : (me : ℕ) → Local → Type 0)
-    (events : List (Timed Call)) (world : World Local) (name : Named) → IsAllSound job.behaviour IsKept
+    (events : List (EventAt Call)) (world : World Local) (name : RequestName) → IsAllSound job.behaviour IsKept
     → AreAmong job events → Holds job IsKept world
     → (plain_of world).back name.from name.to name.number ≡ true → Sometime job (ComesBack job name) events world → ⊥
 never_back job IsKept [] world name sound among holds back it = it
@@ -302,7 +302,7 @@ never_back job IsKept (e ∷ events) world name sound among holds back it =
 
 -- what wasn't back, and is at the end, came back once
 pub backs_once : {Local Call Told : Type 0} (job : Job Local Call Told) (IsKept : (me : ℕ) → Local → Type 0)
-    (events : List (Timed Call)) (world : World Local) (name : Named) → IsAllSound job.behaviour IsKept
+    (events : List (EventAt Call)) (world : World Local) (name : RequestName) → IsAllSound job.behaviour IsKept
     → AreAmong job events → Holds job IsKept world
     → ((plain_of world).back name.from name.to name.number ≡ true → ⊥)
     → (plain_of (run job events world)).back name.from name.to name.number ≡ true

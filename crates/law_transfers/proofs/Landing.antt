@@ -8,21 +8,21 @@ use Rattle.wire_message.specs.Parameters.{Parameters, AreInRange}
 use Rattle.wire_message.specs.Content.{Content}
 use Rattle.part_handlers.specs.declared.table.Entry.{Entry}
 use Rattle.part_handlers.specs.Runs.{Meaning}
-use Rattle.base_lists.specs.Numbered.{numbered}
+use Rattle.base_lists.specs.Numbered.{element_at}
 use Rattle.base_lists.proofs.Put.{put_same}
 use Rattle.base_lists.proofs.Numbered.{numbered_in, numbered_map}
 use Rattle.part_segment.specs.Image.{Write, AllFit, image}
 use Rattle.spec_node.specs.Behaviour.{Contact}
 use Rattle.spec_node.proofs.Runs.{run_of_there}
-use Rattle.spec_network.specs.World.{Timed, world_answer, world_after}
-use Rattle.spec_network.specs.Plain.{Plain, Labelled, Replied, IsRequest, InRuns, is_among, reply_of, plain_of, labelled}
-use Rattle.spec_network.specs.PlainStep.{named, at_target, at_origin}
+use Rattle.spec_network.specs.World.{EventAt, world_answer, world_after}
+use Rattle.spec_network.specs.Plain.{Plain, PlainRequest, RunReply, IsRequest, InRuns, is_among, reply_of, plain_of, plain_request}
+use Rattle.spec_network.specs.PlainStep.{request_name, at_target, at_origin}
 use Rattle.spec_network.proofs.PlainReadings.{is_back_at, is_back_says, among_from, from_among, among_reply}
 use Rattle.spec_network.proofs.PlainGrowing.{pair_same, step_grows}
 use Rattle.spec_network.proofs.PlainSteps.{step_plain}
 use Rattle.spec_network.proofs.Headline.{end_holds}
 use Rattle.part_transfers.specs.declared.operation.Next.{Next}
-use Rattle.part_transfers.specs.Operation.{Operation, Sent, target}
+use Rattle.part_transfers.specs.Operation.{Operation, SentChunk, target}
 use Rattle.node_core.specs.HandlerRuns.{handlers_of, run_request, run_reply}
 use Rattle.node_core.specs.Library.{work_content}
 use Rattle.node_rules.specs.EndpointLocal.{EndpointLocal, IsEndpointKept}
@@ -86,7 +86,7 @@ writes_by settings table meaning node write moment sound around now =
 
 -- ---- the reply of a request that runs
 
-reply_new : (runs : List Replied) (number : ℕ) (reply : Content) → is_among number runs ≡ false
+reply_new : (runs : List RunReply) (number : ℕ) (reply : Content) → is_among number runs ≡ false
     → reply_of number (runs ++ record { number = number; reply = reply } ∷ []) ≡ Some reply
 reply_new [] number reply none = rw (eq-eqb number number refl) refl
 reply_new (first ∷ later) number reply none =
@@ -95,8 +95,8 @@ reply_new (first ∷ later) number reply none =
 
 -- ---- what was asked over a stretch wasn't asked before
 
-issued_new : (settings : Parameters) (table : List (Option Entry)) (meaning : Meaning) (events : List (Timed OtherCall))
-    (world : Records) (node : ℕ) (chunk : Next) (number : ℕ) (request : Labelled) → AreSound settings table meaning
+issued_new : (settings : Parameters) (table : List (Option Entry)) (meaning : Meaning) (events : List (EventAt OtherCall))
+    (world : Records) (node : ℕ) (chunk : Next) (number : ℕ) (request : PlainRequest) → AreSound settings table meaning
     → AreAmong (job_of settings table meaning) events → AllHolds settings table meaning world
     → Sometime (job_of settings table meaning) (Issues (job_of settings table meaning) node chunk number) events world
     → IsRequest (plain_of world) node (target chunk.transfer) number request → ⊥
@@ -122,46 +122,46 @@ issued_new settings table meaning (e ∷ events) world node chunk number request
 pub record Known {settings : Parameters} {table : List (Option Entry)} {meaning : Meaning}
     (over : Over settings table meaning) (node : ℕ) (chunk : Next) : Type 0 where
   pub number : ℕ
-  pub request : Labelled
+  pub request : PlainRequest
   pub asked : IsRequest (plain_of (last_of over)) node (target chunk.transfer) number request
   pub reply : Content
   pub replied : reply_of number ((plain_of (last_of over)).runs node (target chunk.transfer)) ≡ Some reply
   pub issued : HappensIn (job_of settings table meaning) over.stretch
       (Issues (job_of settings table meaning) node chunk number)
   pub once : HappensOnceIn (job_of settings table meaning) over.stretch
-      (Runs (job_of settings table meaning) (named node (target chunk.transfer) number))
+      (Runs (job_of settings table meaning) (request_name node (target chunk.transfer) number))
   pub runs : HappensIn (job_of settings table meaning) over.stretch
-      (RanAs (job_of settings table meaning) (named node (target chunk.transfer) number))
+      (RanAs (job_of settings table meaning) (request_name node (target chunk.transfer) number))
   pub back_once : HappensOnceIn (job_of settings table meaning) over.stretch
-      (ComesBack (job_of settings table meaning) (named node (target chunk.transfer) number))
+      (ComesBack (job_of settings table meaning) (request_name node (target chunk.transfer) number))
   pub backs : HappensIn (job_of settings table meaning) over.stretch
-      (BackAs (job_of settings table meaning) (named node (target chunk.transfer) number))
+      (BackAs (job_of settings table meaning) (request_name node (target chunk.transfer) number))
 
 -- what ran was asked
 ran_asked : (settings : Parameters) (table : List (Option Entry)) (meaning : Meaning) (world : Records)
     (from to number : ℕ) → AllHolds settings table meaning world → InRuns (plain_of world) from to number
-    → (request : Labelled) × IsRequest (plain_of world) from to number request
+    → (request : PlainRequest) × IsRequest (plain_of world) from to number request
 ran_asked settings table meaning world from to number holds ran =
     let run = from_among ((world to).ran from) number ran in
     let at = run_of_there number ((world to).ran from) run.0 run.1 in
     let it = (holds.pair from to).named at.1.0 run.0 at.1.1 in (
-      labelled it.0,
-      numbered_map labelled ((world from).asked to) number it.0
-          (ap (numbered ((world from).asked to)) (sym at.0) ∙ it.1),
+      plain_request it.0,
+      numbered_map plain_request ((world from).asked to) number it.0
+          (ap (element_at ((world from).asked to)) (sym at.0) ∙ it.1),
     )
 
 -- so was what is back
 back_asked : (world : Records) (from to number : ℕ) → (plain_of world).back from to number ≡ true
-    → (request : Labelled) × IsRequest (plain_of world) from to number request
+    → (request : PlainRequest) × IsRequest (plain_of world) from to number request
 back_asked world from to number back =
-    let it = is_back_says (numbered ((world from).asked to) number) back in
-    (labelled it.0, numbered_map labelled ((world from).asked to) number it.0 it.1)
+    let it = is_back_says (element_at ((world from).asked to) number) back in
+    (plain_request it.0, numbered_map plain_request ((world from).asked to) number it.0 it.1)
 
 pub known : {settings : Parameters} {table : List (Option Entry)} {meaning : Meaning}
     (over : Over settings table meaning)
-    (node number index : ℕ) (operation : Operation) (sent : Sent)
+    (node number index : ℕ) (operation : Operation) (sent : SentChunk)
     → NodeTracks settings.version (last_of over node)
-    → numbered (last_of over node).local.operations number ≡ Some operation
+    → element_at (last_of over node).local.operations number ≡ Some operation
     → slice_get operation.sent index ≡ Some sent → sent.back ≡ true
     → ((request : ℕ) → Chunked (over.stretch.from node).local.operations number index request operation.transfer → ⊥)
     → Known over node (chunk_at operation.transfer number index)
@@ -174,9 +174,9 @@ known {settings} {table} {meaning} over node number index operation sent tracks 
     let request = tracks.request number index
     (record { operation = operation; sent = sent; numbered_so = there; issued = at }) in
     let k = sent.number in
-    let name = named node to k in
+    let name = request_name node to k in
     let is_back_now : (plain_of last).back node to k ≡ true
-    = is_back_at (numbered ((last node).asked to) k) request.request request.accepted ∙ (request.back ∙ back) in
+    = is_back_at (element_at ((last node).asked to) k) request.request request.accepted ∙ (request.back ∙ back) in
     let ran = (holds.pair node to).back_ran k request.request request.accepted (request.back ∙ back) in
     let among : InRuns (plain_of last) node to k = among_from ((last to).ran node) k ran.0 ran.1 in
     let reply = among_reply ((plain_of last).runs node to) k among in
@@ -187,8 +187,8 @@ known {settings} {table} {meaning} over node number index operation sent tracks 
       | inl had ↦ absurd (fresh k had)
       | inr it ↦ it
     ] in
-    let new = λ (labelled_as : Labelled) (asked : IsRequest (plain_of world) node to k labelled_as). issued_new
-    settings table meaning over.stretch.events world node (chunk_at operation.transfer number index) k labelled_as
+    let new = λ (plain_request_as : PlainRequest) (asked : IsRequest (plain_of world) node to k plain_request_as). issued_new
+    settings table meaning over.stretch.events world node (chunk_at operation.transfer number index) k plain_request_as
     over.sound over.among over.holds issued asked in
     let not_run = λ (was : InRuns (plain_of world) node to k). let it = ran_asked settings table meaning world node to
     k over.holds was in new it.0 it.1 in
@@ -196,8 +196,8 @@ known {settings} {table} {meaning} over node number index operation sent tracks 
     it.0 it.1 in
     record {
       number = k;
-      request = labelled request.request;
-      asked = numbered_map labelled ((last node).asked to) k request.request request.accepted;
+      request = plain_request request.request;
+      asked = numbered_map plain_request ((last node).asked to) k request.request request.accepted;
       reply = reply.0;
       replied = reply.1;
       issued = issued;
@@ -236,20 +236,20 @@ issued_says {settings} {table} {meaning} over node chunk K =
     over.stretch.events over.stretch.from over.sound over.among over.holds
     (λ moment around last it.
     let grown = grown_after job (IsEndpointKept settings) moment over.sound around in
-    let said : Labelled = record {
+    let said : PlainRequest = record {
       content = work_content settings.version (segment_at job moment.before node) (chunk_work chunk);
-      label = it.slot;
+      slot = it.slot;
     } in
     let there = subst (λ (world : Records). IsRequest (plain_of world) node (target chunk.transfer) K.number said) last
     (grown.requests node (target chunk.transfer) K.number said it.accepted) in
-    (it, ap (λ (l : Labelled). l.content) (same_Some K.request said (sym K.asked ∙ there))))
+    (it, ap (λ (l : PlainRequest). l.content) (same_Some K.request said (sym K.asked ∙ there))))
     K.issued
 
 -- the request runs: what its target keeps afterwards, and its reply
 pub record RanSo {settings : Parameters} {table : List (Option Entry)} {meaning : Meaning}
     (over : Over settings table meaning) (node : ℕ) (chunk : Next) (K : Known over node chunk)
     (moment : EndpointMoment) : Type 0 where
-  pub runs : Runs (job_of settings table meaning) (named node (target chunk.transfer) K.number) moment
+  pub runs : Runs (job_of settings table meaning) (request_name node (target chunk.transfer) K.number) moment
   pub contact : Contact
   pub writes :
       let out = run_request (handlers_of settings table meaning) contact K.request.content
@@ -264,19 +264,19 @@ ran_so : {settings : Parameters} {table : List (Option Entry)} {meaning : Meanin
     (over : Over settings table meaning) (node : ℕ) (chunk : Next) (K : Known over node chunk) (moment : EndpointMoment)
     → Around (job_of settings table meaning) (IsEndpointKept settings) moment
     → end_of (job_of settings table meaning) moment ≡ last_of over
-    → RanAs (job_of settings table meaning) (named node (target chunk.transfer) K.number) moment
+    → RanAs (job_of settings table meaning) (request_name node (target chunk.transfer) K.number) moment
     → RanSo over node chunk K moment
 ran_so {settings} {table} {meaning} over node chunk K moment around last it =
     let job = job_of settings table meaning in
     let to = target chunk.transfer in
     let first = it.first in
-    let contact = at_target (named node to K.number) first.request in
+    let contact = at_target (request_name node to K.number) first.request in
     let handlers = handlers_of settings table meaning in
     let core = (moment.before to).local.core in
     let there = subst (λ (world : Records). IsRequest (plain_of world) node to K.number first.request) last
     ((grown_before job (IsEndpointKept settings) moment over.sound around).requests node to K.number first.request
     first.fresh.is) in
-    let says : first.request.content ≡ K.request.content = ap (λ (l : Labelled). l.content)
+    let says : first.request.content ≡ K.request.content = ap (λ (l : PlainRequest). l.content)
     (same_Some _ _ (sym there ∙ K.asked)) in
     let out = run_request handlers contact first.request.content core in
     let runs = (plain_of moment.before).runs node to in
@@ -309,7 +309,7 @@ pub runs_so : {settings : Parameters} {table : List (Option Entry)} {meaning : M
     → HappensIn (job_of settings table meaning) over.stretch (RunsAround over node chunk K)
 runs_so {settings} {table} {meaning} over node chunk K =
     sometime_around (job_of settings table meaning) (IsEndpointKept settings)
-    (RanAs (job_of settings table meaning) (named node (target chunk.transfer) K.number))
+    (RanAs (job_of settings table meaning) (request_name node (target chunk.transfer) K.number))
     (RunsAround over node chunk K) over.stretch.events over.stretch.from over.sound over.among over.holds
     (λ moment around last it. (around, ran_so over node chunk K moment around last it)) K.runs
 
@@ -317,7 +317,7 @@ runs_so {settings} {table} {meaning} over node chunk K =
 pub record BackSo {settings : Parameters} {table : List (Option Entry)} {meaning : Meaning}
     (over : Over settings table meaning) (node : ℕ) (chunk : Next) (K : Known over node chunk)
     (moment : EndpointMoment) : Type 0 where
-  pub comes : ComesBack (job_of settings table meaning) (named node (target chunk.transfer) K.number) moment
+  pub comes : ComesBack (job_of settings table meaning) (request_name node (target chunk.transfer) K.number) moment
   pub contact : Contact
   pub writes : writes_at (after_in (job_of settings table meaning) moment) node
       ≡ (run_reply (handlers_of settings table meaning) contact K.reply (moment.before node).local.core).writes
@@ -334,11 +334,11 @@ backs_so {settings} {table} {meaning} over node chunk K =
     let job = job_of settings table meaning in
     let to = target chunk.transfer in
     let handlers = handlers_of settings table meaning in
-    sometime_around job (IsEndpointKept settings) (BackAs job (named node to K.number)) (BacksAround over node chunk K)
+    sometime_around job (IsEndpointKept settings) (BackAs job (request_name node to K.number)) (BacksAround over node chunk K)
     over.stretch.events over.stretch.from over.sound over.among over.holds
     (λ moment around last it.
     let takes = it.takes in
-    let contact = at_origin (named node to K.number) takes.request in
+    let contact = at_origin (request_name node to K.number) takes.request in
     let core = (moment.before node).local.core in
     let at_end = subst (λ (world : Records). reply_of K.number ((plain_of world).runs node to) ≡ Some takes.reply) last
     ((grown_before job (IsEndpointKept settings) moment over.sound around).runs node to K.number takes.reply

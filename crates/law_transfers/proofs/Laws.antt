@@ -9,16 +9,16 @@ use Rattle.std.proofs.lemmas.Option.{same_Some}
 use Rattle.wire_message.specs.Parameters.{Parameters, AreInRange}
 use Rattle.part_handlers.specs.declared.table.Entry.{Entry}
 use Rattle.part_handlers.specs.Runs.{Meaning}
-use Rattle.base_lists.specs.Numbered.{numbered}
+use Rattle.base_lists.specs.Numbered.{element_at}
 use Rattle.base_lists.specs.Put.{put}
 use Rattle.base_lists.proofs.Put.{put_same, put_other}
 use Rattle.base_lists.proofs.Places.{slice_get_last, slice_get_there}
 use Rattle.spec_node.specs.NodeStep.{node_after}
-use Rattle.spec_network.specs.World.{Timed, Event, Fall, falls, after_at, world_after, run}
+use Rattle.spec_network.specs.World.{EventAt, Event, Fall, falls, after_at, world_after, run}
 use Rattle.spec_network.proofs.Worlds.{step_keeps, opening_holds}
 use Rattle.spec_network.proofs.Headline.{end_holds}
 use Rattle.part_transfers.specs.declared.operation.Transfer.{Transfer}
-use Rattle.part_transfers.specs.Operation.{Operation, Sent, size, chunks, chunk_start, has_next, is_complete, fresh}
+use Rattle.part_transfers.specs.Operation.{Operation, SentChunk, size, chunks, chunk_start, has_next, is_complete, fresh}
 use Rattle.node_rules.specs.EndpointLocal.{EndpointLocal, IsEndpointKept, IsByChunks, nothing_begun}
 use Rattle.node_rules.specs.EndpointRules.{OtherCall, OnTransfers, Records, at_the_opening, job_of}
 use Rattle.node_rules.specs.Tracking.{chunk_at, NodeTracks}
@@ -26,7 +26,7 @@ use Rattle.node_rules.proofs.Kept.{opening_kept}
 use Rattle.node_rules.proofs.Sound.{rules_sound}
 use Rattle.node_rules.proofs.Tracking.{event_tracks, opening_tracks}
 use Rattle.law_transfers.specs.Chunks.{state_after, ChunkDone}
-use Rattle.law_transfers.specs.TransferLaws.{AreAmong, called, Beginning, since, OverIsDone, SyncIsDone, InEveryJob}
+use Rattle.law_transfers.specs.TransferLaws.{AreAmong, transfer_event, Beginning, since, OverIsDone, SyncIsDone, InEveryJob}
 use Rattle.law_transfers.specs.TransferLaws.{TransfersHold, LiesIn, PiecesCover}
 use Rattle.law_transfers.proofs.Marking.{Like, Chunked}
 use Rattle.law_transfers.proofs.Effects.{call_effect}
@@ -55,13 +55,13 @@ fall_tracks settings table meaning world now (Some fall) all node =
     ]
 
 pub step_tracks : (settings : Parameters) (table : List (Option Entry)) (meaning : Meaning) (world : Records)
-    (e : Timed OtherCall) → AllTrack settings world
+    (e : EventAt OtherCall) → AllTrack settings world
     → AllTrack settings (world_after (job_of settings table meaning) world e)
 step_tracks settings table meaning world e all =
     fall_tracks settings table meaning world e.now (falls settings world e.event) all
 
 pub run_tracks : (settings : Parameters) (table : List (Option Entry)) (meaning : Meaning)
-    (events : List (Timed OtherCall)) (world : Records) → AllTrack settings world
+    (events : List (EventAt OtherCall)) (world : Records) → AllTrack settings world
     → AllTrack settings (run (job_of settings table meaning) events world)
 run_tracks settings table meaning [] world all = all
 run_tracks settings table meaning (e ∷ events) world all =
@@ -76,36 +76,36 @@ all_issued : (operation : Operation) → is_complete operation ≡ true
     → length operation.sent ≡ chunks (size operation.transfer)
 all_issued operation complete few =
     let none : has_next operation ≡ false = not-true (has_next operation)
-    (and_parts (not (has_next operation)) (list_all (λ (sent : Sent). sent.back) operation.sent) complete).0 in
+    (and_parts (not (has_next operation)) (list_all (λ (sent : SentChunk). sent.back) operation.sent) complete).0 in
     let many = ltb-false (length operation.sent) (chunks (size operation.transfer)) none in
     omega (arith, many, few)
 
-back_at : (all : List Sent) (index : ℕ) (sent : Sent) → list_all (λ (one : Sent). one.back) all ≡ true
+back_at : (all : List SentChunk) (index : ℕ) (sent : SentChunk) → list_all (λ (one : SentChunk). one.back) all ≡ true
     → slice_get all index ≡ Some sent → sent.back ≡ true
 back_at [] index sent is at = absurd (cc)
 back_at (first ∷ later) index sent is at = by_index index at (λ i e. back_at later i sent parts.1 e)
   where
-    parts : (first.back ≡ true) × (list_all (λ (one : Sent). one.back) later ≡ true)
-    parts = and_parts first.back (list_all (λ (one : Sent). one.back) later) is
+    parts : (first.back ≡ true) × (list_all (λ (one : SentChunk). one.back) later ≡ true)
+    parts = and_parts first.back (list_all (λ (one : SentChunk). one.back) later) is
 
     by_index : (i : ℕ) → slice_get (first ∷ later) i ≡ Some sent
         → ((k : ℕ) → slice_get later k ≡ Some sent → sent.back ≡ true) → sent.back ≡ true
-    by_index zero e rest = ap (λ (s : Sent). s.back) (sym (same_Some _ _ e)) ∙ parts.0
+    by_index zero e rest = ap (λ (s : SentChunk). s.back) (sym (same_Some _ _ e)) ∙ parts.0
     by_index (suc k) e rest = rest k e
 
 -- each is back
-all_back : (operation : Operation) → is_complete operation ≡ true → (index : ℕ) (sent : Sent)
+all_back : (operation : Operation) → is_complete operation ≡ true → (index : ℕ) (sent : SentChunk)
     → slice_get operation.sent index ≡ Some sent → sent.back ≡ true
 all_back operation complete index sent at =
     back_at operation.sent index sent
-    (and_parts (not (has_next operation)) (list_all (λ (one : Sent). one.back) operation.sent) complete).1 at
+    (and_parts (not (has_next operation)) (list_all (λ (one : SentChunk). one.back) operation.sent) complete).1 at
 
 -- ---- a transfer that is over
 
 abbrev pub over_stretch : (settings : Parameters) (table : List (Option Entry)) (meaning : Meaning)
     → AreInRange settings
     → AreSound settings table meaning → ((node : ℕ) → IsEndpointKept settings node (nothing_begun settings))
-    → (beginning : Beginning (job_of settings table meaning)) (events : List (Timed OtherCall))
+    → (beginning : Beginning (job_of settings table meaning)) (events : List (EventAt OtherCall))
     → AreAmong (job_of settings table meaning) events → Over settings table meaning
 over_stretch settings table meaning range sound starts beginning events among =
     let job = job_of settings table meaning in
@@ -118,7 +118,7 @@ over_stretch settings table meaning range sound starts beginning events among =
       stretch = since job beginning events;
       among = among;
       holds = step_keeps job kept (run job beginning.before (at_the_opening settings))
-          (called beginning.now beginning.node beginning.thread beginning.call) sound before beginning.there;
+          (transfer_event beginning.now beginning.node beginning.thread beginning.call) sound before beginning.there;
     }
 
 pub over_is_done : (settings : Parameters) (table : List (Option Entry)) (meaning : Meaning) → AreInRange settings
@@ -133,7 +133,7 @@ over_is_done settings table meaning range sound starts beginning events operatio
     let from = over.stretch.from in
     let last = last_of over in
     let tracks_from = step_tracks settings table meaning before
-    (called beginning.now node beginning.thread beginning.call)
+    (transfer_event beginning.now node beginning.thread beginning.call)
     (run_tracks settings table meaning beginning.before (at_the_opening settings) (λ any. opening_tracks settings)) in
     let tracks = run_tracks settings table meaning events from tracks_from node in
     let complete : is_complete operation
@@ -141,7 +141,7 @@ over_is_done settings table meaning range sound starts beginning events operatio
     let begins = begins_last settings table meaning before beginning.now node beginning.thread beginning.call
     beginning.transfer number beginning.begins in
     let new = fresh beginning.thread beginning.transfer begins.mode (suc (length (before node).local.operations)) in
-    let here : numbered (from node).local.operations number ≡ Some new = ap₂ numbered begins.after_is begins.number_is
+    let here : element_at (from node).local.operations number ≡ Some new = ap₂ element_at begins.after_is begins.number_is
     ∙ slice_get_last (before node).local.operations new in
     let stays = transfer_stays settings table meaning events from node number new sound among over.holds here in
     let transfer_is : operation.transfer
@@ -162,12 +162,12 @@ over_is_done settings table meaning range sound starts beginning events operatio
           (subst (λ t. index < chunks (size t)) (sym transfer_is) inside) (λ request C. unissued index request C));
     }
   where
-    nothing : (index : ℕ) (sent : Sent) → slice_get [] index ≡ Some sent → ⊥
+    nothing : (index : ℕ) (sent : SentChunk) → slice_get [] index ≡ Some sent → ⊥
     nothing index sent at = cc
 
     each_done : (over : Over settings table meaning) (node number index : ℕ) (o : Operation)
         → NodeTracks settings.version (last_of over node)
-        → numbered (last_of over node).local.operations number ≡ Some o → is_complete o ≡ true
+        → element_at (last_of over node).local.operations number ≡ Some o → is_complete o ≡ true
         → length o.sent ≡ chunks (size o.transfer) → IsByChunks settings node o.transfer
         → index < chunks (size o.transfer)
         → ((request : ℕ) → Chunked (over.stretch.from node).local.operations number index request o.transfer → ⊥)
@@ -181,8 +181,8 @@ over_is_done settings table meaning range sound starts beginning events operatio
 
 complete_like : (old new : Operation) → Like old new → is_complete new ≡ true → is_complete old ≡ true
 complete_like old new like complete =
-    ap₂ (λ (transfer : Transfer) (sent : List Sent). not (nat_lt (length sent) (chunks (size transfer))) && list_all
-    (λ (one : Sent). one.back) sent)
+    ap₂ (λ (transfer : Transfer) (sent : List SentChunk). not (nat_lt (length sent) (chunks (size transfer))) && list_all
+    (λ (one : SentChunk). one.back) sent)
     (sym like.0) (sym like.1) ∙ complete
 
 pub sync_is_done : (settings : Parameters) (table : List (Option Entry)) (meaning : Meaning) → AreInRange settings
@@ -196,20 +196,20 @@ sync_is_done settings table meaning range sound starts beginning events sync amo
     let stretch = since job beginning events in
     let world = state_after job stretch in
     let tracks = step_tracks settings table meaning world sync (run_tracks settings table meaning events stretch.from
-    (step_tracks settings table meaning before (called beginning.now node beginning.thread beginning.call)
+    (step_tracks settings table meaning before (transfer_event beginning.now node beginning.thread beginning.call)
     (run_tracks settings table meaning beginning.before (at_the_opening settings) (λ any. opening_tracks settings))))
     node in
     let complete : is_complete syncs.new ≡ true = tracks.complete number syncs.new syncs.is syncs.marked in
-    let at = called sync.now node syncs.thread syncs.call in
+    let at = transfer_event sync.now node syncs.thread syncs.call in
     let same : sync ≡ at = ap (λ (e : Event OtherCall). record { now = sync.now; event = e }) syncs.event in
     let effect = call_effect settings table meaning (caller_of settings world node syncs.thread)
     (OnTransfers syncs.call) (world node).local in
-    let left = ap (λ (e : Timed OtherCall). (world_after job world e node).local.operations) same
+    let left = ap (λ (e : EventAt OtherCall). (world_after job world e node).local.operations) same
     ∙ ap (λ (l : EndpointLocal). l.operations)
     (left_there settings table meaning world sync.now node syncs.thread syncs.call) in
     let kept = effect.operations.kept number syncs.old syncs.was in
     let new : kept.0 ≡ syncs.new = same_Some _ _
-    (sym kept.1 ∙ (ap (λ (ops : List Operation). numbered ops number) (sym left) ∙ syncs.is)) in
+    (sym kept.1 ∙ (ap (λ (ops : List Operation). element_at ops number) (sym left) ∙ syncs.is)) in
     over_is_done settings table meaning range sound starts beginning events syncs.old among syncs.was
     (inr (complete_like syncs.old syncs.new (subst (Like syncs.old) new kept.2) complete))
 

@@ -16,14 +16,14 @@ use Rattle.spec_node.specs.Step.{ran_here}
 use Rattle.spec_node.specs.NodeStep.{Job, site_of, NodeAnswer, OfRequest, OfCall, OfDelivery, OfTick}
 use Rattle.spec_network.specs.World.{Event, Asks, Does, RequestComes, ReplyComes, Ticks, WorldAnswer, OfNode, Unsent}
 use Rattle.spec_network.specs.Plain.{Plain}
-use Rattle.spec_network.specs.PlainStep.{named, AskStep, RunStep, RunsFirst, TakeStep, TickStep, SendsFirst, CallStep}
+use Rattle.spec_network.specs.PlainStep.{request_name, AskStep, RunStep, RunsFirst, TakeStep, TickStep, SendsFirst, CallStep}
 use Rattle.spec_network.specs.PlainStep.{NodeStep, UnsentStep, PlainStep, plain_exhausted}
 
 -- what the node keeps is as it was; or the event fell there, and left this of it
 pub data LocalStep {Local Call Told : Type 0} (job : Job Local Call Told) (p q : Plain Local) (e : Event Call)
     (a : WorldAnswer Told) (node : ℕ) : Type 0 where
   Same : q.local node ≡ p.local node → LocalStep job p q e a node
-  Notes : (thread : ℕ) (forbidden : Forbidden)
+  Notifications : (thread : ℕ) (forbidden : Forbidden)
       → q.local node ≡ job.behaviour.messages.notes thread forbidden (p.local node) → LocalStep job p q e a node
   RunsHere : (content : Content) → q.local node ≡ ran_here job.behaviour.messages node content (p.local node)
       → LocalStep job p q e a node
@@ -55,7 +55,7 @@ unchanged job p q e a node is = Same (ap (λ (r : Plain _). r.local node) is)
 ask_step : {Local Call Told : Type 0} (job : Job Local Call Told) (p q : Plain Local) (i : ℕ) (ask : Ask)
     (e : Event Call) (b : WorldAnswer Told) (node : ℕ) (a : Asked) → AskStep (site_of job i) p ask a q
     → LocalStep job p q e b node
-ask_step job p q i ask e b node (asked.Accepted to label k) h = Same (ap (λ (r : Plain _). r.local node) h.3)
+ask_step job p q i ask e b node (asked.Accepted to slot k) h = Same (ap (λ (r : Plain _). r.local node) h.3)
 ask_step job p q i ask e b node asked.NotYet h = unchanged job p q e b node h.3
 ask_step job p q i ask e b node asked.Exhausted h = unchanged job p q e b node h.2
 ask_step job p q i ask e b node (asked.BadArg part) h = unchanged job p q e b node h.2
@@ -72,16 +72,16 @@ ask_step job p q i ask e b node (asked.Forbidden forbidden) h =
     elim (put_local p q i (job.behaviour.messages.notes ask.thread forbidden (p.local i)) node
     (ap (λ (r : Plain _). r.local) h.1)) [
       | inl same ↦ Same same
-      | inr it ↦ Notes ask.thread forbidden
+      | inr it ↦ Notifications ask.thread forbidden
           (it.1 ∙ ap (λ j. job.behaviour.messages.notes ask.thread forbidden (p.local j)) (sym it.0))
     ]
 
 -- a request runs
 first_step : {Local Call Told : Type 0} (job : Job Local Call Told) (p q : Plain Local) (from to number : ℕ)
     (e : Event Call) (b : WorldAnswer Told) (node : ℕ) (a : Delivered)
-    → RunsFirst job.behaviour.messages p (named from to number) a q → LocalStep job p q e b node
+    → RunsFirst job.behaviour.messages p (request_name from to number) a q → LocalStep job p q e b node
 first_step job p q from to number e b node a h =
-    let contact : Contact = record { me = to; peer = from; slot = h.request.label; number = number } in
+    let contact : Contact = record { me = to; peer = from; slot = h.request.slot; number = number } in
     let content = h.request.content in
     elim (put_local p q to (job.behaviour.messages.run contact content (p.local to)).0 node
     (ap (λ (r : Plain _). r.local) h.leaves)) [
@@ -92,7 +92,7 @@ first_step job p q from to number e b node a h =
 
 run_step : {Local Call Told : Type 0} (job : Job Local Call Told) (p q : Plain Local) (from to number : ℕ)
     (e : Event Call) (b : WorldAnswer Told) (node : ℕ) (a : Delivered)
-    → RunStep job.behaviour.messages p (named from to number) a q → LocalStep job p q e b node
+    → RunStep job.behaviour.messages p (request_name from to number) a q → LocalStep job p q e b node
 run_step job p q from to number e b node (delivered.Duplicate at) h = unchanged job p q e b node h.4
 run_step job p q from to number e b node delivered.Stale h = unchanged job p q e b node h.3
 run_step job p q from to number e b node (delivered.Deferred lock) h = unchanged job p q e b node h.3
@@ -101,9 +101,9 @@ run_step job p q from to number e b node a h = first_step job p q from to number
 -- a reply comes
 take_step : {Local Call Told : Type 0} (job : Job Local Call Told) (p q : Plain Local) (from to number : ℕ)
     (e : Event Call) (b : WorldAnswer Told) (node : ℕ) (a : Delivered)
-    → TakeStep job.behaviour.messages p (named from to number) a q → LocalStep job p q e b node
+    → TakeStep job.behaviour.messages p (request_name from to number) a q → LocalStep job p q e b node
 take_step job p q from to number e b node (delivered.Returned peer slot n) h =
-    let contact : Contact = record { me = from; peer = to; slot = h.request.label; number = number } in
+    let contact : Contact = record { me = from; peer = to; slot = h.request.slot; number = number } in
     elim (put_local p q from (job.behaviour.messages.take contact h.reply (p.local from)) node
     (ap (λ (r : Plain _). r.local) h.leaves)) [
       | inl same ↦ Same same
@@ -119,7 +119,7 @@ send_step : {Local Call Told : Type 0} (job : Job Local Call Told) (p q : Plain 
     → SendsFirst (site_of job i) p a q → LocalStep {Call = Call} {Told = Told} job p q (Ticks i) (OfNode (OfTick a))
     node
 send_step {Call = Call} {Told = Told} job p q i node a h =
-    let contact : Contact = record { me = i; peer = h.to; slot = h.request.label; number = h.claim.number } in
+    let contact : Contact = record { me = i; peer = h.to; slot = h.request.slot; number = h.claim.number } in
     elim (put_local p q i (job.behaviour.messages.issued contact h.request.content (p.local i)) node
     (ap (λ (r : Plain _). r.local) h.leaves)) [
       | inl same ↦ Same same

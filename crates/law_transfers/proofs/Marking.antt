@@ -5,13 +5,13 @@ use Rattle.std.specs.Prelude.{if◌then◌else◌}
 use Rattle.std.specs.List.{slice_get}
 use Rattle.std.proofs.lemmas.Bool.{cases_Bool, cases_eq, eq-eqb, ne_eqb}
 use Rattle.std.proofs.lemmas.Option.{same_Some}
-use Rattle.base_lists.specs.Numbered.{numbered}
+use Rattle.base_lists.specs.Numbered.{element_at}
 use Rattle.base_lists.proofs.Numbered.{numbered_push, numbered_kept, numbered_map, numbered_mapped}
 use Rattle.part_transfers.specs.declared.operation.Transfer.{Transfer}
 use Rattle.part_transfers.specs.declared.operation.Mode.{Mode}
 use Rattle.part_transfers.specs.declared.operation.Synced.{Synced}
 use Rattle.part_transfers.specs.declared.operation.Synced.TheVariants as synced
-use Rattle.part_transfers.specs.Operation.{Operation, Sent, target, is_full, fresh, after_begin, with_back, as_back, went_as}
+use Rattle.part_transfers.specs.Operation.{Operation, SentChunk, target, is_full, fresh, after_begin, with_back, as_back, went_as}
 use Rattle.part_transfers.specs.Operation.{come_back}
 use Rattle.part_transfers.specs.Syncs.{Choice, go, left_by, after_handle}
 
@@ -23,17 +23,17 @@ Like old new = (new.transfer ≡ old.transfer) × (new.sent ≡ old.sent)
 
 -- each operation is like it was, or is new and has no chunk
 pub record Alike (before after : List Operation) : Type 0 where
-  pub kept : (number : ℕ) (old : Operation) → numbered before number ≡ Some old
-      → (new : Operation) × (numbered after number ≡ Some new) × Like old new
-  pub was : (number : ℕ) (new : Operation) → numbered after number ≡ Some new
-      → ((old : Operation) × (numbered before number ≡ Some old) × Like old new) ⊎ (new.sent ≡ [])
+  pub kept : (number : ℕ) (old : Operation) → element_at before number ≡ Some old
+      → (new : Operation) × (element_at after number ≡ Some new) × Like old new
+  pub was : (number : ℕ) (new : Operation) → element_at after number ≡ Some new
+      → ((old : Operation) × (element_at before number ≡ Some old) × Like old new) ⊎ (new.sent ≡ [])
 
 pub alike_same : (before after : List Operation) → after ≡ before → Alike before after
 alike_same before after is = record {
-  kept = λ number old at. (old, ap (λ (operations : List Operation). numbered operations number) is ∙ at, (refl, refl));
+  kept = λ number old at. (old, ap (λ (operations : List Operation). element_at operations number) is ∙ at, (refl, refl));
   was = λ number new at. inl (
     new,
-    ap (λ (operations : List Operation). numbered operations number) (sym is)
+    ap (λ (operations : List Operation). element_at operations number) (sym is)
         ∙ at,
     (refl, refl),
   );
@@ -72,13 +72,13 @@ go_was choice number (first ∷ later) (suc place) new at = go_was choice (suc n
 alike_go : (choice : Choice) (operations : List Operation) → Alike operations (go choice 1 operations)
 alike_go choice operations = record { kept = kept; was = was }
   where
-    kept : (number : ℕ) (old : Operation) → numbered operations number ≡ Some old
-        → (new : Operation) × (numbered (go choice 1 operations) number ≡ Some new) × Like old new
+    kept : (number : ℕ) (old : Operation) → element_at operations number ≡ Some old
+        → (new : Operation) × (element_at (go choice 1 operations) number ≡ Some new) × Like old new
     kept zero old at = absurd (cc)
     kept (suc place) old at = go_kept choice 1 operations place old at
 
-    was : (number : ℕ) (new : Operation) → numbered (go choice 1 operations) number ≡ Some new
-        → ((old : Operation) × (numbered operations number ≡ Some old) × Like old new) ⊎ (new.sent ≡ [])
+    was : (number : ℕ) (new : Operation) → element_at (go choice 1 operations) number ≡ Some new
+        → ((old : Operation) × (element_at operations number ≡ Some old) × Like old new) ⊎ (new.sent ≡ [])
     was zero new at = absurd (cc)
     was (suc place) new at = inl (go_was choice 1 operations place new at)
 
@@ -115,16 +115,16 @@ alike_begin thread transfer mode operations =
 -- the operation of that number is this transfer, and its chunk at this index went as this request
 pub record Chunked (operations : List Operation) (number index request : ℕ) (transfer : Transfer) : Type 0 where
   pub operation : Operation
-  pub sent : Sent
-  pub there : numbered operations number ≡ Some operation
+  pub sent : SentChunk
+  pub there : element_at operations number ≡ Some operation
   pub at : slice_get operation.sent index ≡ Some sent
   pub transfer_is : operation.transfer ≡ transfer
   pub request_is : sent.number ≡ request
 
 -- operations keep their transfers, and have no chunk that they hadn't
 pub record Evolves (before after : List Operation) : Type 0 where
-  pub kept : (number : ℕ) (old : Operation) → numbered before number ≡ Some old
-      → (new : Operation) × (numbered after number ≡ Some new) × (new.transfer ≡ old.transfer)
+  pub kept : (number : ℕ) (old : Operation) → element_at before number ≡ Some old
+      → (new : Operation) × (element_at after number ≡ Some new) × (new.transfer ≡ old.transfer)
   pub chunk : (number index request : ℕ) (transfer : Transfer) → Chunked after number index request transfer
       → Chunked before number index request transfer
 
@@ -136,22 +136,22 @@ evolves_alike before after A = record {
       operation = old.0;
       sent = C.sent;
       there = old.1;
-      at = ap (λ (sent : List Sent). slice_get sent index) (sym old.2.1) ∙ C.at;
+      at = ap (λ (sent : List SentChunk). slice_get sent index) (sym old.2.1) ∙ C.at;
       transfer_is = sym old.2.0 ∙ C.transfer_is;
       request_is = C.request_is;
     }
-    | inr none ↦ absurd (nothing index C.sent (ap (λ (sent : List Sent). slice_get sent index) (sym none) ∙ C.at))
+    | inr none ↦ absurd (nothing index C.sent (ap (λ (sent : List SentChunk). slice_get sent index) (sym none) ∙ C.at))
   ];
 }
   where
-    nothing : (index : ℕ) (sent : Sent) → slice_get [] index ≡ Some sent → ⊥
+    nothing : (index : ℕ) (sent : SentChunk) → slice_get [] index ≡ Some sent → ⊥
     nothing index sent at = cc
 
 pub evolves_same : (before after : List Operation) → after ≡ before → Evolves before after
 evolves_same before after is = evolves_alike before after (alike_same before after is)
 
 -- a chunk keeps its number where it comes back
-as_back_number : (slot request : ℕ) (sent : Sent) → (as_back slot request sent).number ≡ sent.number
+as_back_number : (slot request : ℕ) (sent : SentChunk) → (as_back slot request sent).number ≡ sent.number
 as_back_number slot request sent = elim (cases_Bool (went_as slot request sent))
     [ inl is ↦ rw is refl | inr isnt ↦ rw isnt refl ]
 
@@ -161,17 +161,17 @@ with_back_transfer from slot request operation = elim (cases_Bool (target operat
     [ inl is ↦ rw is refl | inr isnt ↦ rw isnt refl ]
 
 -- a chunk of what is left was one, with its number
-map_was : (slot request : ℕ) (chunks : List Sent) (index : ℕ) (new : Sent)
+map_was : (slot request : ℕ) (chunks : List SentChunk) (index : ℕ) (new : SentChunk)
     → slice_get (map (as_back slot request) chunks) index ≡ Some new
-    → (old : Sent) × (slice_get chunks index ≡ Some old) × (new.number ≡ old.number)
+    → (old : SentChunk) × (slice_get chunks index ≡ Some old) × (new.number ≡ old.number)
 map_was slot request [] index new at = absurd (cc)
 map_was slot request (first ∷ later) zero new at =
-    (first, refl, ap (λ (s : Sent). s.number) (sym (same_Some _ _ at)) ∙ as_back_number slot request first)
+    (first, refl, ap (λ (s : SentChunk). s.number) (sym (same_Some _ _ at)) ∙ as_back_number slot request first)
 map_was slot request (first ∷ later) (suc index) new at = map_was slot request later index new at
 
-sent_was : (from slot request : ℕ) (operation : Operation) (index : ℕ) (new : Sent)
+sent_was : (from slot request : ℕ) (operation : Operation) (index : ℕ) (new : SentChunk)
     → slice_get (with_back from slot request operation).sent index ≡ Some new
-    → (old : Sent) × (slice_get operation.sent index ≡ Some old) × (new.number ≡ old.number)
+    → (old : SentChunk) × (slice_get operation.sent index ≡ Some old) × (new.number ≡ old.number)
 sent_was from slot request operation index new at = elim (cases_Bool (target operation.transfer == from)) [
   | inl is ↦ map_was slot request operation.sent index new (rw is at at)
   | inr isnt ↦ (new, rw isnt at at, refl)

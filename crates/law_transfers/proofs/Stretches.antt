@@ -3,9 +3,9 @@ use Rattle.std.proofs.Common.{◌≡◌, ◌⊎◌, inl, inr, ℕ, List, [], ◌
 use Rattle.wire_message.specs.Parameters.{Parameters}
 use Rattle.part_handlers.specs.declared.table.Entry.{Entry}
 use Rattle.part_handlers.specs.Runs.{Meaning}
-use Rattle.base_lists.specs.Numbered.{numbered}
+use Rattle.base_lists.specs.Numbered.{element_at}
 use Rattle.spec_node.specs.NodeStep.{IsAllSound}
-use Rattle.spec_network.specs.World.{Timed, world_answer, world_after, run}
+use Rattle.spec_network.specs.World.{EventAt, world_answer, world_after, run}
 use Rattle.spec_network.specs.Plain.{plain_of}
 use Rattle.spec_network.specs.Invariant.{Holds}
 use Rattle.spec_network.proofs.Worlds.{step_keeps}
@@ -33,7 +33,7 @@ AllHolds settings table meaning world = Holds (job_of settings table meaning) (I
 
 -- one event
 step_of : (settings : Parameters) (table : List (Option Entry)) (meaning : Meaning) (world : Records)
-    (e : Timed OtherCall) (node : ℕ) → AreSound settings table meaning → AllHolds settings table meaning world
+    (e : EventAt OtherCall) (node : ℕ) → AreSound settings table meaning → AllHolds settings table meaning world
     → SendEffect settings (plain_of world) (plain_of (world_after (job_of settings table meaning) world e)) e.event
     (world_answer (job_of settings table meaning) world e) node
 step_of settings table meaning world e node sound holds =
@@ -44,7 +44,7 @@ step_of settings table meaning world e node sound holds =
 
 -- after an event what holds holds
 pub holds_after : (settings : Parameters) (table : List (Option Entry)) (meaning : Meaning) (world : Records)
-    (e : Timed OtherCall) (events : List (Timed OtherCall)) → AreSound settings table meaning
+    (e : EventAt OtherCall) (events : List (EventAt OtherCall)) → AreSound settings table meaning
     → AreAmong (job_of settings table meaning) (e ∷ events) → AllHolds settings table meaning world
     → AllHolds settings table meaning (world_after (job_of settings table meaning) world e)
 holds_after settings table meaning world e events sound among holds =
@@ -52,7 +52,7 @@ holds_after settings table meaning world e events sound among holds =
 
 -- more was written
 pub writes_grow : (settings : Parameters) (table : List (Option Entry)) (meaning : Meaning)
-    (events : List (Timed OtherCall)) (world : Records) (node : ℕ) → AreSound settings table meaning
+    (events : List (EventAt OtherCall)) (world : Records) (node : ℕ) → AreSound settings table meaning
     → AreAmong (job_of settings table meaning) events → AllHolds settings table meaning world
     → Extends (writes_at world node) (writes_at (run (job_of settings table meaning) events world) node)
 writes_grow settings table meaning [] world node sound among holds = extends_same _ _ refl
@@ -63,11 +63,11 @@ writes_grow settings table meaning (e ∷ events) world node sound among holds =
 
 -- an operation keeps its transfer
 pub transfer_stays : (settings : Parameters) (table : List (Option Entry)) (meaning : Meaning)
-    (events : List (Timed OtherCall)) (world : Records) (node number : ℕ) (old : Operation)
+    (events : List (EventAt OtherCall)) (world : Records) (node number : ℕ) (old : Operation)
     → AreSound settings table meaning
     → AreAmong (job_of settings table meaning) events → AllHolds settings table meaning world
-    → numbered (world node).local.operations number ≡ Some old
-    → (new : Operation) × (numbered (run (job_of settings table meaning) events world node).local.operations number
+    → element_at (world node).local.operations number ≡ Some old
+    → (new : Operation) × (element_at (run (job_of settings table meaning) events world node).local.operations number
     ≡ Some new)
     × (new.transfer ≡ old.transfer)
 transfer_stays settings table meaning [] world node number old sound among holds at = (old, at, refl)
@@ -80,7 +80,7 @@ transfer_stays settings table meaning (e ∷ events) world node number old sound
 
 -- a chunk that was issued was issued before, or is issued at one of the events
 pub chunks_happen : (settings : Parameters) (table : List (Option Entry)) (meaning : Meaning)
-    (events : List (Timed OtherCall)) (world : Records) (node number index request : ℕ) (transfer : Transfer)
+    (events : List (EventAt OtherCall)) (world : Records) (node number index request : ℕ) (transfer : Transfer)
     → AreSound settings table meaning
     → AreAmong (job_of settings table meaning) events → AllHolds settings table meaning world
     → Chunked (run (job_of settings table meaning) events world node).local.operations number index request transfer

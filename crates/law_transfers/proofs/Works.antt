@@ -2,14 +2,14 @@
 use Rattle.std.proofs.Common.{◌≡◌, ℕ, ◌<◌, List, [], ◌∷◌, ◌++◌, ap, ap₂, ◌∙◌, append-nil}
 use Rattle.std.specs.Prelude.{◌^◌, replicate}
 use Rattle.wire_message.specs.Content.{short_request, long_request, long_reply}
-use Rattle.wire_message.proofs.Noted.{joined_again}
+use Rattle.wire_message.proofs.Notified.{joined_again}
 use Rattle.part_segment.specs.Bytes.{part}
 use Rattle.part_segment.specs.Image.{Write}
 use Rattle.spec_node.specs.Behaviour.{Contact}
 use Rattle.node_core.specs.Kept.{Local, segment_of}
 use Rattle.node_core.specs.HandlerRuns.{NodeHandlers, run_request, run_reply}
 use Rattle.node_core.specs.Library.{put_handler, get_handler, memset_handler, get_reply_handler, fetch_arguments}
-use Rattle.node_core.specs.Library.{fill_arguments, argument_number, filling, fetched}
+use Rattle.node_core.specs.Library.{fill_arguments, argument_number, filling, fetched_content}
 
 -- ---- runs
 
@@ -34,7 +34,7 @@ pub get_replies : (handlers : NodeHandlers) (contact : Contact) (local remote le
     → (run_request handlers contact (short_request get_handler (fetch_arguments local remote len)) core).1
     ≡ long_reply get_reply_handler [] local (part (segment_of handlers.settings core) remote len)
 get_replies handlers contact local remote len core here there =
-    ap (λ (kept : Local). fetched (segment_of handlers.settings kept)
+    ap (λ (kept : Local). fetched_content (segment_of handlers.settings kept)
     (record {
       remote = argument_number (fetch_arguments local remote len) 0;
       len = len;
@@ -42,7 +42,7 @@ get_replies handlers contact local remote len core here there =
           (fetch_arguments local remote len) 3;
     }))
     (ap (λ (writes : List Write). record core { writes = writes }) (append-nil core.writes))
-    ∙ ap₂ (λ first second. fetched (segment_of handlers.settings core)
+    ∙ ap₂ (λ first second. fetched_content (segment_of handlers.settings core)
     (record { remote = first; len = len; local = second }))
     (joined_again remote there) (joined_again local here)
 

@@ -7,11 +7,11 @@ use Rattle.part_segment.specs.Image.{Write}
 use Rattle.spec_node.specs.declared.answer.Ticked.TheVariants as ticked
 use Rattle.spec_node.specs.Step.{request_slot}
 use Rattle.spec_node.specs.NodeStep.{Job, OfTick}
-use Rattle.spec_network.specs.World.{Timed, Ticks, OfNode, run}
+use Rattle.spec_network.specs.World.{EventAt, Ticks, OfNode, run}
 use Rattle.spec_network.specs.Plain.{IsRequest, plain_of}
-use Rattle.spec_network.specs.PlainStep.{Named, named}
+use Rattle.spec_network.specs.PlainStep.{RequestName, request_name}
 use Rattle.node_core.specs.Kept.{segment_of}
-use Rattle.node_core.specs.Library.{Work, Put, Get, Memset, Note, work_content}
+use Rattle.node_core.specs.Library.{Work, Put, Get, Memset, Notification, work_content}
 use Rattle.part_transfers.specs.declared.operation.Next.{Next}
 use Rattle.part_transfers.specs.Operation.{target}
 use Rattle.node_rules.specs.EndpointLocal.{EndpointLocal}
@@ -30,7 +30,7 @@ EndpointMoment = Moment EndpointLocal OtherCall
 -- a stretch of its run: the state in which it begins, and its events
 pub record Stretch : Type 0 where
   pub from : Records
-  pub events : List (Timed OtherCall)
+  pub events : List (EventAt OtherCall)
 
 -- the state at its end
 abbrev pub state_after : EndpointJob → Stretch → Records
@@ -83,8 +83,8 @@ pub record Piece : Type 0 where
   pub len : ℕ
 
 -- its request, by its number
-abbrev pub request_of : Piece → (number : ℕ) → Named
-request_of piece number = named piece.node (target piece.chunk.transfer) number
+abbrev pub request_of : Piece → (number : ℕ) → RequestName
+request_of piece number = request_name piece.node (target piece.chunk.transfer) number
 
 -- a tick of the node issues the chunk: its request is accepted under the next number of the pair, and says what the
 -- chunk asks, with the bytes that the node's segment has then
@@ -96,7 +96,7 @@ pub record Issues (job : EndpointJob) (node : ℕ) (chunk : Next) (number : ℕ)
   pub accepted :
       let content = work_content job.settings.version (segment_at job moment.before node) (chunk_work chunk) in
       IsRequest (plain_of (after_in job moment)) node (target chunk.transfer) number
-      (record { content = content; label = slot })
+      (record { content = content; slot = slot })
 
 -- it is issued, and the local range holds these bytes
 abbrev pub IssuesBytes : EndpointJob → Piece → (number : ℕ) → (bytes : List ℕ) → EndpointMoment → Type 0
@@ -162,7 +162,7 @@ WorkDone job stretch node chunk (Get local remote len) =
     GetDone job stretch (record { node = node; chunk = chunk; local = local; remote = remote; len = len })
 WorkDone job stretch node chunk (Memset remote len byte) =
     MemsetDone job stretch (record { node = node; chunk = chunk; local = 0; remote = remote; len = len }) byte
-WorkDone job stretch node chunk (Note note) = ⊥
+WorkDone job stretch node chunk (Notification notification) = ⊥
 
 -- the chunk of the node's transfer was done
 abbrev pub ChunkDone : EndpointJob → Stretch → (node : ℕ) → Next → Type 0

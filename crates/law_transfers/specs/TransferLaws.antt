@@ -5,11 +5,11 @@ use Rattle.std.specs.Prelude.{ℕ, ◌≡◌, ◌⊎◌, ◌+◌, ◌<◌, ◌�
 use Rattle.std.specs.Prelude.{Some}
 use Rattle.std.specs.List.{AllByRecursion}
 use Rattle.wire_message.specs.Parameters.{Parameters, AreInRange}
-use Rattle.base_lists.specs.Numbered.{numbered}
+use Rattle.base_lists.specs.Numbered.{element_at}
 use Rattle.part_handlers.specs.declared.table.Entry.{Entry}
 use Rattle.part_handlers.specs.Runs.{Meaning, IsLawfulMeaning}
 use Rattle.spec_node.specs.NodeStep.{OfCall}
-use Rattle.spec_network.specs.World.{Timed, Does, WorldAnswer, OfNode, IsAmong, world_answer, world_after, run}
+use Rattle.spec_network.specs.World.{EventAt, Does, WorldAnswer, OfNode, IsAmong, world_answer, world_after, run}
 use Rattle.part_transfers.specs.declared.operation.Synced.TheVariants as synced
 use Rattle.part_transfers.specs.declared.operation.Transfer.{Transfer}
 use Rattle.part_transfers.specs.Operation.{Operation, target, size, chunks, chunk_start, chunk_size, is_complete}
@@ -36,16 +36,16 @@ IsBeginning (BeginImplicit asked) transfer number answer =
 IsBeginning _ transfer number answer = ⊥
 
 -- each of the events is among the nodes of the job
-abbrev pub AreAmong : EndpointJob → List (Timed OtherCall) → Type 0
-AreAmong job events = AllByRecursion (λ (timed : Timed OtherCall). IsAmong job.settings timed.event) events
+abbrev pub AreAmong : EndpointJob → List (EventAt OtherCall) → Type 0
+AreAmong job events = AllByRecursion (λ (timed : EventAt OtherCall). IsAmong job.settings timed.event) events
 
 -- a thread's call on transfers, at this time
-abbrev pub called : (now node thread : ℕ) → TransferCall → Timed OtherCall
-called now node thread call = record { now = now; event = Does node thread (OnTransfers call) }
+abbrev pub transfer_event : (now node thread : ℕ) → TransferCall → EventAt OtherCall
+transfer_event now node thread call = record { now = now; event = Does node thread (OnTransfers call) }
 
 -- after any events from the opening of the job, a thread of a node begins a transfer
 pub record Beginning (job : EndpointJob) : Type 0 where
-  pub before : List (Timed OtherCall)
+  pub before : List (EventAt OtherCall)
   pub among : AreAmong job before
   pub now : ℕ
   pub node : ℕ
@@ -55,13 +55,13 @@ pub record Beginning (job : EndpointJob) : Type 0 where
   pub transfer : Transfer
   pub number : ℕ
   pub begins : IsBeginning call transfer number
-      (world_answer job (run job before (at_the_opening job.settings)) (called now node thread call))
+      (world_answer job (run job before (at_the_opening job.settings)) (transfer_event now node thread call))
 
 -- from that call on, by these events
-abbrev pub since : (job : EndpointJob) → Beginning job → List (Timed OtherCall) → Stretch
+abbrev pub since : (job : EndpointJob) → Beginning job → List (EventAt OtherCall) → Stretch
 since job beginning events = record {
   from = world_after job (run job beginning.before (at_the_opening job.settings))
-      (called beginning.now beginning.node beginning.thread beginning.call);
+      (transfer_event beginning.now beginning.node beginning.thread beginning.call);
   events = events;
 }
 
@@ -70,13 +70,13 @@ since job beginning events = record {
 -- operation `number` of the node is this transfer; all of its chunks were issued, and each was done in the stretch
 pub record IsDone (job : EndpointJob) (stretch : Stretch) (node number : ℕ) (transfer : Transfer) : Type 0 where
   pub operation : Operation
-  pub there : numbered (state_after job stretch node).local.operations number ≡ Some operation
+  pub there : element_at (state_after job stretch node).local.operations number ≡ Some operation
   pub transfer_is : operation.transfer ≡ transfer
   pub all_issued : length operation.sent ≡ chunks (size transfer)
   pub each : (index : ℕ) → index < chunks (size transfer) → ChunkDone job stretch node (chunk_at transfer number index)
 
 -- so is the transfer that began
-abbrev pub IsDoneSince : (job : EndpointJob) → Beginning job → List (Timed OtherCall) → Type 0
+abbrev pub IsDoneSince : (job : EndpointJob) → Beginning job → List (EventAt OtherCall) → Type 0
 IsDoneSince job beginning events =
     IsDone job (since job beginning events) beginning.node beginning.number beginning.transfer
 
@@ -85,9 +85,9 @@ IsDoneSince job beginning events =
 -- a transfer whose operation is complete, or was synchronised, is done
 abbrev pub OverIsDone : EndpointJob → Type 0
 OverIsDone job =
-    (beginning : Beginning job) (events : List (Timed OtherCall)) (operation : Operation)
+    (beginning : Beginning job) (events : List (EventAt OtherCall)) (operation : Operation)
     → AreAmong job events
-    → numbered (state_after job (since job beginning events) beginning.node).local.operations beginning.number
+    → element_at (state_after job (since job beginning events) beginning.node).local.operations beginning.number
     ≡ Some operation
     → (operation.synced ≡ true) ⊎ (is_complete operation ≡ true)
     → IsDoneSince job beginning events
@@ -95,23 +95,23 @@ OverIsDone job =
 -- a thread's call is answered that its operations were synchronised, and this operation of its node is one of them: it
 -- wasn't marked before, and is then
 pub record Synchronises
-    (job : EndpointJob) (world : Records) (timed : Timed OtherCall) (node number : ℕ) : Type 0 where
+    (job : EndpointJob) (world : Records) (timed : EventAt OtherCall) (node number : ℕ) : Type 0 where
   pub thread : ℕ
   pub call : TransferCall
   pub event : timed.event ≡ Does node thread (OnTransfers call)
   pub answered : world_answer job world timed ≡ OfNode (OfCall (answers.Synced synced.Ok))
   pub old : Operation
-  pub was : numbered (world node).local.operations number ≡ Some old
+  pub was : element_at (world node).local.operations number ≡ Some old
   pub unmarked : old.synced ≡ false
   pub new : Operation
-  pub is : numbered (world_after job world timed node).local.operations number ≡ Some new
+  pub is : element_at (world_after job world timed node).local.operations number ≡ Some new
   pub marked : new.synced ≡ true
 
 -- where a sync answers Ok (of a handle, of all or some of a list, of the implicit operations, of a region's handle),
 -- each transfer that it synchronises was done between its beginning and the answer
 abbrev pub SyncIsDone : EndpointJob → Type 0
 SyncIsDone job =
-    (beginning : Beginning job) (events : List (Timed OtherCall)) (sync : Timed OtherCall)
+    (beginning : Beginning job) (events : List (EventAt OtherCall)) (sync : EventAt OtherCall)
     → AreAmong job events
     → Synchronises job (state_after job (since job beginning events)) sync beginning.node beginning.number
     → IsDoneSince job beginning events
@@ -133,28 +133,29 @@ synced_by call thread local = λ number operation. false
 
 -- a sync is answered Ok, and this operation of the node is one of which it speaks
 pub record SyncsIt
-    (job : EndpointJob) (world : Records) (timed : Timed OtherCall) (number : ℕ) (operation : Operation) : Type 0 where
+    (job : EndpointJob) (world : Records) (timed : EventAt OtherCall) (number : ℕ) (operation : Operation)
+    : Type 0 where
   pub node : ℕ
   pub thread : ℕ
   pub call : TransferCall
   pub event : timed.event ≡ Does node thread (OnTransfers call)
   pub answered : world_answer job world timed ≡ OfNode (OfCall (answers.Synced synced.Ok))
-  pub there : numbered (world node).local.operations number ≡ Some operation
+  pub there : element_at (world node).local.operations number ≡ Some operation
   pub chosen : synced_by call thread (world node).local number operation ≡ true
 
 -- the operation is one of the calling thread and complete, and is marked as synchronised
 pub record Goes
-    (job : EndpointJob) (world : Records) (timed : Timed OtherCall) (number : ℕ) (operation : Operation)
+    (job : EndpointJob) (world : Records) (timed : EventAt OtherCall) (number : ℕ) (operation : Operation)
     (syncs : SyncsIt job world timed number operation) : Type 0 where
   pub own : operation.thread ≡ syncs.thread
   pub complete : is_complete operation ≡ true
-  pub marked : numbered (world_after job world timed syncs.node).local.operations number
+  pub marked : element_at (world_after job world timed syncs.node).local.operations number
       ≡ Some (record operation { synced = true })
 
 -- so it is of each operation of which a sync speaks that answers Ok
 abbrev pub OkGoes : EndpointJob → Type 0
 OkGoes job =
-    (world : Records) (timed : Timed OtherCall) (number : ℕ) (operation : Operation)
+    (world : Records) (timed : EventAt OtherCall) (number : ℕ) (operation : Operation)
     (syncs : SyncsIt job world timed number operation) → Goes job world timed number operation syncs
 
 -- the beginning of this transfer is answered that it was done in the call
@@ -170,9 +171,9 @@ IsDoneAtOnce call transfer answer = ⊥
 abbrev pub OwnIsDone : EndpointJob → Type 0
 OwnIsDone job =
     (world : Records) (now node thread : ℕ) (call : TransferCall) (transfer : Transfer)
-    → IsDoneAtOnce call transfer (world_answer job world (called now node thread call))
+    → IsDoneAtOnce call transfer (world_answer job world (transfer_event now node thread call))
     → ((size transfer ≡ 0) ⊎ (target transfer ≡ node))
-    × (writes_at (world_after job world (called now node thread call)) node
+    × (writes_at (world_after job world (transfer_event now node thread call)) node
     ≡ writes_at world node ++ written_at_once (segment_at job world node) transfer)
 
 -- the byte at that offset of a range of `all` bytes lies in this chunk

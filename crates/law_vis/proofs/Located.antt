@@ -9,7 +9,7 @@ use Rattle.base_lists.proofs.Indexes.{get-append_left}
 use Rattle.law_transfers.specs.TransferLaws.{LiesIn, PiecesCover}
 use Rattle.node_vis.specs.declared.shapes.Piece.{Piece}
 use Rattle.node_vis.specs.Pairs.{Pair, pair, pairs_from}
-use Rattle.node_vis.specs.Pieces.{pairs_in, spelled}
+use Rattle.node_vis.specs.Pieces.{pairs_in, pairs_of_pieces}
 use Rattle.law_vis.specs.StridedLaws.{before, LiesAt}
 
 pub length-pairs_from : (len remote local : ℕ) → length (pairs_from remote local len) ≡ len
@@ -40,13 +40,13 @@ pub record InPiece (pieces : List Piece) (number : ℕ) (pair : Pair) : Type 0 w
   pub remote : pair.remote ≡ piece.remote + offset
   pub local : pair.local ≡ piece.local + offset
 
-pub located : (pieces : List Piece) (number : ℕ) (one : Pair) → slice_get (spelled pieces) number ≡ Some one
+pub located : (pieces : List Piece) (number : ℕ) (one : Pair) → slice_get (pairs_of_pieces pieces) number ≡ Some one
     → InPiece pieces number one
 located [] number one at = absurd (cc)
 located (piece ∷ pieces) number one at = elim (cases_lt number piece.len) [
   | inl inside ↦ (
       let here : slice_get (pairs_in piece) number ≡ Some one
-      = sym (get-append_left (pairs_in piece) (spelled pieces) number
+      = sym (get-append_left (pairs_in piece) (pairs_of_pieces pieces) number
       (omega (arith, inside, length-pairs_from piece.len piece.remote piece.local))) ∙ at in
       let same : pair (piece.remote + number) (piece.local + number) ≡ one
       = same_Some _ _ (sym (get_pairs piece.len piece.remote piece.local number inside) ∙ here) in
@@ -63,9 +63,9 @@ located (piece ∷ pieces) number one at = elim (cases_lt number piece.len) [
   | inr past ↦ (
       let long = length-pairs_from piece.len piece.remote piece.local in
       let split : number ≡ length (pairs_in piece) + (number - piece.len) = omega (arith, past, long) in
-      let rest : slice_get (spelled pieces) (number - piece.len) ≡ Some one
-      = sym (get-append_right (pairs_in piece) (spelled pieces) (number - piece.len))
-      ∙ ap (slice_get (pairs_in piece ++ spelled pieces)) (sym split) ∙ at in
+      let rest : slice_get (pairs_of_pieces pieces) (number - piece.len) ≡ Some one
+      = sym (get-append_right (pairs_in piece) (pairs_of_pieces pieces) (number - piece.len))
+      ∙ ap (slice_get (pairs_in piece ++ pairs_of_pieces pieces)) (sym split) ∙ at in
       let later = located pieces (number - piece.len) one rest in
       record {
         place = suc later.place;
@@ -97,7 +97,7 @@ one_place (piece ∷ pieces) (suc place) (suc other) here there offset other_off
 
 -- the pair of a number lies in one chunk of one piece, and in no other
 pub lies_once : PiecesCover → (pieces : List Piece) (number : ℕ) (one : Pair)
-    → slice_get (spelled pieces) number ≡ Some one
+    → slice_get (pairs_of_pieces pieces) number ≡ Some one
     → (place : ℕ) × (index : ℕ) × (piece : Piece) × LiesAt pieces number one place index piece
     × ((other_place other_index : ℕ) (other : Piece) → LiesAt pieces number one other_place other_index other
     → (other_place ≡ place) × (other_index ≡ index))

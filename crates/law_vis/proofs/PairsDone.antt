@@ -31,7 +31,7 @@ use Rattle.part_transfers.specs.declared.operation.Transfer.{Transfer}
 use Rattle.part_transfers.specs.Operation.{chunk_start, chunk_size}
 use Rattle.node_rules.specs.EndpointRules.{job_of}
 use Rattle.node_rules.specs.Tracking.{chunk_at}
-use Rattle.spec_network.specs.PlainStep.{named}
+use Rattle.spec_network.specs.PlainStep.{request_name}
 use Rattle.law_transfers.specs.History.{Runs, ComesBack}
 use Rattle.law_transfers.specs.Chunks.{EndpointJob, EndpointMoment, Stretch, segment_at, PutDone, GetDone}
 use Rattle.law_transfers.specs.Chunks.{IssuesBytes, RunWrites, RunReads, BackWrites, Issues, Piece as ChunkPiece}
@@ -41,7 +41,7 @@ use Rattle.node_vis.specs.declared.shapes.Way.{Way}
 use Rattle.node_vis.specs.declared.shapes.Way.TheVariants.{Put, Get}
 use Rattle.node_vis.specs.declared.shapes.Piece.{Piece}
 use Rattle.node_vis.specs.Pairs.{Pair, pair}
-use Rattle.node_vis.specs.Pieces.{pairs_in, spelled}
+use Rattle.node_vis.specs.Pieces.{pairs_in, pairs_of_pieces}
 use Rattle.node_vis.specs.Beginning.{transfer_of}
 use Rattle.law_vis.specs.StridedLaws.{before, LiesAt, WritesWithin, PairPut, PairGot, PairDone, PairsAreDone}
 use Rattle.law_vis.specs.StridedLaws.{stretch_of, WritesByte}
@@ -65,23 +65,23 @@ length-part bytes offset len =
 
 pub pair_there : (pieces : List Piece) (place : ℕ) (piece : Piece) (offset : ℕ) → slice_get pieces place ≡ Some piece
     → offset < piece.len
-    → slice_get (spelled pieces) (before pieces place + offset) ≡ Some (pair (piece.remote + offset) (piece.local + offset))
+    → slice_get (pairs_of_pieces pieces) (before pieces place + offset) ≡ Some (pair (piece.remote + offset) (piece.local + offset))
 pair_there [] place piece offset at inside = absurd (cc (at))
 pair_there (first ∷ pieces) zero piece offset at inside =
     let same : first ≡ piece = same_Some first piece at in
     let long = length-pairs_from first.len first.remote first.local in
     let size : first.len ≡ piece.len = ap (λ (p : Piece). p.len) same in
     let number : 0 + offset ≡ offset = omega arith in
-    ap (slice_get (spelled (first ∷ pieces))) number
-    ∙ get-append_left (pairs_in first) (spelled pieces) offset (omega (arith, inside, long, size))
+    ap (slice_get (pairs_of_pieces (first ∷ pieces))) number
+    ∙ get-append_left (pairs_in first) (pairs_of_pieces pieces) offset (omega (arith, inside, long, size))
     ∙ get_pairs first.len first.remote first.local offset (omega (arith, inside, size))
     ∙ ap (λ (p : Piece). Some (pair (p.remote + offset) (p.local + offset))) same
 pair_there (first ∷ pieces) (suc place) piece offset at inside =
     let long = length-pairs_from first.len first.remote first.local in
     let number : first.len + before pieces place + offset ≡ length (pairs_in first) + (before pieces place + offset)
     = omega (arith, long) in
-    ap (slice_get (spelled (first ∷ pieces))) number
-    ∙ get-append_right (pairs_in first) (spelled pieces) (before pieces place + offset)
+    ap (slice_get (pairs_of_pieces (first ∷ pieces))) number
+    ∙ get-append_right (pairs_in first) (pairs_of_pieces pieces) (before pieces place + offset)
     ∙ pair_there pieces place piece offset at inside
 
 -- a byte of a chunk is one of its piece
@@ -93,7 +93,7 @@ in_piece all index at inside =
 
 -- what a chunk of a piece writes lies where bytes of the pairs go
 put_within : (pieces : List Piece) (pairs : List Pair) (place : ℕ) (piece : Piece) (index : ℕ) (bytes : List ℕ)
-    → spelled pieces ≡ pairs → slice_get pieces place ≡ Some piece → length bytes ≤ chunk_size piece.len index
+    → pairs_of_pieces pieces ≡ pairs → slice_get pieces place ≡ Some piece → length bytes ≤ chunk_size piece.len index
     → WritesWithin Put pairs (record { offset = piece.remote + chunk_start index; bytes = bytes })
 put_within pieces pairs place piece index bytes spells there few at inside =
     let offset = chunk_start index + at in
@@ -106,7 +106,7 @@ put_within pieces pairs place piece index bytes spells there few at inside =
     )
 
 get_within : (pieces : List Piece) (pairs : List Pair) (place : ℕ) (piece : Piece) (index : ℕ) (bytes : List ℕ)
-    → spelled pieces ≡ pairs → slice_get pieces place ≡ Some piece → length bytes ≤ chunk_size piece.len index
+    → pairs_of_pieces pieces ≡ pairs → slice_get pieces place ≡ Some piece → length bytes ≤ chunk_size piece.len index
     → WritesWithin Get pairs (record { offset = piece.local + chunk_start index; bytes = bytes })
 get_within pieces pairs place piece index bytes spells there few at inside =
     let offset = chunk_start index + at in
@@ -130,7 +130,7 @@ chunk_of node transfer number index remote local len = record {
 
 put_done : (job : EndpointJob) (stretch : Stretch) (node : ℕ) (settings : Parameters) (to : ℕ) (pieces : List Piece)
     (pairs : List Pair) (number : ℕ) (one : Pair) (place index : ℕ) (piece : Piece) (operation : ℕ)
-    → spelled pieces ≡ pairs → LiesAt pieces number one place index piece
+    → pairs_of_pieces pieces ≡ pairs → LiesAt pieces number one place index piece
     → (done : PutDone job stretch (chunk_of node (transfer_of (record {
       settings = settings;
       way = Put;
@@ -174,7 +174,7 @@ put_done job stretch node settings to pieces pairs number one place index piece 
       once = done.once;
       written = sometime_map job (RunWrites job chunk done.number
           (record { offset = piece.remote + start; bytes = done.bytes }))
-          (λ (moment : EndpointMoment). Runs job (named node to done.number) moment
+          (λ (moment : EndpointMoment). Runs job (request_name node to done.number) moment
           × WritesByte job to one.remote there.0
           (record { offset = piece.remote + start; bytes = done.bytes }) moment)
           stretch.events stretch.from
@@ -192,7 +192,7 @@ put_done job stretch node settings to pieces pairs number one place index piece 
 
 get_done : (job : EndpointJob) (stretch : Stretch) (node : ℕ) (settings : Parameters) (to : ℕ) (pieces : List Piece)
     (pairs : List Pair) (number : ℕ) (one : Pair) (place index : ℕ) (piece : Piece) (operation : ℕ)
-    → spelled pieces ≡ pairs → LiesAt pieces number one place index piece
+    → pairs_of_pieces pieces ≡ pairs → LiesAt pieces number one place index piece
     → (done : GetDone job stretch (chunk_of node (transfer_of (record {
       settings = settings;
       way = Get;
@@ -224,7 +224,7 @@ get_done job stretch node settings to pieces pairs number one place index piece 
       issued = done.issued;
       once = done.once;
       read = sometime_map job (RunReads job chunk done.number done.bytes)
-          (λ (moment : EndpointMoment). Runs job (named node to done.number) moment
+          (λ (moment : EndpointMoment). Runs job (request_name node to done.number) moment
           × (slice_get (segment_at job moment.before to) one.remote ≡ Some there.0))
           stretch.events stretch.from
           (λ moment is. (
@@ -238,7 +238,7 @@ get_done job stretch node settings to pieces pairs number one place index piece 
       back = done.back;
       written = sometime_map job (BackWrites job chunk done.number
           (record { offset = piece.local + start; bytes = done.bytes }))
-          (λ (moment : EndpointMoment). ComesBack job (named node to done.number) moment
+          (λ (moment : EndpointMoment). ComesBack job (request_name node to done.number) moment
           × WritesByte job node one.local there.0
           (record { offset = piece.local + start; bytes = done.bytes }) moment)
           stretch.events stretch.from
@@ -311,7 +311,7 @@ fits_of {settings} over node operation transfer done =
 pair_done : {settings : Parameters} {table : List (Option Entry)} {meaning : Meaning} (over : Over settings table meaning)
     (node : ℕ) (made_for : Parameters) (way : Way) (to : ℕ)
     (pieces : List Piece) (pairs : List Pair) (number : ℕ) (one : Pair) (place index : ℕ) (piece : Piece) (operation : ℕ)
-    → spelled pieces ≡ pairs → LiesAt pieces number one place index piece
+    → pairs_of_pieces pieces ≡ pairs → LiesAt pieces number one place index piece
     → IsDone (job_of settings table meaning) over.stretch node operation
     (transfer_of (record { settings = made_for; way = way; to = to; pieces = pieces }) piece)
     → PairDone way (job_of settings table meaning) over.stretch node (chunk_at (transfer_of (record {

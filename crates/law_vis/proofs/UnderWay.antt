@@ -39,7 +39,7 @@ use Rattle.node_vis.specs.Beginning.{beginning, beginnings, first_refused, is_re
 use Rattle.node_vis.specs.Beginning.{BeginCall, vis_by, vis_of}
 use Rattle.node_vis.specs.Opening.{IsAlone}
 use Rattle.std.proofs.lemmas.Option.{same_Some}
-use Rattle.law_vis.specs.StridedLaws.{AreUnderWay, BegunAreUnderWay, OwnIsCopied, begun_pieces, copied}
+use Rattle.law_vis.specs.StridedLaws.{AreUnderWay, BegunAreUnderWay, OwnIsCopied, begun_pieces, local_writes_after}
 
 -- ---- one call
 
@@ -434,7 +434,7 @@ all_copied : (site : Site) (node : Node EndpointLocal) (plan : PlanState) (threa
     → plan.settings ≡ site.settings → plan.to < plan.settings.nodes → plan.to ≡ site.node
     → AreFit plan.settings pieces → judged site node thread kinds.Transfer ≡ Ok tt
     → (node_in_the_end site node (beginnings plan thread pieces)).local.core.writes
-    ≡ copied site.settings plan pieces node.local.core.writes
+    ≡ local_writes_after site.settings plan pieces node.local.core.writes
 all_copied site node plan thread [] same there own fit allows = refl
 all_copied site node plan thread (piece ∷ pieces) same there own fit allows =
     let made = beginning plan thread piece in
@@ -445,7 +445,7 @@ all_copied site node plan thread (piece ∷ pieces) same there own fit allows =
     (own_by plan.settings plan.way plan.to site.node plan.pieces piece own) in
     all_copied site (node_then site node made) plan thread pieces same there own fit.2
     (judged_by_locks site node (node_then site node made) thread kinds.Transfer one.locks ∙ allows)
-    ∙ ap (copied site.settings plan pieces) one.writes
+    ∙ ap (local_writes_after site.settings plan pieces) one.writes
 
 pub own_is_copied : OwnIsCopied
 own_is_copied site node asked same plan own whole =
@@ -459,4 +459,4 @@ own_is_copied site node asked same plan own whole =
     let allows : judged site behind asked.thread kinds.Transfer ≡ Ok tt
     = judged_same site node behind asked.thread kinds.Transfer it.0.core ∙ it.0.allows in
     all_copied site behind asked.plan asked.thread pieces same plan.there own fit allows
-    ∙ ap (λ (core : Local). copied site.settings asked.plan pieces core.writes) it.0.core
+    ∙ ap (λ (core : Local). local_writes_after site.settings asked.plan pieces core.writes) it.0.core

@@ -6,8 +6,8 @@ use Rattle.wire_message.specs.Parameters.{Parameters}
 use Rattle.part_handlers.specs.declared.table.Entry.{Entry}
 use Rattle.part_handlers.specs.Runs.{Meaning}
 use Rattle.part_segment.specs.Image.{Write, image}
-use Rattle.spec_network.specs.World.{Timed}
-use Rattle.spec_network.specs.PlainStep.{named}
+use Rattle.spec_network.specs.World.{EventAt}
+use Rattle.spec_network.specs.PlainStep.{request_name}
 use Rattle.node_rules.specs.EndpointRules.{OtherCall, job_of}
 use Rattle.spec_node.specs.Record.{Node}
 use Rattle.node_rules.specs.EndpointLocal.{EndpointLocal}
@@ -20,18 +20,18 @@ use Rattle.node_vis.specs.declared.shapes.Vis.{Vis}
 use Rattle.node_vis.specs.declared.shapes.Vis.TheVariants as vis
 use Rattle.part_transfers.specs.declared.operation.Next.{Next}
 use Rattle.part_transfers.specs.Operation.{target}
-use Rattle.spec_network.specs.PlainStep.{Named}
+use Rattle.spec_network.specs.PlainStep.{RequestName}
 use Rattle.law_transfers.specs.Chunks.{Issues}
 use Rattle.node_rules.specs.Tracking.{chunk_at}
 use Rattle.law_transfers.specs.History.{Runs, ComesBack}
 use Rattle.law_transfers.specs.Chunks.{EndpointJob, EndpointMoment, Stretch, state_after, HappensIn, HappensOnceIn}
 use Rattle.law_transfers.specs.Chunks.{segment_at, Writes}
-use Rattle.law_transfers.specs.TransferLaws.{Beginning, since, called, Synchronises, AreAmong, LiesIn}
+use Rattle.law_transfers.specs.TransferLaws.{Beginning, since, transfer_event, Synchronises, AreAmong, LiesIn}
 use Rattle.node_vis.specs.declared.shapes.Way.{Way}
 use Rattle.node_vis.specs.declared.shapes.Way.TheVariants.{Put, Get}
 use Rattle.node_vis.specs.declared.shapes.Piece.{Piece}
 use Rattle.node_vis.specs.Pairs.{Pair}
-use Rattle.node_vis.specs.Faults.{written}
+use Rattle.node_vis.specs.Faults.{written_byte}
 use Rattle.node_vis.specs.Pieces.{IsCut}
 use Rattle.node_vis.specs.Plans.{PlanState, IsPlan}
 use Rattle.node_vis.specs.Beginning.{BeginCall, beginnings, on_transfers, pieces_asked, transfer_of}
@@ -40,30 +40,32 @@ use Rattle.node_vis.specs.Beginning.{vis_answer}
 -- ---- a plan in a run
 
 -- in the run a thread of the node began the piece, and a later sync that answers Ok, of whatever form, synchronised it
-pub record Synced (job : EndpointJob) (run : List (Timed OtherCall)) (plan : PlanState) (node : ℕ) (piece : Piece)
+pub record SyncedPiece (job : EndpointJob) (run : List (EventAt OtherCall)) (plan : PlanState) (node : ℕ)
+    (piece : Piece)
     : Type 0 where
   pub beginning : Beginning job
   pub node_is : beginning.node ≡ node
   pub call_is : beginning.call ≡ BeginImplicit (transfer_of plan piece)
   pub transfer_is : beginning.transfer ≡ transfer_of plan piece
-  pub events : List (Timed OtherCall)
+  pub events : List (EventAt OtherCall)
   pub among : AreAmong job events
-  pub sync : Timed OtherCall
+  pub sync : EventAt OtherCall
   pub synchronises : Synchronises job (state_after job (since job beginning events)) sync
       beginning.node beginning.number
-  pub later : List (Timed OtherCall)
+  pub later : List (EventAt OtherCall)
   pub run_is : run
       ≡ beginning.before
-      ++ called beginning.now beginning.node beginning.thread beginning.call ∷ (events ++ sync ∷ later)
+      ++ transfer_event beginning.now beginning.node beginning.thread beginning.call ∷ (events ++ sync ∷ later)
 
 -- each piece of the plan was so
-abbrev pub AllSynced : (job : EndpointJob) → List (Timed OtherCall) → PlanState → (node : ℕ) → Type 0
+abbrev pub AllSynced : (job : EndpointJob) → List (EventAt OtherCall) → PlanState → (node : ℕ) → Type 0
 AllSynced job run plan node =
-    (place : ℕ) (piece : Piece) → slice_get plan.pieces place ≡ Some piece → Synced job run plan node piece
+    (place : ℕ) (piece : Piece) → slice_get plan.pieces place ≡ Some piece → SyncedPiece job run plan node piece
 
 -- the part of the run from the beginning of the piece up to its sync
-abbrev pub stretch_of : {job : EndpointJob} {run : List (Timed OtherCall)} {plan : PlanState} {node : ℕ} {piece : Piece}
-    → Synced job run plan node piece → Stretch
+abbrev pub stretch_of : {job : EndpointJob} {run : List (EventAt OtherCall)} {plan : PlanState} {node : ℕ}
+    {piece : Piece}
+    → SyncedPiece job run plan node piece → Stretch
 stretch_of {job} synced = since job synced.beginning synced.events
 
 -- ---- where a pair lies
@@ -98,11 +100,11 @@ pub record WritesByte (job : EndpointJob) (node offset byte : ℕ) (write : Writ
 abbrev pub WritesWithin : Way → List Pair → Write → Type 0
 WritesWithin way pairs write =
     (at : ℕ) → at < length write.bytes
-    → (number : ℕ) × (pair : Pair) × (slice_get pairs number ≡ Some pair) × (written way pair ≡ write.offset + at)
+    → (number : ℕ) × (pair : Pair) × (slice_get pairs number ≡ Some pair) × (written_byte way pair ≡ write.offset + at)
 
 -- the request that a chunk of the node is, under this number
-abbrev pub request_of_chunk : (node : ℕ) → Next → (number : ℕ) → Named
-request_of_chunk node chunk number = named node (target chunk.transfer) number
+abbrev pub request_of_chunk : (node : ℕ) → Next → (number : ℕ) → RequestName
+request_of_chunk node chunk number = request_name node (target chunk.transfer) number
 
 -- The chunk put the pair: a tick issued it while the local byte was this; its request ran exactly once, and wrote that
 -- byte to the place at the target. What it wrote lies where the pairs are written
@@ -145,7 +147,7 @@ PairDone Get job stretch node chunk pairs pair = PairGot job stretch node chunk 
 -- piece, and in no other, and that chunk transferred it between the piece's beginning and its sync
 abbrev pub PairsAreDone : EndpointJob → Type 0
 PairsAreDone job =
-    (run : List (Timed OtherCall)) (plan : PlanState) (pairs : List Pair) (node : ℕ)
+    (run : List (EventAt OtherCall)) (plan : PlanState) (pairs : List Pair) (node : ℕ)
     → IsCut plan.pieces pairs → (synced : AllSynced job run plan node)
     → (number : ℕ) (pair : Pair) → slice_get pairs number ≡ Some pair
     → (place : ℕ) × (index : ℕ) × (piece : Piece) × (lies : LiesAt plan.pieces number pair place index piece)
@@ -184,10 +186,10 @@ BegunAreUnderWay =
 
 -- the writes of the local segment behind the beginnings of pieces, where it had these before: each piece adds what the
 -- segment has then
-abbrev pub copied : Parameters → PlanState → List Piece → List Write → List Write
-copied settings plan [] writes = writes
-copied settings plan (piece ∷ pieces) writes =
-    copied settings plan pieces
+abbrev pub local_writes_after : Parameters → PlanState → List Piece → List Write → List Write
+local_writes_after settings plan [] writes = writes
+local_writes_after settings plan (piece ∷ pieces) writes =
+    local_writes_after settings plan pieces
     (writes ++ written_at_once (image settings.segment writes) (transfer_of plan piece))
 
 -- where a node begins a plan for itself, and the answer is `Whole`, the pieces are copied in the calls, in their order
@@ -197,4 +199,4 @@ OwnIsCopied =
     → IsPlan asked.plan → asked.plan.to ≡ site.node → vis_answer site node asked ≡ vis.Whole
     → (node_in_the_end site (node_then site node (on_transfers asked.thread RegionBegin))
     (beginnings asked.plan asked.thread (drop asked.from asked.plan.pieces))).local.core.writes
-    ≡ copied site.settings asked.plan (drop asked.from asked.plan.pieces) node.local.core.writes
+    ≡ local_writes_after site.settings asked.plan (drop asked.from asked.plan.pieces) node.local.core.writes

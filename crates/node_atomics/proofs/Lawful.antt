@@ -13,7 +13,7 @@ use Rattle.node_atomics.specs.declared.word.WordOp.{WordOp}
 use Rattle.node_atomics.specs.BatchRequests.{BatchRequest, are_inside, place_fault, batch_handler, block_handler}
 use Rattle.node_atomics.specs.BatchRequests.{request_said}
 use Rattle.node_atomics.specs.Served.{after_request, block_of, change_of, changes_of, after_batch, if_placed, olds_of}
-use Rattle.node_atomics.specs.Served.{served}
+use Rattle.node_atomics.specs.Served.{outcome_of_batch}
 
 -- operations inside a segment write inside it
 changes_fit : (len : ℕ) (bytes : List ℕ) (ops : List WordOp) → length bytes ≡ len → are_inside len ops ≡ true
@@ -68,7 +68,7 @@ lawful-after_batch frame start outcome (Some request) lawful =
 
 -- so do both handlers
 pub lawful-served : (handler : ℕ) (frame : Frame) (start : Start) (outcome : Outcome)
-    → IsLawfulRun frame start outcome → IsLawfulRun frame start (served handler frame start outcome)
+    → IsLawfulRun frame start outcome → IsLawfulRun frame start (outcome_of_batch handler frame start outcome)
 lawful-served handler frame start outcome lawful = by_handler (handler == batch_handler)
   where
     by_handler : (request : Bool)

@@ -6,7 +6,7 @@ use Rattle.std.proofs.Math.Seq.{take-append_seam, drop-append_seam}
 use Rattle.std.proofs.lemmas.Nat.{from_be_bytes-to_be_bytes_8}
 use Rattle.std.proofs.lemmas.Bool.{eq-eqb}
 use Rattle.base_lists.proofs.Cases.{none_some}
-use Rattle.wire_message.proofs.Noted.{joined_again}
+use Rattle.wire_message.proofs.Notified.{joined_again}
 use Rattle.node_atomics.specs.declared.word.Op.{Op}
 use Rattle.node_atomics.specs.declared.word.Op.TheVariants as op
 use Rattle.node_atomics.specs.declared.word.WordOp.{WordOp}

@@ -6,7 +6,7 @@ use Rattle.std.specs.List.{flat_map, list_all}
 use Rattle.std.specs.Int.{w64, to_be_bytes, from_be_bytes}
 use Rattle.part_segment.specs.Bytes.{part}
 use Rattle.wire_message.specs.Content.{Content, medium_request}
-use Rattle.wire_message.specs.Notes.{high_half, low_half, joined_halves, argument}
+use Rattle.wire_message.specs.Notifications.{high_half, low_half, joined_halves, argument}
 use Rattle.wire_message.specs.Parameters.{Parameters}
 use Rattle.node_atomics.specs.declared.word.WordOp.{WordOp}
 use Rattle.node_atomics.specs.declared.batch.BatchFault.{BatchFault}

@@ -9,8 +9,8 @@ use Rattle.wire_message.specs.Content.{Content, long_reply}
 use Rattle.part_handlers.specs.declared.serves.Serves.TheVariants as serves
 use Rattle.part_handlers.specs.declared.table.Entry.{Entry}
 use Rattle.part_handlers.specs.Registered.{entry_at, is_for_requests, is_for_replies}
-use Rattle.part_handlers.specs.Runs.{Arrival, Frame, Start, Outcome, Meaning, replying, untouched}
-use Rattle.part_handlers.specs.Desks.{At, Stage, frame_of, start_of}
+use Rattle.part_handlers.specs.Runs.{Arrival, Frame, Start, Outcome, Meaning, replying, nothing_done}
+use Rattle.part_handlers.specs.Tokens.{At, Stage, frame_of, start_of}
 use Rattle.node_atomics.specs.declared.word.WordOp.{WordOp}
 use Rattle.node_atomics.specs.Words.{applied_by}
 use Rattle.node_atomics.specs.BatchRequests.{BatchRequest, request_said, place_fault, batch_handler, block_handler}
@@ -75,20 +75,21 @@ after_request frame start outcome =
     (request_for (length start.segment) frame.arrival) outcome
 
 -- the handler of requests does that, and the one of replies nothing
-abbrev pub served : (handler : ℕ) → Frame → Start → Outcome → Outcome
-served handler frame start outcome = if handler == batch_handler then after_request frame start outcome else outcome
+abbrev pub outcome_of_batch : (handler : ℕ) → Frame → Start → Outcome → Outcome
+outcome_of_batch handler frame start outcome =
+    if handler == batch_handler then after_request frame start outcome else outcome
 
 -- a batch goes from any outcome so far to the next, wherever the run began
 abbrev pub AtBatchDone : BatchRequest → (old new : Stage) → Type 0
 AtBatchDone request old new =
     (opening : Stage) (outcome : Outcome) → At opening outcome old
-    → At opening (after_batch (frame_of opening.desk) old.segment (Some request) outcome) new
+    → At opening (after_batch (frame_of opening.token) old.segment (Some request) outcome) new
 
 -- so does the handler
 abbrev pub AtServed : (handler : ℕ) → (old new : Stage) → Type 0
 AtServed handler old new =
     (opening : Stage) (outcome : Outcome) → At opening outcome old
-    → At opening (served handler (frame_of opening.desk) (start_of opening) outcome) new
+    → At opening (outcome_of_batch handler (frame_of opening.token) (start_of opening) outcome) new
 
 -- ---- a job that has batches
 
@@ -107,6 +108,6 @@ pub record HasBatches (table : List (Option Entry)) : Type 0 where
 -- the handlers run both so, and do nothing else there
 pub record ServesBatches (meaning : Meaning) : Type 0 where
   pub requests : (frame : Frame) (start : Start)
-      → meaning batch_handler frame start ≡ served batch_handler frame start (untouched start)
+      → meaning batch_handler frame start ≡ outcome_of_batch batch_handler frame start (nothing_done start)
   pub replies : (frame : Frame) (start : Start)
-      → meaning block_handler frame start ≡ served block_handler frame start (untouched start)
+      → meaning block_handler frame start ≡ outcome_of_batch block_handler frame start (nothing_done start)

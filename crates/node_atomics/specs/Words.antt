@@ -7,21 +7,21 @@ use Rattle.node_atomics.specs.declared.word.Op.TheVariants as op
 use Rattle.node_atomics.specs.declared.word.WordOp.{WordOp}
 
 -- what an operation makes of a word
-abbrev pub applied : Op → (old a b : ℕ) → ℕ
-applied op.Get old a b = old
-applied op.Swap old a b = a
-applied op.CompareSwap old a b = if old == a then b else old
-applied op.Add old a b = (old + a) % 2 ^ 64
-applied op.Sub old a b = (old + (2 ^ 64 - a)) % 2 ^ 64
-applied op.And old a b = bit_and old a
-applied op.Or old a b = bit_or old a
-applied op.Xor old a b = bit_xor old a
-applied op.Min old a b = min old a
-applied op.Max old a b = max old a
+abbrev pub word_after : Op → (old a b : ℕ) → ℕ
+word_after op.Get old a b = old
+word_after op.Swap old a b = a
+word_after op.CompareSwap old a b = if old == a then b else old
+word_after op.Add old a b = (old + a) % 2 ^ 64
+word_after op.Sub old a b = (old + (2 ^ 64 - a)) % 2 ^ 64
+word_after op.And old a b = bit_and old a
+word_after op.Or old a b = bit_or old a
+word_after op.Xor old a b = bit_xor old a
+word_after op.Min old a b = min old a
+word_after op.Max old a b = max old a
 
 -- the same, with its operands
 abbrev pub applied_by : (old : ℕ) → WordOp → ℕ
-applied_by old word = applied word.op old word.a word.b
+applied_by old word = word_after word.op old word.a word.b
 
 -- the numbers of an operation have 64 bits
 pub record Has64Bits (word : WordOp) : Type 0 where

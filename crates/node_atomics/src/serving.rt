@@ -4,7 +4,7 @@ ghost use Rattle.std.specs.Prelude.{ℤ, List, ◌≡◌, ◌≤◌, ◌+◌, �
 ghost use Rattle.std.specs.List.{flat_map};
 ghost use Rattle.std.specs.Int.{w64, to_le_bytes};
 ghost use Rattle.part_segment.specs.Image.{overwritten, written_by};
-ghost use Rattle.part_handlers.specs.Desks.{IsReadyDesk, stage};
+ghost use Rattle.part_handlers.specs.Tokens.{IsReadyToken, stage};
 ghost use Rattle.node_atomics.specs.BatchRequests.{are_inside, are_words_aligned, place_fault};
 ghost use Rattle.node_atomics.specs.Served.{AtBatchDone, AtServed, word_in, change_of, changes_of};
 ghost use Rattle.node_atomics.specs.Served.{olds_of, block_of, batch_entry, block_entry};
@@ -13,7 +13,7 @@ use crate::batch::fault_of_places;
 use crate::request::{MOST, number_at, ops_said};
 use crate::word::{WordOp, apply};
 use arrayvec::ArrayVec;
-use part_handlers::{Desk, Entry, Serves};
+use part_handlers::{Entry, Serves, Token};
 use part_segment::{Offset, Segment};
 
 /// The index of the handler of the requests of batches.
@@ -101,53 +101,53 @@ fn block_after(ops: &[WordOp], tag: u64, segment: &mut Segment) -> ArrayVec<u8, 
 }
 
 /// Does the operations of a batch, and replies.
-fn do_batch(local: u64, tag: u64, ops: &[WordOp], segment: &mut Segment, desk: &mut Desk<'_>)
+fn do_batch(local: u64, tag: u64, ops: &[WordOp], segment: &mut Segment, token: &mut Token<'_>)
     requires few { length ops.now ≤ 64 }
     requires placed { place_fault (length segment.old) local ops.now ≡ None }
-    requires ready { IsReadyDesk desk.old }
+    requires ready { IsReadyToken token.old }
     ensures at { (cells : List ℤ) → AtBatchDone (record { local = local; tag = tag; ops = ops.now })
-        (stage segment.old cells desk.old) (stage segment.new cells desk.new) }
-    ensures ready { IsReadyDesk desk.new }
+        (stage segment.old cells token.old) (stage segment.new cells token.new) }
+    ensures ready { IsReadyToken token.new }
 {
     let block = block_after(ops, tag, segment);
-    let _ = desk.reply_long(BLOCK_HANDLER, &[], &block, local);
+    let _ = token.reply_long(BLOCK_HANDLER, &[], &block, local);
 }
 
 /// Serves a request: does the operations that its message says, and replies with what the words were.
-fn serve_request(segment: &mut Segment, desk: &mut Desk<'_>)
-    requires ready { IsReadyDesk desk.old }
-    ensures at { (cells : List ℤ) → AtServed 252 (stage segment.old cells desk.old)
-        (stage segment.new cells desk.new) }
-    ensures ready { IsReadyDesk desk.new }
+fn serve_request(segment: &mut Segment, token: &mut Token<'_>)
+    requires ready { IsReadyToken token.old }
+    ensures at { (cells : List ℤ) → AtServed 252 (stage segment.old cells token.old)
+        (stage segment.new cells token.new) }
+    ensures ready { IsReadyToken token.new }
 {
-    if desk.args().len() != 4 {
+    if token.args().len() != 4 {
         return;
     }
-    let local = number_at(desk.args(), 0);
-    let tag = number_at(desk.args(), 2);
-    let Some(ops) = ops_said(desk.payload()) else {
+    let local = number_at(token.args(), 0);
+    let tag = number_at(token.args(), 2);
+    let Some(ops) = ops_said(token.payload()) else {
         return;
     };
     if fault_of_places(segment.len(), local, &ops).is_some() {
         return;
     }
-    do_batch(local, tag, &ops, segment, desk);
+    do_batch(local, tag, &ops, segment, token);
 }
 
-/// Runs a handler of batches at a desk: 252 does what the request's message says, if it says a batch, and replies with
+/// Runs a handler of batches at a token: 252 does what the request's message says, if it says a batch, and replies with
 /// a Long to 253; 253, and any other, does nothing. It takes no memory.
 ///
 /// The operations act in order, each on what the one before left. The reply goes to the place that the message says:
 /// for each operation what its word was, and then the tag, 8 bytes each, little-endian. It is the run's reply wherever
-/// the desk doesn't refuse it. Where the message hasn't four arguments, its payload doesn't spell 1 to 64 operations, a
-/// word or the block isn't inside a segment or isn't at a multiple of 8, nothing happens.
-pub fn serve(handler: u8, segment: &mut Segment, desk: &mut Desk<'_>)
-    requires ready { IsReadyDesk desk.old }
-    ensures served { (cells : List ℤ) → AtServed handler (stage segment.old cells desk.old)
-        (stage segment.new cells desk.new) }
-    ensures ready { IsReadyDesk desk.new }
+/// the token doesn't refuse it. Where the message hasn't four arguments, its payload doesn't spell 1 to 64 operations,
+/// a word or the block isn't inside a segment or isn't at a multiple of 8, nothing happens.
+pub fn serve(handler: u8, segment: &mut Segment, token: &mut Token<'_>)
+    requires ready { IsReadyToken token.old }
+    ensures served { (cells : List ℤ) → AtServed handler (stage segment.old cells token.old)
+        (stage segment.new cells token.new) }
+    ensures ready { IsReadyToken token.new }
 {
     if handler == BATCH_HANDLER {
-        serve_request(segment, desk);
+        serve_request(segment, token);
     }
 }

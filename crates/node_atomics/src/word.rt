@@ -2,7 +2,7 @@
 
 ghost use Rattle.std.specs.Prelude.{◌≡◌, ◌≤◌, ◌+◌, ◌++◌, length};
 ghost use Rattle.std.specs.Int.{w64, to_be_bytes};
-ghost use Rattle.node_atomics.specs.Words.{applied, code_of, op_of};
+ghost use Rattle.node_atomics.specs.Words.{word_after, code_of, op_of};
 ghost use Rattle.node_atomics.specs.BatchRequests.{spelled_op};
 
 use arrayvec::ArrayVec;
@@ -59,7 +59,7 @@ impl Default for WordOp {
 
 /// What an operation makes of a word that was `old`.
 pub fn apply(op: Op, old: u64, a: u64, b: u64) -> u64
-    ensures { result ≡ applied op old a b }
+    ensures { result ≡ word_after op old a b }
 {
     match op {
         Op::Get => old,

@@ -8,7 +8,7 @@ use Rattle.part_collective_area.specs.declared.shape.CollectiveKind.TheVariants 
 use Rattle.base_lists.proofs.Places.{slice_get_there}
 use Rattle.part_collective_area.specs.Area.{Area, data_in}
 use Rattle.part_collective_area.specs.Shapes.{is_reduction}
-use Rattle.part_collective_area.specs.Results.{contribution_of, combined, pieces_by, sum_of, together}
+use Rattle.part_collective_area.specs.Results.{contribution_of, combination, pieces_by, sum_of, together}
 use Rattle.node_collectives.specs.Progress.{Progress, data_of_all}
 use Rattle.node_collectives.specs.CollectivesState.{CollectivesState, progress_of}
 use Rattle.node_collectives.specs.Ends.{giver_by, result_in}
@@ -101,7 +101,7 @@ gives kind.AllMax root len given node index none low inside = absurd (cc)
 takes : (k : CollectiveKind) (root len : ℕ) (given : List (List ℕ)) (node index : ℕ) → is_reduction k ≡ true
     → index < length (pieces_by k (record { kind = k; root = root; len = len }) given node)
     → slice_get (pieces_by k (record { kind = k; root = root; len = len }) given node) index
-    ≡ Some (together (combined k) len given)
+    ≡ Some (together (combination k) len given)
 takes kind.Broadcast root len given node index is inside = absurd (cc)
 takes kind.Gather root len given node index is inside = absurd (cc)
 takes kind.AllGather root len given node index is inside = absurd (cc)
@@ -136,6 +136,6 @@ piece_given it segment index none root inside =
 pub piece_together : (it : CollectivesState) (segment : List ℕ) (index : ℕ) → is_reduction it.shape.kind ≡ true
     → index < length (result_in it segment)
     → slice_get (result_in it segment) index
-    ≡ Some (together (combined it.shape.kind) it.shape.len (data_all it segment))
+    ≡ Some (together (combination it.shape.kind) it.shape.len (data_all it segment))
 piece_together it segment index is inside =
     takes it.shape.kind it.shape.root it.shape.len (data_all it segment) it.me index is inside

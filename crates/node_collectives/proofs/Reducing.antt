@@ -7,14 +7,14 @@ use Rattle.std.proofs.lemmas.List.{append_assoc, length-drop, length-take-le}
 use Rattle.std.proofs.lemmas.Slice.{take-put_mid}
 use borrow.Rule.Slice.PartMut.{mid_of, put_mid, same_len_mid}
 use Rattle.part_collective_area.specs.Area.{data_in}
-use Rattle.part_collective_area.specs.Results.{combined, together_at, together_from, word_at_place}
+use Rattle.part_collective_area.specs.Results.{combination, together_at, together_from, word_at_place}
 use Rattle.node_collectives.specs.Progress.{data_of_all}
 use Rattle.node_collectives.specs.CollectivesState.{CollectivesState, progress_of}
 
 -- the data of this node and the next ones, and what it makes of a word so far
 abbrev folded : CollectivesState → (bytes : List ℕ) → (place node many word : ℕ) → ℕ
 folded it bytes place node many word =
-    fold (λ so_far given. combined it.shape.kind so_far (word_at_place place given)) word
+    fold (λ so_far given. combination it.shape.kind so_far (word_at_place place given)) word
     (data_of_all it.area (progress_of it) bytes node many)
 
 counted : (node nodes : ℕ) → node < nodes → nodes - node ≡ suc (nodes - (node + 1))
@@ -25,23 +25,23 @@ next_is node = omega arith
 
 pub folded_first : (it : CollectivesState) (bytes : List ℕ) (place word : ℕ) → 0 < it.area.nodes
     → word ≡ word_at_place place (data_in bytes it.area (it.ended % 2) 0 it.shape.len)
-    → together_at (combined it.shape.kind) (data_of_all it.area (progress_of it) bytes 0 it.area.nodes) place
+    → together_at (combination it.shape.kind) (data_of_all it.area (progress_of it) bytes 0 it.area.nodes) place
     ≡ folded it bytes place 1 (it.area.nodes - 1) word
 folded_first it bytes place word some is =
     let nodes : it.area.nodes ≡ suc (it.area.nodes - 1) = omega (arith, some) in
-    ap (λ (many : ℕ). together_at (combined it.shape.kind) (data_of_all it.area (progress_of it) bytes 0 many) place)
+    ap (λ (many : ℕ). together_at (combination it.shape.kind) (data_of_all it.area (progress_of it) bytes 0 many) place)
     nodes
     ∙ ap (folded it bytes place 1 (it.area.nodes - 1)) (sym is)
 
 pub folded_on : (it : CollectivesState) (bytes : List ℕ) (place node so_far word all : ℕ) → node < it.area.nodes
     → word ≡ word_at_place place (data_in bytes it.area (it.ended % 2) node it.shape.len)
-    → all ≡ combined it.shape.kind so_far word
+    → all ≡ combination it.shape.kind so_far word
     → folded it bytes place node (it.area.nodes - node) so_far
     ≡ folded it bytes place (node + 1) (it.area.nodes - (node + 1)) all
 folded_on it bytes place node so_far word all low is all_is =
     let rest = it.area.nodes - (node + 1) in
-    let taken : combined it.shape.kind so_far (word_at_place place (data_in bytes it.area (it.ended % 2) node it.shape.len))
-    ≡ all = ap (combined it.shape.kind so_far) (sym is) ∙ sym all_is in
+    let taken : combination it.shape.kind so_far (word_at_place place (data_in bytes it.area (it.ended % 2) node it.shape.len))
+    ≡ all = ap (combination it.shape.kind so_far) (sym is) ∙ sym all_is in
     ap (λ (many : ℕ). folded it bytes place node many so_far) (counted node it.area.nodes low)
     ∙ (ap (folded it bytes place (suc node) rest) taken
     ∙ ap (λ (at : ℕ). folded it bytes place at rest all) (next_is node))
@@ -85,6 +85,6 @@ reduced_on with given piece word place len long inside is done =
     ∙ ap (λ (at_place : ℕ). together_from with given 0 place ++ to_le_bytes w64 (together_at with given at_place)) here) in (
       same_len_mid at size piece word (omega (arith, eight, mid)) ∙ long,
       take-put_mid at size piece word (8 * (place + 1)) (omega (arith, eight)) (omega (arith, long, inside))
-          ∙ (ap₂ (λ (front behind : List ℕ). front ++ behind) done is
+          ∙ (ap₂ (λ (prefix behind : List ℕ). prefix ++ behind) done is
           ∙ (more ∙ ap (together_from with given 0) one)),
     )

@@ -46,8 +46,8 @@ exhausted_then marks to (Some (answers.Asked asked.Exhausted)) = slice_set marks
 exhausted_then marks to (Some other) = slice_set marks to false
 
 -- how far the node is then
-abbrev pub noted : CollectivesState → (to : ℕ) → Option Answer → CollectivesState
-noted it to told = record it { sent = sent_then it.sent to told; exhausted = exhausted_then it.exhausted to told }
+abbrev pub after_ask : CollectivesState → (to : ℕ) → Option Answer → CollectivesState
+after_ask it to told = record it { sent = sent_then it.sent to told; exhausted = exhausted_then it.exhausted to told }
 
 -- the node was asked, and what came of it was noted
 pub record Sends {K : Type 0} (caller : Ghosts K) (thread to : ℕ) (it : CollectivesState) (old : K)
@@ -55,7 +55,7 @@ pub record Sends {K : Type 0} (caller : Ghosts K) (thread to : ℕ) (it : Collec
   pub told : Option Answer
   pub called : CallsOne caller old (step_call it thread to) told new
   pub stop_is : stop ≡ step_told to told
-  pub next_is : next ≡ noted it to told
+  pub next_is : next ≡ after_ask it to told
 
 -- ---- the calls to nodes, in rising order
 

@@ -7,7 +7,7 @@ ghost use Rattle.std.specs.Int.{w64, from_le_bytes};
 ghost use Rattle.part_segment.specs.Bytes.{part};
 ghost use Rattle.part_collective_area.specs.Area.{stamp_in, word_in, data_in};
 ghost use Rattle.part_collective_area.specs.Shapes.{is_reduction};
-ghost use Rattle.part_collective_area.specs.Results.{combined, together, together_at, word_at_place};
+ghost use Rattle.part_collective_area.specs.Results.{combination, together, together_at, word_at_place};
 ghost use Rattle.node_collectives.specs.Progress.{data_of_all, end_answer, is_exchanged, is_other};
 ghost use Rattle.node_collectives.specs.Progress.{is_ready, has_exhausted, other_shape, exhausted_node};
 ghost use Rattle.node_collectives.specs.CollectivesState.{Stands, progress_of};
@@ -168,7 +168,7 @@ impl Collectives {
 
     /// Two words, taken together.
     fn combine(&self, one: u64, other: u64) -> u64
-        ensures { result ≡ combined self.now.shape.kind one other }
+        ensures { result ≡ combination self.now.shape.kind one other }
     {
         match self.shape.kind {
             CollectiveKind::Min | CollectiveKind::AllMin => one.min(other),
@@ -196,7 +196,7 @@ impl Collectives {
     fn word_of_all(&self, bytes: &[u8], place: u64) -> u64
         requires long { length bytes.now ≡ self.now.settings.segment }
         requires place { 8 * place + 8 ≤ self.now.shape.len }
-        ensures { result ≡ together_at (combined self.now.shape.kind)
+        ensures { result ≡ together_at (combination self.now.shape.kind)
             (data_of_all self.now.area (progress_of self.now) bytes.now 0 self.now.area.nodes) place }
     {
         let nodes = self.nodes();
@@ -212,7 +212,7 @@ impl Collectives {
         requires long { length bytes.now ≡ self.now.settings.segment }
         requires reduction { is_reduction self.now.shape.kind ≡ true }
         requires len { length piece.old ≡ self.now.shape.len }
-        ensures { piece.new ≡ together (combined self.now.shape.kind) self.now.shape.len
+        ensures { piece.new ≡ together (combination self.now.shape.kind) self.now.shape.len
             (data_of_all self.now.area (progress_of self.now) bytes.now 0 self.now.area.nodes) }
     {
         for place in 0..self.shape.len / 8 {

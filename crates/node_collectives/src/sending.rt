@@ -6,7 +6,7 @@ ghost use Rattle.node_caller.specs.Sites.{IsThere};
 ghost use Rattle.node_collectives.specs.Progress.{is_left};
 ghost use Rattle.node_collectives.specs.CollectivesState.{IsSameNode, Stands, progress_of};
 ghost use Rattle.node_collectives.specs.Starts.{CallsOne};
-ghost use Rattle.node_collectives.specs.Steps.{Steps, noted, payload_for, step_call, step_told};
+ghost use Rattle.node_collectives.specs.Steps.{Steps, after_ask, payload_for, step_call, step_told};
 
 use crate::answers::StepAnswer;
 use crate::calling::call_one;
@@ -62,7 +62,7 @@ impl Collectives {
     fn note(&mut self, to: u16, answer: &Option<Answer>) -> Option<StepAnswer>
         requires { to < self.old.area.nodes }
         ensures stop { result ≡ step_told to answer.now }
-        ensures noted { self.new ≡ noted self.old to answer.now }
+        ensures noted { self.new ≡ after_ask self.old to answer.now }
     {
         match answer {
             None => Some(StepAnswer::NoMemory),

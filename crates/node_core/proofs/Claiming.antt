@@ -13,14 +13,14 @@ use Rattle.std.proofs.lemmas.Map.Steps.{le-length_from_below}
 use Rattle.wire_message.specs.Parameters.{Parameters, credits_of}
 use Rattle.spec_node.specs.Credits.{limits_of}
 use Rattle.wire_message.specs.Message.{spelling}
-use Rattle.wire_message.specs.Content.{Content, addressed}
+use Rattle.wire_message.specs.Content.{Content, message_at_address}
 use Rattle.base_lists.specs.Update.{update}
 use Rattle.base_lists.proofs.Update.{slice_get-update, slice_get-update_other, update-Some}
-use Rattle.part_window.specs.SlotsState.{SlotState, Vacant, Sealed, PeerState, is_vacant, IsTakenWith, CanClaim}
-use Rattle.part_window.specs.Due.{sent_again}
-use Rattle.spec_node.specs.Record.{Request, numbered, change}
+use Rattle.part_window.specs.SlotsState.{SlotState, Vacant, Committed, PeerState, is_vacant, IsTakenWith, CanClaim}
+use Rattle.part_window.specs.Due.{as_retransmitted}
+use Rattle.spec_node.specs.Record.{Request, element_at, change}
 use Rattle.spec_node.specs.declared.answer.Asked.TheVariants as asked
-use Rattle.spec_node.specs.Requests.{taken, free_slot, is_open, open_in, as_back, sent_at}
+use Rattle.spec_node.specs.Requests.{taken_slots, free_slot, is_open, open_in, as_back, sent_at}
 use Rattle.spec_node.specs.Step.{claim_answer}
 use Rattle.spec_node.specs.Invariant.{IsOrderly}
 use Rattle.node_core.specs.Stands.{StandsForAsked, slot_state}
@@ -32,7 +32,7 @@ use Rattle.std.proofs.lemmas.Bool.{not-false}
 
 -- ---- which slots are vacant
 
--- where the front that passes is the whole, each item passes
+-- where the prefix that passes is the whole, each item passes
 all_pass : {X : Type 0} (test : X → Bool) (xs : List X) → length xs ≤ prefix_len test xs → (k : ℕ) (x : X)
     → slice_get xs k ≡ Some x → test x ≡ true
 all_pass test [] le k x e = absurd (cc)
@@ -73,7 +73,7 @@ vacant_is s me peer (Some o) = refl
 pub vacant_taken : (s : Parameters) (me peer : ℕ) (p : PeerState) (xs : List Request) (slot : ℕ)
     → StandsForAsked s me peer p xs → slot < credits_of s me peer
     → (state : SlotState) × (slice_get p.slots slot ≡ Some state) ×
-    (is_vacant state ≡ not (list_any (eqb slot) (taken xs)))
+    (is_vacant state ≡ not (list_any (eqb slot) (taken_slots xs)))
 vacant_taken s me peer p xs slot S below = (
   slot_state s me peer (open_in slot xs),
   S.slots slot below,
@@ -106,7 +106,7 @@ pub not_yet_is : (s : Parameters) (me to : ℕ) (p : PeerState) (xs : List Reque
     → claim_answer (limits_of s me to) to xs ≡ asked.NotYet
 not_yet_is s me to p xs last S same left full =
     let c = S.given in
-    let all = le-length_from_below (taken xs) (credits_of s me to)
+    let all = le-length_from_below (taken_slots xs) (credits_of s me to)
     (λ q below. let it = vacant_taken s me to p xs q S below in
     not-false _ (sym it.2 ∙ none_passes is_vacant p.slots full q it.0 it.1)) in
     grind (arith, nat_tests)
@@ -116,7 +116,7 @@ pub record Takes (s : Parameters) (me to : ℕ) (p : PeerState) (xs : List Reque
   pub answer : claim_answer (limits_of s me to) to xs ≡ asked.Accepted to slot number
   pub below : slot < credits_of s me to
   pub left : length xs < s.last
-  pub free : list_any (eqb slot) (taken xs) ≡ false
+  pub free : list_any (eqb slot) (taken_slots xs) ≡ false
   pub lowest : slot ≡ free_slot xs
   pub next : number ≡ 1 + length xs
 
@@ -128,7 +128,7 @@ accepted_is s me to p xs last slot number S O same C e =
     let c = S.given in
     let below : slot < credits_of s me to = omega (arith, C.in_range, S.count) in
     let here = vacant_taken s me to p xs slot S below in
-    let none : list_any (eqb slot) (taken xs) ≡ false = not-true _
+    let none : list_any (eqb slot) (taken_slots xs) ≡ false = not-true _
     (sym here.2 ∙ lowest_vacant p.slots slot C.lowest here.0 here.1) in
     let few = fewer xs (credits_of s me to) slot O.apart O.low below none in
     let is = least_free xs slot none
@@ -164,12 +164,12 @@ pub stands_accepted : (s : Parameters) (me to : ℕ) (p : PeerState) (xs : List 
     (record {
       given = number;
       slots = update p.slots slot
-          (λ _. Sealed number now (spelling (addressed (address_in s me to slot number) c)));
+          (λ _. Committed number now (spelling (message_at_address (address_in s me to slot number) c)));
     })
     (xs ++ record { slot = slot; content = c; time = now; back = false } ∷ [])
 stands_accepted s me to p xs c slot number now S T =
     let new : Request = record { slot = slot; content = c; time = now; back = false } in
-    let state = Sealed number now (spelling (addressed (address_in s me to slot number) c)) in
+    let state = Committed number now (spelling (message_at_address (address_in s me to slot number) c)) in
     let was = S.slots slot T.below in
     record {
       given = T.next ∙ sym (length-append xs (new ∷ []) ∙ omega arith);
@@ -177,7 +177,7 @@ stands_accepted s me to p xs c slot number now S T =
       slots = λ j l. elim (cases_eq j slot) [
         | inl same ↦ (let is : open_in slot xs ≡ None = none_is (open_in slot xs) (open_taken slot 1 xs ∙ T.free) in
             rw same (changed_here p.slots slot state _ was
-            ∙ ap Some (ap (λ n. Sealed n now (spelling (addressed (address_in s me to slot n) c))) T.next
+            ∙ ap Some (ap (λ n. Committed n now (spelling (message_at_address (address_in s me to slot n) c))) T.next
             ∙ sym (ap (slot_state s me to) (open_new xs new is refl)))))
         | inr other ↦ slice_get-update_other p.slots slot (λ _. state) j other
             ∙ (S.slots j l ∙ ap (λ o. Some (slot_state s me to o)) (sym (open_other j xs new other)))
@@ -188,17 +188,17 @@ stands_accepted s me to p xs c slot number now S T =
 
 -- the slot is taken with that number exactly where the record has that request open
 pub taken_open : (s : Parameters) (me to : ℕ) (xs : List Request) (slot number : ℕ)
-    → IsTakenWith number (slot_state s me to (open_in slot xs)) → is_open slot (numbered xs number) ≡ true
+    → IsTakenWith number (slot_state s me to (open_in slot xs)) → is_open slot (element_at xs number) ≡ true
 taken_open s me to xs slot number h = go (open_in slot xs) refl h
   where
     go : (o : Option (ℕ × Request)) → open_in slot xs ≡ o → IsTakenWith number (slot_state s me to o)
-        → is_open slot (numbered xs number) ≡ true
+        → is_open slot (element_at xs number) ≡ true
     go None e t = absurd t
     go (Some o) e t = open_if xs slot number o e t
 
 -- and where the record has it open, the slot is taken with that number
 pub open_taken_with : (s : Parameters) (me to : ℕ) (xs : List Request) (slot number : ℕ)
-    → IsOrderly (limits_of s me to) xs → is_open slot (numbered xs number) ≡ true
+    → IsOrderly (limits_of s me to) xs → is_open slot (element_at xs number) ≡ true
     → IsTakenWith number (slot_state s me to (open_in slot xs))
 open_taken_with s me to xs slot number O e =
     let it = open_says xs slot number O.apart e in
@@ -207,7 +207,7 @@ open_taken_with s me to xs slot number O e =
 -- the slots stand for the requests where one came back
 pub stands_back : (s : Parameters) (me to : ℕ) (p : PeerState) (xs : List Request) (slot number : ℕ)
     → StandsForAsked s me to p xs → IsOrderly (limits_of s me to) xs → slot < credits_of s me to
-    → is_open slot (numbered xs number) ≡ true
+    → is_open slot (element_at xs number) ≡ true
     → StandsForAsked s me to (record p { slots = update p.slots slot (λ _. Vacant) }) (change as_back xs number)
 stands_back s me to p xs slot number S O below e =
     let it = open_says xs slot number O.apart e in
@@ -230,22 +230,22 @@ stands_back s me to p xs slot number S O below e =
 -- the slots stand for the requests where one was sent again
 pub stands_sent : (s : Parameters) (me to now : ℕ) (p : PeerState) (xs : List Request) (slot number : ℕ) (x : Request)
     → StandsForAsked s me to p xs → IsOrderly (limits_of s me to) xs → slot < credits_of s me to
-    → numbered xs number ≡ Some x → x.back ≡ false → x.slot ≡ slot → open_in slot xs ≡ Some (number, x)
-    → StandsForAsked s me to (record p { slots = update p.slots slot (sent_again now) })
+    → element_at xs number ≡ Some x → x.back ≡ false → x.slot ≡ slot → open_in slot xs ≡ Some (number, x)
+    → StandsForAsked s me to (record p { slots = update p.slots slot (as_retransmitted now) })
     (change (sent_at now) xs number)
 stands_sent s me to now p xs slot number x S O below at open_ same found =
     let was : slice_get p.slots slot ≡ Some (slot_state s me to (Some (number, x))) = S.slots slot below
     ∙ ap (λ o. Some (slot_state s me to o)) found in
     record {
       given = S.given ∙ sym (length-change (sent_at now) xs number);
-      count = length_changed p.slots slot (sent_again now) _ was ∙ S.count;
+      count = length_changed p.slots slot (as_retransmitted now) _ was ∙ S.count;
       slots = λ j l. elim (cases_eq j slot) [
-        | inl h ↦ rw h (slice_get-update p.slots slot (sent_again now)
-            ∙ (ap (option_map (sent_again now)) was
+        | inl h ↦ rw h (slice_get-update p.slots slot (as_retransmitted now)
+            ∙ (ap (option_map (as_retransmitted now)) was
             ∙ ap (λ o. Some (slot_state s me to o))
             (sym (open_sent_here now slot xs number x (orderly_sent (limits_of s me to) now xs number O).apart
             at open_ same))))
-        | inr other ↦ slice_get-update_other p.slots slot (sent_again now) j other
+        | inr other ↦ slice_get-update_other p.slots slot (as_retransmitted now) j other
             ∙ (S.slots j l ∙ ap (λ o. Some (slot_state s me to o))
             (sym (open_sent now j xs number x at (λ h. other (sym h ∙ same)))))
       ];

@@ -13,12 +13,12 @@ use Rattle.wire_message.specs.Parameters.{Parameters, AreInRange, credits_of}
 use Rattle.spec_node.specs.Credits.{limits_of}
 use Rattle.spec_node.specs.Behaviour.{Contact}
 use Rattle.wire_message.specs.Message.{IsMessage, spelling}
-use Rattle.wire_message.specs.Content.{Content, addressed}
+use Rattle.wire_message.specs.Content.{Content, message_at_address}
 use Rattle.base_lists.specs.Update.{update}
 use Rattle.base_lists.proofs.Update.{slice_get-update, slice_get-update_other, length-update}
-use Rattle.part_window.specs.SlotsState.{Vacant, Sealed, PeerState, CanClaim, Refuses, IsNew, IsTakenAt, IsTakenWith}
+use Rattle.part_window.specs.SlotsState.{Vacant, Committed, PeerState, CanClaim, Refuses, IsNew, IsTakenAt, IsTakenWith}
 use Rattle.part_window.specs.SlotsState.{new_peer, with_slot, with_slot_changed, with_given_in, slot_at}
-use Rattle.part_window.specs.Due.{sent_again}
+use Rattle.part_window.specs.Due.{as_retransmitted}
 use Rattle.part_window.proofs.CreditLookups.{slot_at-given_node, slot_at-slot_node, slot_at-changed_node}
 use Rattle.part_window.specs.declared.credits.NoClaim.TheVariants as claims
 use Rattle.part_window.specs.RepliesState.{ReplyState, Unused, Kept, last_number, JudgesAt, Judges, with_reply}
@@ -32,7 +32,7 @@ use Rattle.part_handlers.specs.LogState.{log_of, notes}
 use Rattle.part_handlers.specs.Runs.{Outcome, violation}
 use Rattle.part_handlers.proofs.Logs.{notes-log_of}
 use Rattle.spec_node.specs.declared.answer.Asked.TheVariants as asked
-use Rattle.spec_node.specs.Record.{Request, Run, Node, opening_node, numbered, change}
+use Rattle.spec_node.specs.Record.{Request, Run, Node, opening_node, element_at, change}
 use Rattle.spec_node.specs.Requests.{is_open, open_in, as_back, sent_at}
 use Rattle.spec_node.specs.Executed.{greatest, last_run}
 use Rattle.spec_node.specs.Step.{claim_answer, put, with_local, new_request, with_request, with_run, with_back}
@@ -242,7 +242,7 @@ pub record NodeAccepts (e : CoreState) (to : ℕ) (r : Node Local) (c : Content)
 -- of the requests of the peer, one is accepted
 pub invariant_accepts : (e : CoreState) (to now slot number : ℕ) (r : Node Local) (p : PeerState) (c : Content)
     → CoreStands e r → to ≢ e.me → Takes e.settings e.me to p (r.asked to) slot number
-    → IsMessage (addressed (address_in e.settings e.me to slot number) c)
+    → IsMessage (message_at_address (address_in e.settings e.me to slot number) c)
     → NodeInvariant e.settings (IsKept e.settings) e.me (with_request r now to slot c)
 invariant_accepts e to now slot number r p c S other T spelled =
     let xs = r.asked to in
@@ -256,9 +256,9 @@ invariant_accepts e to now slot number r p c S other T spelled =
     (fewer xs (credits_of e.settings e.me to) slot O.apart O.low T.below T.free) T.left))
     (λ k x f. elim (numbered_push xs asked k x f) [
       | inl was ↦ S.invariant_.asked to k x was
-      | inr new ↦ subst (λ (y : Request). IsMessage (addressed
+      | inr new ↦ subst (λ (y : Request). IsMessage (message_at_address
           (address_in e.settings e.me to y.slot k) y.content)) new.1
-          (subst (λ n. IsMessage (addressed (address_in e.settings e.me to slot n) c)) (T.next
+          (subst (λ n. IsMessage (message_at_address (address_in e.settings e.me to slot n) c)) (T.next
           ∙ (omega arith ∙ sym new.0))
           spelled)
     ])
@@ -284,11 +284,11 @@ node_accepts to now slot number e r c new S low other A =
         last = S.last;
         requests = λ peer l d. elim (cases_eq peer to) [
           | inl same ↦ (
-            with_given_in p.0 slot number (Sealed number now
-                (spelling (addressed (address_in s e.me to slot number) c))),
+            with_given_in p.0 slot number (Committed number now
+                (spelling (message_at_address (address_in s e.me to slot number) c))),
             rw same (updated e.requests.peers to
                 (λ x. with_given_in x slot number
-                (Sealed number now (spelling (addressed (address_in s e.me to slot number) c)))) p.0 p.1),
+                (Committed number now (spelling (message_at_address (address_in s e.me to slot number) c)))) p.0 p.1),
             rw (same, put_same r.asked to (r.asked to ++ asked ∷ []))
                 (stands_accepted s e.me to p.0 (r.asked to) c slot number now p.2 T),
           )
@@ -296,13 +296,13 @@ node_accepts to now slot number e r c new S low other A =
             o.0,
             slice_get-update_other e.requests.peers to
                 (λ x. with_given_in x slot number
-                (Sealed number now (spelling (addressed (address_in s e.me to slot number) c)))) peer d' ∙ o.1,
+                (Committed number now (spelling (message_at_address (address_in s e.me to slot number) c)))) peer d' ∙ o.1,
             rw (put_other r.asked to (r.asked to ++ asked ∷ []) peer d') o.2,
           ))
         ];
         no_more =
             λ peer at h. slot_at-given_node e.requests to slot number
-            (Sealed number now (spelling (addressed (address_in s e.me to slot number) c))) peer at
+            (Committed number now (spelling (message_at_address (address_in s e.me to slot number) c))) peer at
             (λ same. other (sym same ∙ h (rw same low))) ∙ S.no_more peer at h;
         replies = S.replies;
         own_ran = S.own_ran;
@@ -335,7 +335,7 @@ reply_found peer slot e r S low other below =
 -- a slot that is taken with a number has that request open in the record
 pub node_taken : (from slot number : ℕ) (e : CoreState) (r : Node Local) → CoreStands e r → from < e.settings.nodes
     → from ≢ e.me → slot < credits_of e.settings e.me from → IsTakenAt e.requests from slot number
-    → is_open slot (numbered (r.asked from) number) ≡ true
+    → is_open slot (element_at (r.asked from) number) ≡ true
 node_taken from slot number e r S low other below h =
     taken_open e.settings e.me from (r.asked from) slot number
     (subst (λ o. IsSomeAnd o (IsTakenWith number)) (request_found from slot e r S low other below) h)
@@ -343,9 +343,9 @@ node_taken from slot number e r S low other below h =
 -- a slot that isn't taken with a number hasn't that request open in the record
 pub node_not_taken : (from slot number : ℕ) (e : CoreState) (r : Node Local) → CoreStands e r → from < e.settings.nodes
     → from ≢ e.me → slot < credits_of e.settings e.me from → (IsTakenAt e.requests from slot number → ⊥)
-    → is_open slot (numbered (r.asked from) number) ≡ false
+    → is_open slot (element_at (r.asked from) number) ≡ false
 node_not_taken from slot number e r S low other below h =
-    elim (cases_Bool (is_open slot (numbered (r.asked from) number))) [
+    elim (cases_Bool (is_open slot (element_at (r.asked from) number))) [
       | inr f ↦ f
       | inl t ↦ absurd (h (subst (λ o. IsSomeAnd o (IsTakenWith number))
           (sym (request_found from slot e r S low other below))
@@ -362,7 +362,7 @@ invariant_back e from number r S =
     (λ h. change_none number (r.asked from) (ap r.asked (sym h) ∙ S.invariant_.own))
     (orderly_back (limits_of e.settings e.me from) (r.asked from) number (S.invariant_.orderly from))
     (λ k x f. let it = numbered-change as_back (r.asked from) number k x f in
-    subst₂ (λ slot content. IsMessage (addressed (address_in e.settings e.me from slot k) content))
+    subst₂ (λ slot content. IsMessage (message_at_address (address_in e.settings e.me from slot k) content))
     (sym (back_slot it.2))
     (sym (back_content it.2)) (S.invariant_.asked from k it.0 it.1))
   where
@@ -373,7 +373,7 @@ invariant_back e from number r S =
 -- a credit that comes back is the record's step
 pub node_returns : (from slot number : ℕ) (e : CoreState) (r : Node Local) (new : CoreState) → CoreStands e r
     → from < e.settings.nodes → from ≢ e.me → slot < credits_of e.settings e.me from
-    → is_open slot (numbered (r.asked from) number) ≡ true
+    → is_open slot (element_at (r.asked from) number) ≡ true
     → new ≡ record e { requests = with_slot e.requests from slot Vacant }
     → CoreStands new (with_back r from number r.local)
 node_returns from slot number e r new S low other below t is =
@@ -446,10 +446,10 @@ contact_of e peer slot number = record { me = e.me; peer = peer; slot = slot; nu
 pub node_runs : (from slot number : ℕ) (e : CoreState) (r : Node Local) (c reply : Content) (new : CoreState)
     → CoreStands e r → from < e.settings.nodes → from ≢ e.me → slot < credits_of e.settings from e.me
     → greatest slot (r.ran from) < number
-    → IsMessage (addressed (address_in e.settings e.me from slot number) reply)
+    → IsMessage (message_at_address (address_in e.settings e.me from slot number) reply)
     → new ≡ record e {
       replies = with_reply e.replies from slot number
-          (spelling (addressed (address_in e.settings e.me from slot number) reply));
+          (spelling (message_at_address (address_in e.settings e.me from slot number) reply));
     }
     → CoreStands new (with_run r (contact_of e from slot number) c (r.local, reply))
 node_runs from slot number e r c reply new S low other below above spelled is =
@@ -459,7 +459,7 @@ node_runs from slot number e r c reply new S low other below above spelled is =
     let rs = r.ran from in
     let q = with_run r (contact_of e from slot number) c (r.local, reply) in
     let state = p.2.slots slot below in
-    let kept : ReplyState = Kept number (spelling (addressed (address_in s e.me from slot number) reply)) in
+    let kept : ReplyState = Kept number (spelling (message_at_address (address_in s e.me from slot number) reply)) in
     rw is (record {
       range = S.range;
       me_in = S.me_in;
@@ -508,14 +508,14 @@ invariant_sent e to now number r S other =
     (λ h. absurd (other (sym h)))
     (orderly_sent (limits_of e.settings e.me to) now (r.asked to) number (S.invariant_.orderly to))
     (λ k x f. let it = numbered-change (sent_at now) (r.asked to) number k x f in
-    subst₂ (λ slot content. IsMessage (addressed (address_in e.settings e.me to slot k) content)) (sym (sent_slot it.2))
+    subst₂ (λ slot content. IsMessage (message_at_address (address_in e.settings e.me to slot k) content)) (sym (sent_slot it.2))
     (sym (sent_content it.2)) (S.invariant_.asked to k it.0 it.1))
 
 -- a request that is sent again is the record's step
 pub node_sent : (to slot now number : ℕ) (x : Request) (e : CoreState) (r : Node Local) → CoreStands e r
-    → to < e.settings.nodes → to ≢ e.me → slot < credits_of e.settings e.me to → numbered (r.asked to) number ≡ Some x
+    → to < e.settings.nodes → to ≢ e.me → slot < credits_of e.settings e.me to → element_at (r.asked to) number ≡ Some x
     → x.back ≡ false → x.slot ≡ slot → open_in slot (r.asked to) ≡ Some (number, x)
-    → CoreStands (record e { requests = with_slot_changed e.requests to slot (sent_again now) })
+    → CoreStands (record e { requests = with_slot_changed e.requests to slot (as_retransmitted now) })
     (record r { asked = put r.asked to (change (sent_at now) (r.asked to) number) })
 node_sent to slot now number x e r S low other below at open_ same found =
     let s = e.settings in
@@ -528,8 +528,8 @@ node_sent to slot now number x e r S low other below at open_ same found =
       last = S.last;
       requests = λ peer l d. elim (cases_eq peer to) [
         | inl here ↦ (
-          record p.0 { slots = update p.0.slots slot (sent_again now) },
-          rw here (updated e.requests.peers to (λ y. record y { slots = update y.slots slot (sent_again now) }) p.0
+          record p.0 { slots = update p.0.slots slot (as_retransmitted now) },
+          rw here (updated e.requests.peers to (λ y. record y { slots = update y.slots slot (as_retransmitted now) }) p.0
               p.1),
           rw (here, put_same r.asked to xs)
               (stands_sent s e.me to now p.0 (r.asked to) slot number x p.2 (S.invariant_.orderly to) below at open_
@@ -537,13 +537,13 @@ node_sent to slot now number x e r S low other below at open_ same found =
         )
         | inr d' ↦ (let o = S.requests peer l d in (
           o.0,
-          slice_get-update_other e.requests.peers to (λ y. record y { slots = update y.slots slot (sent_again now) })
+          slice_get-update_other e.requests.peers to (λ y. record y { slots = update y.slots slot (as_retransmitted now) })
               peer d' ∙ o.1,
           rw (put_other r.asked to xs peer d') o.2,
         ))
       ];
       no_more =
-          λ peer at h. slot_at-changed_node e.requests to slot (sent_again now) peer at
+          λ peer at h. slot_at-changed_node e.requests to slot (as_retransmitted now) peer at
           (λ same. other (sym same ∙ h (rw same low))) ∙ S.no_more peer at h;
       replies = S.replies;
       own_ran = S.own_ran;

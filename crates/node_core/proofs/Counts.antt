@@ -13,9 +13,9 @@ use Rattle.part_window.specs.SlotsState.{PeerState, is_vacant, is_taken, taken_c
 use Rattle.part_window.specs.RepliesState.{ReplyState, run_count, has_run as keeps_run, held_count as kept_count}
 use Rattle.base_lists.specs.Sums.{sum_below}
 use Rattle.spec_node.specs.Record.{Request, Run, Node}
-use Rattle.spec_node.specs.Requests.{taken, unreturned}
+use Rattle.spec_node.specs.Requests.{taken_slots, outstanding}
 use Rattle.spec_node.specs.Executed.{greatest, last_run, has_run, slots_run}
-use Rattle.spec_node.specs.Held.{held}
+use Rattle.spec_node.specs.Held.{held_buffers}
 use Rattle.spec_node.specs.Credits.{limits_of}
 use Rattle.spec_node.specs.Invariant.{IsOrderly}
 use Rattle.spec_node.proofs.Lists.{taken_from, slice_get_in}
@@ -96,10 +96,10 @@ twice_not false = refl
 
 -- as many slots of a peer are taken as requests aren't back
 peer_taken : (s : Parameters) (me peer : ℕ) (p : PeerState) (xs : List Request) → StandsForAsked s me peer p xs
-    → IsOrderly (limits_of s me peer) xs → taken_count p ≡ unreturned xs
+    → IsOrderly (limits_of s me peer) xs → taken_count p ≡ outstanding xs
 peer_taken s me peer p xs S O =
-    let f : ℕ → Bool = λ k. list_any (eqb k) (taken xs) in
-    let some : hits f 0 (credits_of s me peer) ≡ unreturned xs = hits_all (credits_of s me peer) (taken xs)
+    let f : ℕ → Bool = λ k. list_any (eqb k) (taken_slots xs) in
+    let some : hits f 0 (credits_of s me peer) ≡ outstanding xs = hits_all (credits_of s me peer) (taken_slots xs)
     (taken_apart xs O.apart)
     (λ q h. let it = taken_from xs q h in subst (λ n. n < credits_of s me peer) it.4 (O.low (suc it.0) it.1 it.2)) in
     let counted = sum_of (counted_of is_taken) (one_if f) p.slots
@@ -150,20 +150,20 @@ none_kept p none = ap (λ slots. sum_by (counted_of keeps_run) slots) (nil_from_
 
 -- the requests that aren't back, of all peers
 asked_count : (e : CoreState) (r : Node Local) → CoreStands e r → IsSized e.settings e.me e.requests e.replies
-    → held_count e.requests ≡ sum_below (λ peer. unreturned (r.asked peer)) e.settings.nodes
+    → held_count e.requests ≡ sum_below (λ peer. outstanding (r.asked peer)) e.settings.nodes
 asked_count e r S sized =
-    sum_of taken_count (λ peer. unreturned (r.asked peer)) e.requests.peers
+    sum_of taken_count (λ peer. outstanding (r.asked peer)) e.requests.peers
     (λ peer p is. elim (cases_eq peer e.me) [
       | inl own ↦ (let none : length p.slots ≡ 0 =
           ap taken_at (sym is ∙ ap (λ k. slice_get e.requests.peers k) own) ∙ sized.none_asked in
-          none_taken p none ∙ sym (ap unreturned (ap r.asked own ∙ S.invariant_.own)))
+          none_taken p none ∙ sym (ap outstanding (ap r.asked own ∙ S.invariant_.own)))
       | inr other ↦ (let low : peer < e.settings.nodes =
           subst (λ n. peer < n) sized.requesters (slice_get_in e.requests.peers peer p is) in
           let it = S.requests peer low other in
           ap taken_count (same_Some p it.0 (sym is ∙ it.1))
           ∙ peer_taken e.settings e.me peer it.0 (r.asked peer) it.2 (S.invariant_.orderly peer))
     ])
-    ∙ ap (sum_below (λ peer. unreturned (r.asked peer))) sized.requesters
+    ∙ ap (sum_below (λ peer. outstanding (r.asked peer))) sized.requesters
 
 -- a request that was run has a number
 run_numbered : (e : CoreState) (r : Node Local) (peer place : ℕ) (run : Run) → CoreStands e r
@@ -191,8 +191,8 @@ ran_count e r S sized =
 
 -- the slots in use are what the record holds
 pub held_is : (e : CoreState) (r : Node Local) → CoreStands e r → IsSized e.settings e.me e.requests e.replies
-    → held_count e.requests + kept_count e.replies ≡ held e.settings e.me r
+    → held_count e.requests + kept_count e.replies ≡ held_buffers e.settings e.me r
 held_is e r S sized =
     ap₂ (λ m n. m + n) (asked_count e r S sized) (ran_count e r S sized)
-    ∙ sum_both (λ peer. unreturned (r.asked peer)) (λ peer. slots_run (r.ran peer) (credits_of e.settings peer e.me))
+    ∙ sum_both (λ peer. outstanding (r.asked peer)) (λ peer. slots_run (r.ran peer) (credits_of e.settings peer e.me))
     e.settings.nodes

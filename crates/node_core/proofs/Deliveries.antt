@@ -17,12 +17,12 @@ use Rattle.spec_node.specs.declared.answer.Why.{Why}
 use Rattle.spec_node.specs.declared.answer.Why.TheVariants as why
 use Rattle.spec_node.specs.declared.answer.Delivered.{Delivered}
 use Rattle.spec_node.specs.declared.answer.Delivered.TheVariants as delivered
-use Rattle.spec_node.specs.Record.{Node, numbered}
+use Rattle.spec_node.specs.Record.{Node, element_at}
 use Rattle.spec_node.specs.Requests.{is_open}
 use Rattle.spec_node.specs.Executed.{greatest}
 use Rattle.spec_node.specs.Behaviour.{is_request}
 use Rattle.spec_node.specs.NodeStep.{NodeAnswer, OfDelivery, Comes}
-use Rattle.spec_node.specs.Step.{judged as judged_answer, taken_back, unless_refused, unless_waiting, with_local}
+use Rattle.spec_node.specs.Step.{verdict_of_number as judged_answer, taken_back, unless_refused, unless_waiting, with_local}
 use Rattle.spec_node.specs.Step.{Waits as WaitsVerdict}
 use Rattle.spec_node.specs.Step.{deliver_answer, after_delivery}
 use Rattle.spec_node.specs.Step.{address_fault, first_why, with_run, with_back}
@@ -78,7 +78,7 @@ message_fits e m spelled h =
 abbrev pub taken_verdict : Node Local → Message → Option ℕ → Verdict
 taken_verdict r m lock =
     if is_request m.kind then judged_answer m.number (greatest m.slot (r.ran m.from)) lock else taken_back m.slot
-    (numbered (r.asked m.from) m.number) lock
+    (element_at (r.asked m.from) m.number) lock
 
 -- the record of a core waits for the same lock
 waits_alike : (e : CoreState) (r : Node Local) (m : Message) → CoreStands e r
@@ -94,18 +94,18 @@ request_verdict meaning e r m v O S is =
     ap (λ x. unless_refused x (taken_verdict r m (awaited_lock e.table (content_of m) r.local.locks))) O.ours
     ∙ (ap (λ lock. taken_verdict r m lock) (sym (waits_alike e r m S))
     ∙ (ap (λ b. if b then judged_answer m.number (greatest m.slot (r.ran m.from)) (lock_at e m) else taken_back m.slot
-    (numbered (r.asked m.from) m.number) (lock_at e m)) O.request ∙ is))
+    (element_at (r.asked m.from) m.number) (lock_at e m)) O.request ∙ is))
 
 -- of a reply that isn't refused
 reply_verdict : (meaning : Meaning) (e : CoreState) (r : Node Local) (m : Message) (v : Verdict) → IsOurReply e m
-    → CoreStands e r → taken_back m.slot (numbered (r.asked m.from) m.number) (lock_at e m) ≡ v
+    → CoreStands e r → taken_back m.slot (element_at (r.asked m.from) m.number) (lock_at e m) ≡ v
     → verdict (site_at meaning e) r m ≡ v
 unfolding message_refusal
 reply_verdict meaning e r m v O S is =
     ap (λ x. unless_refused x (taken_verdict r m (awaited_lock e.table (content_of m) r.local.locks))) O.ours
     ∙ (ap (λ lock. taken_verdict r m lock) (sym (waits_alike e r m S))
     ∙ (ap (λ b. if b then judged_answer m.number (greatest m.slot (r.ran m.from)) (lock_at e m) else taken_back m.slot
-    (numbered (r.asked m.from) m.number) (lock_at e m)) O.reply ∙ is))
+    (element_at (r.asked m.from) m.number) (lock_at e m)) O.reply ∙ is))
 
 -- of a message that is refused
 refused_verdict : (meaning : Meaning) (e : CoreState) (r : Node Local) (m : Message) (reason : Why)
@@ -120,9 +120,9 @@ judged_new : (m : Message) (last : ℕ) (lock : Option ℕ) → last < m.number
 judged_new m last lock l = grind (arith, nat_tests)
 
 -- the greatest number came again
-judged_again : (m : Message) (last : ℕ) (lock : Option ℕ) → m.number ≡ last
+judged_duplicate : (m : Message) (last : ℕ) (lock : Option ℕ) → m.number ≡ last
     → judged_answer m.number last lock ≡ Duplicated
-judged_again m last lock l = grind (arith, nat_tests)
+judged_duplicate m last lock l = grind (arith, nat_tests)
 
 -- a smaller number is stale
 judged_stale : (m : Message) (last : ℕ) (lock : Option ℕ) → m.number < last
@@ -195,7 +195,7 @@ returns_stand : (meaning : Meaning) (e : CoreState) (m : Message) (new : CoreSta
     → IsLawfulMeaning meaning → IsOurReply e m
     → new ≡ with_reply_run meaning
     (record e { requests = with_slot e.requests m.from m.slot Vacant }) m → CoreStands e r
-    → is_open m.slot (numbered (r.asked m.from) m.number) ≡ true
+    → is_open m.slot (element_at (r.asked m.from) m.number) ≡ true
     → CoreStands new (with_back r m.from m.number
     (run_reply (handlers_at meaning e) (with_sender e.me m) (content_of m) r.local))
 returns_stand meaning e m new r lawful O is S open_ =
@@ -267,8 +267,8 @@ pub message_step : (meaning : Meaning) (e : CoreState) (m : Message) (a : Delive
     → DeliversMessage meaning e m a new → MessageStep meaning e m a new
 message_step meaning e m (delivered.Ran at) new lawful sized h =
     new_step meaning e m (delivered.Ran at) new lawful sized h
-message_step meaning e m (delivered.Noted at note) new lawful sized h =
-    new_step meaning e m (delivered.Noted at note) new lawful sized h
+message_step meaning e m (delivered.Notified at notification) new lawful sized h =
+    new_step meaning e m (delivered.Notified at notification) new lawful sized h
 message_step meaning e m (delivered.Duplicate at) new lawful sized h = record {
   same = same_core e new h.3;
   steps = λ r S.
@@ -276,7 +276,7 @@ message_step meaning e m (delivered.Duplicate at) new lawful sized h = record {
       let same = node_judged m.from m.slot m.number e r judged.Duplicate S ours.from (from_other e m ours h.0.spelled)
       (request_slot_in e m h.0) h.2 in
       by_verdict meaning e new r m Duplicated _
-      (request_verdict meaning e r m _ h.0 S (judged_again m (greatest m.slot (r.ran m.from)) (lock_at e m) same))
+      (request_verdict meaning e r m _ h.0 S (judged_duplicate m (greatest m.slot (r.ran m.from)) (lock_at e m) same))
       (ap delivered.Duplicate h.1) (rw h.3 S);
 }
 message_step meaning e m delivered.Stale new lawful sized h = record {
@@ -420,13 +420,13 @@ pub message_answered : (meaning : Meaning) (e : CoreState) (m : Message) (a : De
     → CoreStands e r
     → WouldAnswer e m a → a ≡ deliver_answer (site_at meaning e) r m
 message_answered meaning e m (delivered.Ran at) r S h = run_answered meaning e m (delivered.Ran at) r S h
-message_answered meaning e m (delivered.Noted at note) r S h = run_answered meaning e m (delivered.Noted at note) r S h
+message_answered meaning e m (delivered.Notified at notification) r S h = run_answered meaning e m (delivered.Notified at notification) r S h
 message_answered meaning e m (delivered.Duplicate at) r S h =
     let ours = h.0.known in
     let same = node_judged m.from m.slot m.number e r judged.Duplicate S ours.from (from_other e m ours h.0.spelled)
     (request_slot_in e m h.0) h.2 in
     answer_by_verdict meaning e r m Duplicated _
-    (request_verdict meaning e r m _ h.0 S (judged_again m (greatest m.slot (r.ran m.from)) (lock_at e m) same))
+    (request_verdict meaning e r m _ h.0 S (judged_duplicate m (greatest m.slot (r.ran m.from)) (lock_at e m) same))
     (ap delivered.Duplicate h.1)
 message_answered meaning e m delivered.Stale r S h =
     let ours = h.0.known in

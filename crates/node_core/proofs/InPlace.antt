@@ -13,7 +13,7 @@ use Rattle.part_segment.proofs.Images.{all_fit-append, all_fit_none, all_fit_one
 use Rattle.part_segment.proofs.TwoLists.{with_part-append}
 use Rattle.part_handlers.specs.declared.rules.Role.{Role}
 use Rattle.part_handlers.specs.declared.rules.Role.TheVariants as role
-use Rattle.part_handlers.specs.Runs.{Frame, Outcome, Meaning, IsLawfulMeaning, IsPlaced, closed}
+use Rattle.part_handlers.specs.Runs.{Frame, Outcome, Meaning, IsLawfulMeaning, IsPlaced, after_return}
 use Rattle.wire_message.specs.Message.{Message, spelling}
 use Rattle.wire_message.specs.Content.{Content, code, content_of, is_long}
 use Rattle.part_window.specs.RepliesState.{RepliesState, with_reply}
@@ -113,11 +113,11 @@ kept_core : (core : CoreState) (which : Role) (frame : Frame) (content : Content
     → outcome.writes ≡ [] → frame.arrival.place ≡ place_of content
     → IsPlaced (length core.segment) (place_of content)
     → with_outcome (landed_core core content) which
-    (closed frame (keeping core.segment frame (start_at (landed_core core content)) outcome))
-    ≡ with_outcome core which (closed frame outcome)
+    (after_return frame (keeping core.segment frame (start_at (landed_core core content)) outcome))
+    ≡ with_outcome core which (after_return frame outcome)
 kept_core core which frame content outcome none place placed =
     let landed = landed_core core content in
-    let run = closed frame outcome in
+    let run = after_return frame outcome in
     let made : List ℕ → CoreState = λ (bytes : List ℕ). record (with_outcome core which run) { segment = bytes } in
     let kept : List Write → List Write = λ (writes : List Write).
     writes ++ kept_writes (length landed.segment) core.segment frame.arrival.place in
@@ -143,9 +143,9 @@ request_kept meaning core message new quiet placed ran =
     let none = quiet.writes content.handler frame (start_at core) in
     let kept_replies : RepliesState = with_reply core.replies message.from message.slot message.number
     (spelling (answer_message core contact (client_on meaning core message))) in
-    let run_is : closed frame (keeping core.segment frame (start_at landed) found)
+    let run_is : after_return frame (keeping core.segment frame (start_at landed) found)
     ≡ client_delivered (keeping_in core.segment meaning) core message =
-    ap (λ (one : Outcome). closed frame (keeping core.segment frame (start_at landed) one)) (sym blind) in
+    ap (λ (one : Outcome). after_return frame (keeping core.segment frame (start_at landed) one)) (sym blind) in
     subst (λ (run : Outcome). RunsBy run core message new) run_is (record {
       spelled = ran.spelled;
       kept = ran.kept ∙ ap (λ (one : CoreState). record one { replies = kept_replies })
@@ -166,7 +166,7 @@ reply_kept meaning core contact content quiet placed =
     let none = quiet.writes content.handler frame (start_at core) in
     sym (kept_core core role.Reply frame content found none refl placed)
     ∙ ap (λ (one : Outcome). with_outcome landed role.Reply
-    (closed frame (keeping core.segment frame (start_at landed) one))) (sym blind)
+    (after_return frame (keeping core.segment frame (start_at landed) one))) (sym blind)
 
 -- the same of both ways
 pub request_meant : (how : Landing) (meaning : Meaning) (core : CoreState) (message : Message) (new : CoreState)

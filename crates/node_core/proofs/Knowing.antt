@@ -12,13 +12,13 @@ use Rattle.node_core.specs.Known.{IsLastRun}
 use Rattle.node_core.proofs.CoreStands.{node_judged}
 
 -- the request was judged to come again
-abbrev pub is_again : Judged → Bool
-is_again New = false
-is_again Duplicate = true
-is_again Stale = false
+abbrev pub is_duplicate : Judged → Bool
+is_duplicate New = false
+is_duplicate Duplicate = true
+is_duplicate Stale = false
 
 judged_last : (number last : ℕ) (answer : Judged) → Judges (Kept last []) number answer
-    → is_again answer ≡ (number == last)
+    → is_duplicate answer ≡ (number == last)
 judged_last number last New judged = rw (ne_eqb number last (λ same. omega (arith, same, judged))) refl
 judged_last number last Duplicate judged = rw (eq-eqb number last judged) refl
 judged_last number last Stale judged = rw (ne_eqb number last (λ same. omega (arith, same, judged))) refl
@@ -26,7 +26,7 @@ judged_last number last Stale judged = rw (ne_eqb number last (λ same. omega (a
 -- a slot of another node, with the judgement of the number there
 pub last_judged : (core : CoreState) (from slot number : ℕ) (answer : Judged) → from < core.settings.nodes
     → from ≢ core.me → slot < credits_of core.settings from core.me → JudgesAt core.replies from slot number answer
-    → IsLastRun core from slot number (is_again answer)
+    → IsLastRun core from slot number (is_duplicate answer)
 last_judged core from slot number answer low other below judged node stands =
     let low_test : nat_lt from core.settings.nodes ≡ true = grind (arith, nat_tests) in
     let slot_test : nat_lt slot (credits_of core.settings from core.me) ≡ true = grind (arith, nat_tests) in
@@ -38,8 +38,8 @@ last_judged core from slot number answer low other below judged node stands =
 pub last_found : (core inside : CoreState) (from slot number : ℕ) (answer found : Judged) → inside ≡ core
     → found ≡ answer → from < inside.settings.nodes → from ≢ inside.me
     → slot < credits_of inside.settings from inside.me → JudgesAt inside.replies from slot number found
-    → IsLastRun core from slot number (is_again answer)
+    → IsLastRun core from slot number (is_duplicate answer)
 last_found core inside from slot number answer found same is low other below judged =
-    subst (λ (one : CoreState). IsLastRun one from slot number (is_again answer)) same
+    subst (λ (one : CoreState). IsLastRun one from slot number (is_duplicate answer)) same
     (last_judged inside from slot number answer low other below
     (subst (λ (one : Judged). JudgesAt inside.replies from slot number one) is judged))

@@ -18,7 +18,7 @@ use Rattle.part_handlers.specs.Registered.{entry_at, is_for_requests, is_for_rep
 use Rattle.part_handlers.specs.Runs.{is_reply_kind, passes_end, IsPlaced}
 use Rattle.spec_node.specs.declared.answer.Why.TheVariants as why
 use Rattle.spec_node.specs.Behaviour.{Asking, Category, Short, Medium, Long, PayloadFrom, Lent, Own}
-use Rattle.wire_message.specs.Notes.{argument}
+use Rattle.wire_message.specs.Notifications.{argument}
 use Rattle.node_core.specs.Library.{is_library, memset_handler, has_library, has_wrong_args, library_refusal}
 use Rattle.node_core.specs.Library.{library_writes, is_no_fill, is_beyond, fill_said, filling}
 use Rattle.node_core.specs.HandlerRuns.{landing, place_of}

@@ -8,9 +8,9 @@ use Rattle.wire_message.specs.Parameters.{Parameters, AreInRange}
 use Rattle.wire_message.specs.Content.{Content, code, is_ack, is_request, is_version}
 use Rattle.wire_message.specs.declared.kind.Kind.{Kind}
 use Rattle.wire_message.specs.declared.kind.Kind.TheVariants as kind
-use Rattle.wire_message.specs.declared.note.BarrierNote.{BarrierNote}
-use Rattle.wire_message.specs.Notes.{IsNote, most_nodes, note_arguments, argument}
-use Rattle.wire_message.proofs.Noted.{joined_again, mask_again, each_version}
+use Rattle.wire_message.specs.declared.notification.BarrierNotification.{BarrierNotification}
+use Rattle.wire_message.specs.Notifications.{IsNotification, most_nodes, notification_arguments, argument}
+use Rattle.wire_message.proofs.Notified.{joined_again, mask_again, each_version}
 use Rattle.part_handlers.specs.declared.table.Entry.{Entry}
 use Rattle.part_handlers.specs.Registered.{entry_at, is_for_requests, is_for_replies}
 use Rattle.part_handlers.specs.Runs.{passes_end}
@@ -19,8 +19,8 @@ use Rattle.spec_node.specs.declared.answer.Delivered.TheVariants as delivered
 use Rattle.spec_node.specs.declared.answer.Why.{Why}
 use Rattle.spec_node.specs.declared.answer.Why.TheVariants as why
 use Rattle.spec_node.specs.Step.{address_fault, first_why, reply_slot}
-use Rattle.node_core.specs.Library.{is_library, has_library, has_wrong_args, library_refusal, note_said, natural}
-use Rattle.node_core.specs.Library.{get_handler, memset_handler, note_handler, run_answer}
+use Rattle.node_core.specs.Library.{is_library, has_library, has_wrong_args, library_refusal, notification_said, natural}
+use Rattle.node_core.specs.Library.{get_handler, memset_handler, notification_handler, run_answer}
 use Rattle.node_core.specs.ClientRules.{content_refusal, client_refusal, is_handled, has_handler}
 use Rattle.node_core.specs.Library.{library_outcome, library_reply, library_writes, filling, fill_said}
 use Rattle.node_core.specs.CoreStep.{library_fault, client_delivered, delivered_outcome, landed_core, lock_at, start_at}
@@ -131,40 +131,40 @@ unhandled_refusal settings table content none =
 
 -- ---- notes
 
--- a job has no more nodes than a note of its version can name
+-- a job has no more nodes than a notification of its version can name
 pub nodes_few : (settings : Parameters) → AreInRange settings → settings.nodes ≤ most_nodes settings.version
 nodes_few settings range = elim (cases_Bool (settings.version == 1)) [
   | inl first ↦ rw first (range.nodes_at_first (eqb-true settings.version 1 first))
   | inr second ↦ rw second range.nodes
 ]
 
--- a note among the nodes is read as it was sent
-pub note_again : (version nodes : ℕ) (note : BarrierNote) → is_version version ≡ true → nodes ≤ most_nodes version
-    → IsNote nodes note → note_said version (note_arguments version note) ≡ note
-note_again version nodes note known few is =
-    let args = note_arguments version note in
-    let id : argument args (length args - 2) ≡ note.id = each_version
-    (λ v. argument (note_arguments v note) (length (note_arguments v note) - 2) ≡ note.id) version known refl refl in
-    let flags : natural (argument args (length args - 1)) ≡ note.flags = each_version
-    (λ v. natural (argument (note_arguments v note) (length (note_arguments v note) - 1)) ≡ note.flags) version known
+-- a notification among the nodes is read as it was sent
+pub notification_again : (version nodes : ℕ) (notification : BarrierNotification) → is_version version ≡ true → nodes ≤ most_nodes version
+    → IsNotification nodes notification → notification_said version (notification_arguments version notification) ≡ notification
+notification_again version nodes notification known few is =
+    let args = notification_arguments version notification in
+    let id : argument args (length args - 2) ≡ notification.id = each_version
+    (λ v. argument (notification_arguments v notification) (length (notification_arguments v notification) - 2) ≡ notification.id) version known refl refl in
+    let flags : natural (argument args (length args - 1)) ≡ notification.flags = each_version
+    (λ v. natural (argument (notification_arguments v notification) (length (notification_arguments v notification) - 1)) ≡ notification.flags) version known
     refl refl in
     λ i. record {
-      phase = joined_again note.phase is.phase i;
-      mask = mask_again version nodes note known few is.mask i;
+      phase = joined_again notification.phase is.phase i;
+      mask = mask_again version nodes notification known few is.mask i;
       id = id i;
       flags = flags i;
     }
 
--- the run of a note is told with it
-pub noted_answer : (settings : Parameters) (content : Content) (at : SlotRef) (note : BarrierNote)
-    → AreInRange settings → content.handler ≡ note_handler → IsNote settings.nodes note
-    → content.args ≡ note_arguments settings.version note
-    → delivered.Noted at note ≡ run_answer settings.version content at
-noted_answer settings content at note range handler is args =
-    let read : note_said settings.version content.args ≡ note = ap (note_said settings.version) args
-    ∙ note_again settings.version settings.nodes note range.version (nodes_few settings range) is in
-    sym (ap (λ (index : ℕ). if index == note_handler then delivered.Noted at (note_said settings.version content.args)
-    else delivered.Ran at) handler ∙ ap (delivered.Noted at) read)
+-- the run of a notification is told with it
+pub noted_answer : (settings : Parameters) (content : Content) (at : SlotRef) (notification : BarrierNotification)
+    → AreInRange settings → content.handler ≡ notification_handler → IsNotification settings.nodes notification
+    → content.args ≡ notification_arguments settings.version notification
+    → delivered.Notified at notification ≡ run_answer settings.version content at
+noted_answer settings content at notification range handler is args =
+    let read : notification_said settings.version content.args ≡ notification = ap (notification_said settings.version) args
+    ∙ notification_again settings.version settings.nodes notification range.version (nodes_few settings range) is in
+    sym (ap (λ (index : ℕ). if index == notification_handler then delivered.Notified at (notification_said settings.version content.args)
+    else delivered.Ran at) handler ∙ ap (delivered.Notified at) read)
 
 -- ---- runs
 
@@ -185,9 +185,9 @@ client_runs_new meaning core message new request free high ran = record {
   request = request;
   free = free;
   answer_is =
-      let other : (message.handler == note_handler) ≡ false = grind (arith, nat_tests) in
+      let other : (message.handler == notification_handler) ≡ false = grind (arith, nat_tests) in
       let at = reply_slot message.from message.slot in
-      sym (ap (λ (noted : Bool). if noted then delivered.Noted at (note_said core.settings.version message.args)
+      sym (ap (λ (noted : Bool). if noted then delivered.Notified at (notification_said core.settings.version message.args)
       else delivered.Ran at) other);
   ran =
       let client : is_library message.handler ≡ false = grind (arith, nat_tests) in
@@ -232,17 +232,17 @@ delivers_new : (meaning : Meaning) (core : CoreState) (message : Message) (answe
     → RunsNew meaning core message answer new → DeliversMessage meaning core message answer new
 delivers_new meaning core message answer new ran =
     subst (λ (one : Delivered). RunsNew meaning core message one new → DeliversMessage meaning core message one new)
-    (sym ran.answer_is) (by_note (message.handler == note_handler)) ran
+    (sym ran.answer_is) (by_notification (message.handler == notification_handler)) ran
   where
-    by_note : (noted : Bool)
+    by_notification : (noted : Bool)
         → RunsNew meaning core message (if noted
-        then delivered.Noted (reply_slot message.from message.slot) (note_said core.settings.version message.args)
+        then delivered.Notified (reply_slot message.from message.slot) (notification_said core.settings.version message.args)
         else delivered.Ran (reply_slot message.from message.slot)) new
         → DeliversMessage meaning core message (if noted
-        then delivered.Noted (reply_slot message.from message.slot) (note_said core.settings.version message.args)
+        then delivered.Notified (reply_slot message.from message.slot) (notification_said core.settings.version message.args)
         else delivered.Ran (reply_slot message.from message.slot)) new
-    by_note true ran = ran
-    by_note false ran = ran
+    by_notification true ran = ran
+    by_notification false ran = ran
 
 -- a request of the library that is new in its slot
 pub library_delivers : (meaning : Meaning) (core : CoreState) (message : Message) (answer : Delivered) (new : CoreState)

@@ -10,13 +10,13 @@ use Rattle.std.proofs.lemmas.List.{take-append-le, length-append, length-replica
 use Rattle.wire_message.specs.Parameters.{Parameters}
 use Rattle.wire_message.specs.Content.{Content, code, is_long, spelling}
 use Rattle.part_handlers.specs.declared.lock_answer.Held.{Held}
-use Rattle.part_handlers.specs.Locks.{blocked}
+use Rattle.part_handlers.specs.Locks.{blocking_lock}
 use Rattle.part_handlers.proofs.LockLaws.{unblocked_parts}
 use Rattle.part_handlers.specs.declared.table.Entry.{Entry}
 use Rattle.part_handlers.specs.declared.message.Reply.{Reply}
 use Rattle.part_handlers.specs.Registered.{entry_at, is_for_replies, serves_replies, locks_in_replies, reply_locks}
 use Rattle.part_handlers.specs.Runs.{Frame, IsLawful, IsGood, IsPlaced, reply_bytes, outgoing_reply}
-use Rattle.part_handlers.specs.Desks.{reply_from, reply_after, buffer_after}
+use Rattle.part_handlers.specs.Tokens.{reply_from, reply_after, buffer_after}
 use Rattle.node_core.specs.HandlerRuns.{entry_locks, frame_of_run, listed_for, place_of, shown_payload}
 use Rattle.node_core.specs.Landed.{content_at, asked_place, IsLanded}
 use Rattle.spec_node.specs.Behaviour.{Asking, Category, Short, Medium, Long, PayloadFrom, Lent, Own}
@@ -26,12 +26,12 @@ use Rattle.part_handlers.specs.declared.lock_answer.Owner.TheVariants as owner
 use Rattle.part_handlers.specs.Locks.{holds}
 use Rattle.part_handlers.specs.Runs.{Meaning}
 use Rattle.node_core.specs.declared.context.OwnReply.{OwnReply}
-use Rattle.node_core.specs.HandlerContextRuns.{HandlerContextRun, OwnFrame, Touched, Ran, LeavesTouched, RunsReply}
+use Rattle.node_core.specs.HandlerContextRuns.{HandlerContextRun, OwnFrame, HandlerState, Ran, LeavesTouched, RunsReply}
 use Rattle.node_core.specs.HandlerContextRuns.{RunsOwn, CanRunOwnReply}
 use Rattle.node_core.specs.HandlerContextRuns.{own_reply_run, landed_on, start_on}
 use Rattle.part_handlers.specs.declared.rules.Role.TheVariants as role
-use Rattle.part_handlers.specs.LogState.{Logged, notes}
-use Rattle.part_handlers.specs.Runs.{closed, violation}
+use Rattle.part_handlers.specs.LogState.{LogRecord, notes}
+use Rattle.part_handlers.specs.Runs.{after_return, violation}
 use Rattle.part_segment.specs.Image.{written_by}
 use Rattle.spec_node.specs.Step.{with_itself}
 use Rattle.part_handlers.specs.Runs.{IsLawfulMeaning}
@@ -45,27 +45,27 @@ use Rattle.node_core.specs.CoreStep.{handlers_at, landed_core, with_outcome, wit
 -- where no lock of any handler of replies is held by a thread, none of this one's is
 replies_free : (table : List (Option Entry)) (place : ℕ) (entry : Entry) (held : List Held)
     → slice_get table place ≡ Some (Some entry) → serves_replies entry.serves ≡ true
-    → blocked held (reply_locks table) ≡ None → blocked held entry.locks ≡ None
+    → blocking_lock held (reply_locks table) ≡ None → blocking_lock held entry.locks ≡ None
 replies_free [] place entry held there role free = absurd (cc)
 replies_free (one ∷ rest) zero entry held there role free =
     let first = (unblocked_parts held (locks_in_replies one) (reply_locks rest) free).0 in
     let same : one ≡ Some entry = same_Some one (Some entry) there in
     let locks : locks_in_replies one ≡ entry.locks = rw (same, role) refl in
-    subst (λ (listed : ℕ). blocked held listed ≡ None) locks first
+    subst (λ (listed : ℕ). blocking_lock held listed ≡ None) locks first
 replies_free (one ∷ rest) (suc place) entry held there role free =
     replies_free rest place entry held there role
     (unblocked_parts held (locks_in_replies one) (reply_locks rest) free).1
 
 -- the same, by the handler's index
 pub reply_free : (table : List (Option Entry)) (handler : ℕ) (held : List Held)
-    → is_for_replies (entry_at table handler) ≡ true → blocked held (reply_locks table) ≡ None
-    → blocked held (listed_for table handler) ≡ None
+    → is_for_replies (entry_at table handler) ≡ true → blocking_lock held (reply_locks table) ≡ None
+    → blocking_lock held (listed_for table handler) ≡ None
 reply_free table handler held registered free =
     by_test (nat_lt handler 128) (slice_get table (handler - 128)) refl registered
   where
     by_test : (low : Bool) (found : Option (Option Entry)) → slice_get table (handler - 128) ≡ found
         → is_for_replies (if low then None else option_and_then (λ e. e) found) ≡ true
-        → blocked held (entry_locks (if low then None else option_and_then (λ e. e) found)) ≡ None
+        → blocking_lock held (entry_locks (if low then None else option_and_then (λ e. e) found)) ≡ None
     by_test true found is registered = absurd (cc)
     by_test false None is registered = absurd (cc)
     by_test false (Some None) is registered = absurd (cc)
@@ -74,11 +74,11 @@ reply_free table handler held registered free =
 
 -- ---- the reply
 
--- a front of a list
-front : {X : Type 0} (xs ys : List X) → take (length xs) (xs ++ ys) ≡ xs
-front xs ys = take-append-le (length xs) xs ys (omega arith) ∙ take_all (length xs) xs (omega arith)
+-- a prefix of a list
+prefix : {X : Type 0} (xs ys : List X) → take (length xs) (xs ++ ys) ≡ xs
+prefix xs ys = take-append-le (length xs) xs ys (omega arith) ∙ take_all (length xs) xs (omega arith)
 
--- the reply of a request of the local node is this content, and its payload stands at the front of the buffer
+-- the reply of a request of the local node is this content, and its payload stands at the prefix of the buffer
 pub record IsOwnReply (frame : Frame) (content : Content) (buffer : List ℕ) (reply : Reply) : Type 0 where
   pub good : IsGood frame content
   pub content_is : content_at buffer reply ≡ content
@@ -122,9 +122,9 @@ own_reply_is frame (Some content) reply buffer new_buffer own good is written =
     let all = ap (λ (xs : List ℤ). length xs) args ∙ length-append content.args zeros in
     let zeros_are : length zeros ≡ 16 - length content.args = length-replicate (16 - length content.args) (pos 0) in
     let args_are : take reply.count reply.args ≡ content.args =
-    ap₂ (λ (n : ℕ) (xs : List ℤ). take n xs) count args ∙ front content.args zeros in
+    ap₂ (λ (n : ℕ) (xs : List ℤ). take n xs) count args ∙ prefix content.args zeros in
     let payload_is : take reply.len new_buffer ≡ content.payload =
-    ap₂ (λ (n : ℕ) (bs : List ℕ). take n bs) len at ∙ front content.payload (drop (length content.payload) buffer) in (
+    ap₂ (λ (n : ℕ) (bs : List ℕ). take n bs) len at ∙ prefix content.payload (drop (length content.payload) buffer) in (
       content,
       refl,
       record {
@@ -154,11 +154,11 @@ placed_inside segment content inside = elim (cases_Bool (is_long (code content.k
 ]
 
 -- the handler of the reply can run
-pub can_run_own : (run : HandlerContextRun) (middle : Touched) (reply : Reply) (buffer new_buffer : List ℕ) (own : OwnReply)
+pub can_run_own : (run : HandlerContextRun) (middle : HandlerState) (reply : Reply) (buffer new_buffer : List ℕ) (own : OwnReply)
     → run.frame.arrival.source ≡ run.frame.arrival.me → Ran run middle buffer new_buffer (Some reply)
     → own.reply ≡ reply → own.settings.now ≡ run.frame.settings → own.table.now ≡ run.frame.table
     → length run.before.segment ≡ run.frame.settings.segment → holds owner.Handler run.before.locks ≡ false
-    → blocked run.before.locks (reply_locks run.frame.table) ≡ None
+    → blocking_lock run.before.locks (reply_locks run.frame.table) ≡ None
     → CanRunOwnReply own middle.segment middle.locks new_buffer
 can_run_own run middle reply buffer new_buffer own to_itself ran reply_is settings_is table_is sized unheld free =
     let it = own_reply_is run.frame run.outcome.reply reply buffer new_buffer to_itself ran.lawful ran.reply_is
@@ -181,7 +181,7 @@ can_run_own run middle reply buffer new_buffer own to_itself ran reply_is settin
     })
 
 -- the reply ran
-pub replied_ran : (meaning : Meaning) (run : HandlerContextRun) (middle after : Touched) (reply : Reply)
+pub replied_ran : (meaning : Meaning) (run : HandlerContextRun) (middle after : HandlerState) (reply : Reply)
     (buffer new_buffer : List ℕ) → run.frame.arrival.source ≡ run.frame.arrival.me
     → Ran run middle buffer new_buffer (Some reply)
     → LeavesTouched (own_reply_run meaning (record {
@@ -209,7 +209,7 @@ replied_ran meaning run middle after reply buffer new_buffer to_itself ran left 
     }
 
 -- there was none
-pub unreplied_ran : (meaning : Meaning) (run : HandlerContextRun) (after : Touched) (sent : Option Reply)
+pub unreplied_ran : (meaning : Meaning) (run : HandlerContextRun) (after : HandlerState) (sent : Option Reply)
     (buffer new_buffer : List ℕ) → Ran run after buffer new_buffer sent
     → ((reply : Reply) → sent ≡ Some reply → ⊥) → RunsOwn meaning run after
 unreplied_ran meaning run after sent buffer new_buffer ran none = record {
@@ -226,7 +226,7 @@ unreplied_ran meaning run after sent buffer new_buffer ran none = record {
 -- ---- a request to the local node
 
 -- the core with what handlers write
-abbrev pub with_touched : CoreState → Touched → CoreState
+abbrev pub with_touched : CoreState → HandlerState → CoreState
 with_touched core found = record core {
   cells = found.cells;
   segment = found.segment;
@@ -234,25 +234,25 @@ with_touched core found = record core {
   log = found.log;
 }
 
-abbrev a_touched : List ℤ → List ℕ → List Held → Logged → Touched
+abbrev a_touched : List ℤ → List ℕ → List Held → LogRecord → HandlerState
 a_touched cells segment locks log = record { cells = cells; segment = segment; locks = locks; log = log }
 
 -- what a run leaves of what it found
-abbrev after_run : HandlerContextRun → Touched
+abbrev after_run : HandlerContextRun → HandlerState
 after_run run = a_touched run.outcome.cells (written_by run.before.segment run.outcome.writes) run.before.locks
     (notes run.before.log (map (violation run.frame.arrival.role) run.outcome.refused))
 
-left_is : (run : HandlerContextRun) (after : Touched) → LeavesTouched run after → after ≡ after_run run
+left_is : (run : HandlerContextRun) (after : HandlerState) → LeavesTouched run after → after ≡ after_run run
 left_is run after left =
     ap (λ (cells : List ℤ). a_touched cells after.segment after.locks after.log) left.cells_are
     ∙ (ap (λ (segment : List ℕ). a_touched run.outcome.cells segment after.locks after.log) left.segment_is
     ∙ (ap (λ (locks : List Held). a_touched run.outcome.cells
     (written_by run.before.segment run.outcome.writes) locks after.log) left.locks_are
-    ∙ ap (λ (log : Logged). a_touched run.outcome.cells
+    ∙ ap (λ (log : LogRecord). a_touched run.outcome.cells
     (written_by run.before.segment run.outcome.writes) run.before.locks log) left.log_is))
 
 -- what handlers find at a core
-abbrev touched_at : CoreState → Touched
+abbrev touched_at : CoreState → HandlerState
 touched_at core = a_touched core.cells core.segment core.locks core.log
 
 -- the run of an own request at a core where its payload landed
@@ -261,19 +261,19 @@ own_request_run meaning core content =
     let frame = frame_of_run (handlers_at meaning core) role.Request (with_itself core.me) content in
     record {
       frame = frame;
-      outcome = closed frame (meaning content.handler frame (start_on (touched_at (landed_core core content))));
+      outcome = after_return frame (meaning content.handler frame (start_on (touched_at (landed_core core content))));
       before = touched_at (landed_core core content);
     }
 
 -- the run of an own request, and of its reply, leave the core that they should
-pub own_run_is : (meaning : Meaning) (core : CoreState) (content : Content) (after : Touched)
+pub own_run_is : (meaning : Meaning) (core : CoreState) (content : Content) (after : HandlerState)
     → IsLawfulMeaning meaning → is_library content.handler ≡ false
     → RunsOwn meaning (own_request_run meaning core content) after
     → with_touched core after ≡ with_own_run meaning core content
 own_run_is meaning core content after lawful client ran =
     rw client (by_reply run.outcome.reply
     (lawful content.handler run.frame (start_on run.before)).reply
-    (subst (λ (middle : Touched). RunsReply meaning run run.outcome.reply middle after)
+    (subst (λ (middle : HandlerState). RunsReply meaning run run.outcome.reply middle after)
     (left_is run ran.middle ran.left) ran.replied))
   where
     run : HandlerContextRun
@@ -289,10 +289,10 @@ own_run_is meaning core content after lawful client ran =
 -- ---- what an own request finds
 
 -- the run of a handler in this frame, that found this
-abbrev a_run : Meaning → (handler : ℕ) → Frame → Touched → HandlerContextRun
+abbrev a_run : Meaning → (handler : ℕ) → Frame → HandlerState → HandlerContextRun
 a_run meaning handler frame before = record {
   frame = frame;
-  outcome = closed frame (meaning handler frame (start_on before));
+  outcome = after_return frame (meaning handler frame (start_on before));
   before = before;
 }
 

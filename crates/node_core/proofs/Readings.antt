@@ -4,7 +4,7 @@ use Rattle.std.proofs.Common.{[], ◌∷◌, length, Option, None, Some, refl, s
 use Rattle.std.proofs.Common.{ne_eqb, lt-ltb}
 use Rattle.std.specs.Prelude.{nat_le, nat_lt, option_and_then, count_by, if◌then◌else◌}
 use Rattle.std.specs.Option.{option_map}
-use Rattle.part_window.specs.SlotsState.{message_number as request_number, sealed_number_at as request_number_at}
+use Rattle.part_window.specs.SlotsState.{message_number as request_number, committed_number_at as request_number_at}
 use Rattle.part_window.specs.RepliesState.{message_number as reply_number, kept_number_at as reply_number_at}
 use Rattle.std.specs.List.{list_any, slice_get, AllByRecursion, IsDistinct}
 use Rattle.std.proofs.lemmas.Bool.{cases_Bool, cases_eq}
@@ -14,19 +14,19 @@ use Rattle.wire_message.specs.Parameters.{Parameters, credits_of}
 use Rattle.spec_node.specs.Credits.{limits_of}
 use Rattle.spec_node.specs.Step.{request_slot, reply_slot}
 use Rattle.part_window.specs.SlotsState.{SlotState, PeerState, is_vacant, vacant_count, is_exhausted}
-use Rattle.part_window.specs.SlotsState.{sealed_message_at as request_bytes_at, message_of as request_of}
+use Rattle.part_window.specs.SlotsState.{committed_message_at as request_bytes_at, message_of as request_of}
 use Rattle.part_window.specs.RepliesState.{kept_message_at as reply_bytes_at, message_of as reply_of}
 use Rattle.spec_node.specs.declared.answer.SlotRef.{SlotRef}
 use Rattle.spec_node.specs.declared.answer.Side.{Side}
 use Rattle.spec_node.specs.declared.answer.Side.TheVariants as side
 use Rattle.spec_node.specs.Record.{Request, Run, Node}
-use Rattle.spec_node.specs.Requests.{taken, unreturned, open_in}
+use Rattle.spec_node.specs.Requests.{taken_slots, outstanding, open_in}
 use Rattle.spec_node.specs.Executed.{last_run}
 use Rattle.node_core.specs.Kept.{Local}
 use Rattle.spec_node.specs.Invariant.{IsOrderly}
 use Rattle.node_core.specs.CoreState.{CoreState}
 use Rattle.node_core.specs.Stands.{CoreStands, StandsForAsked, slot_state, reply_state}
-use Rattle.spec_node.specs.SlotMessages.{slots_of, sealed_message, message_at, sealed_number, number_in_slot}
+use Rattle.spec_node.specs.SlotMessages.{slots_of, committed_message, message_at, committed_number, number_in_slot}
 use Rattle.spec_node.proofs.Lists.{taken_from, slice_get_in}
 use Rattle.spec_node.proofs.Keeping.{taken_apart}
 use Rattle.node_core.proofs.Claiming.{vacant_taken}
@@ -37,21 +37,21 @@ use Rattle.node_core.proofs.CoreStands.{request_found, reply_found}
 -- the message of a request's slot, by what is open in it
 request_state : (e : CoreState) (peer : ℕ) (o : Option (ℕ × Request)) (r : Node Local) (slot : ℕ)
     → open_in slot (r.asked peer) ≡ o
-    → request_of (slot_state e.settings e.me peer o) ≡ sealed_message e.settings e.me r (request_slot peer slot)
+    → request_of (slot_state e.settings e.me peer o) ≡ committed_message e.settings e.me r (request_slot peer slot)
 request_state e peer None r slot is = rw is refl
 request_state e peer (Some o) r slot is = rw is refl
 
 -- the message of a reply's slot, by its last run
 reply_state_of : (e : CoreState) (peer : ℕ) (o : Option Run) (r : Node Local) (slot : ℕ)
     → last_run slot (r.ran peer) ≡ o
-    → reply_of (reply_state e.settings e.me peer o) ≡ sealed_message e.settings e.me r (reply_slot peer slot)
+    → reply_of (reply_state e.settings e.me peer o) ≡ committed_message e.settings e.me r (reply_slot peer slot)
 reply_state_of e peer None r slot is = rw is refl
 reply_state_of e peer (Some o) r slot is = rw is refl
 
 -- the message of a request's slot
 pub request_bytes : (e : CoreState) (r : Node Local) (peer slot : ℕ) → CoreStands e r → peer < e.settings.nodes
     → peer ≢ e.me → slot < credits_of e.settings e.me peer
-    → request_bytes_at e.requests peer slot ≡ sealed_message e.settings e.me r (request_slot peer slot)
+    → request_bytes_at e.requests peer slot ≡ committed_message e.settings e.me r (request_slot peer slot)
 request_bytes e r peer slot S low other below =
     ap (option_and_then request_of) (request_found peer slot e r S low other below)
     ∙ request_state e peer (open_in slot (r.asked peer)) r slot refl
@@ -60,7 +60,7 @@ request_bytes e r peer slot S low other below =
 pub reply_bytes : (e : CoreState) (r : Node Local) (peer slot : ℕ) → CoreStands e r → peer < e.settings.nodes
     → peer ≢ e.me
     → slot < credits_of e.settings peer e.me
-    → reply_bytes_at e.replies peer slot ≡ sealed_message e.settings e.me r (reply_slot peer slot)
+    → reply_bytes_at e.replies peer slot ≡ committed_message e.settings e.me r (reply_slot peer slot)
 reply_bytes e r peer slot S low other below =
     ap (option_and_then reply_of) (reply_found peer slot e r S low other below)
     ∙ reply_state_of e peer (last_run slot (r.ran peer)) r slot refl
@@ -77,7 +77,7 @@ side_bytes e side.Reply peer slot = reply_bytes_at e.replies peer slot
 -- the bytes at a slot of another node are the record's message
 side_is : (e : CoreState) (r : Node Local) (which : Side) (peer slot : ℕ) → CoreStands e r → peer < e.settings.nodes
     → peer ≢ e.me → slot < slots_of e.settings e.me which peer
-    → side_bytes e which peer slot ≡ sealed_message e.settings e.me r (slot_on which peer slot)
+    → side_bytes e which peer slot ≡ committed_message e.settings e.me r (slot_on which peer slot)
 side_is e r side.Request peer slot S low other below = request_bytes e r peer slot S low other below
 side_is e r side.Reply peer slot S low other below = reply_bytes e r peer slot S low other below
 
@@ -174,26 +174,26 @@ counted test f (x ∷ xs) from h =
 
 -- as many slots of a peer are vacant as credits aren't out
 peer_vacant : (s : Parameters) (me peer : ℕ) (p : PeerState) (xs : List Request) → StandsForAsked s me peer p xs
-    → IsOrderly (limits_of s me peer) xs → count_by is_vacant p.slots ≡ credits_of s me peer - unreturned xs
+    → IsOrderly (limits_of s me peer) xs → count_by is_vacant p.slots ≡ credits_of s me peer - outstanding xs
 peer_vacant s me peer p xs S O =
     let inside : (k : ℕ) (x : SlotState) → slice_get p.slots k ≡ Some x
     → k < credits_of s me peer = λ k x e. subst (λ n. k < n) S.count (slice_get_in p.slots k x e) in
-    let all = counted is_vacant (λ k. list_any (eqb k) (taken xs)) p.slots 0
+    let all = counted is_vacant (λ k. list_any (eqb k) (taken_slots xs)) p.slots 0
     (λ k x e. let it = vacant_taken s me peer p xs k S (inside k x e) in
     ap is_vacant (same_Some x it.0 (sym e ∙ it.1))
-    ∙ (it.2 ∙ ap (λ n. not (list_any (eqb n) (taken xs))) (omega arith))) in
-    let some = hits_all (credits_of s me peer) (taken xs) (taken_apart xs O.apart)
+    ∙ (it.2 ∙ ap (λ n. not (list_any (eqb n) (taken_slots xs))) (omega arith))) in
+    let some = hits_all (credits_of s me peer) (taken_slots xs) (taken_apart xs O.apart)
     (λ q h. let it = taken_from xs q h in subst (λ n. n < credits_of s me peer) it.4 (O.low (suc it.0) it.1 it.2))
     in
     let passed = passing_count is_vacant p.slots in
-    let both : passing is_vacant p.slots + unreturned xs ≡ credits_of s me peer = ap
-    (λ n. passing is_vacant p.slots + n) (sym some ∙ ap (hits (λ k. list_any (eqb k) (taken xs)) 0) (sym S.count))
+    let both : passing is_vacant p.slots + outstanding xs ≡ credits_of s me peer = ap
+    (λ n. passing is_vacant p.slots + n) (sym some ∙ ap (hits (λ k. list_any (eqb k) (taken_slots xs)) 0) (sym S.count))
     ∙ (all ∙ S.count) in
     omega (arith, both, passed)
 
 -- the credits that are left
 pub free_is : (e : CoreState) (r : Node Local) (to : ℕ) → CoreStands e r → to < e.settings.nodes → to ≢ e.me
-    → vacant_count e.requests to ≡ credits_of e.settings e.me to - unreturned (r.asked to)
+    → vacant_count e.requests to ≡ credits_of e.settings e.me to - outstanding (r.asked to)
 free_is e r to S low other =
     let p = S.requests to low other in
     ap (λ (o : Option PeerState). elim o as (λ _. ℕ) [ Some q ↦ count_by is_vacant q.slots | None ↦ 0 ]) p.1
@@ -247,7 +247,7 @@ side_number e side.Reply peer slot = reply_number_at e.replies peer slot
 -- the number at a slot of another node is that of the record's message
 number_is : (e : CoreState) (r : Node Local) (which : Side) (peer slot : ℕ) → CoreStands e r → peer < e.settings.nodes
     → peer ≢ e.me → slot < slots_of e.settings e.me which peer
-    → side_number e which peer slot ≡ sealed_number r (slot_on which peer slot)
+    → side_number e which peer slot ≡ committed_number r (slot_on which peer slot)
 number_is e r side.Request peer slot S low other below =
     ap (option_and_then request_number) (request_found peer slot e r S low other below)
     ∙ request_number_of e.settings e.me peer (open_in slot (r.asked peer))

@@ -7,7 +7,7 @@ use Rattle.wire_message.specs.Parameters.{Parameters, AreInRange, credits_of}
 use Rattle.spec_node.specs.declared.answer.Side.TheVariants as side
 use Rattle.part_window.specs.SlotsState.{SlotsState, SlotState, PeerState, Vacant, IsNew, new_peer}
 use Rattle.part_window.specs.SlotsState.{with_slot as with_request_slot}
-use Rattle.part_window.specs.SlotsState.{Sealed, CanClaim, slot_count, with_request}
+use Rattle.part_window.specs.SlotsState.{Committed, CanClaim, slot_count, with_request}
 use Rattle.part_window.specs.declared.credits.NoClaim.{NoClaim}
 use Rattle.std.specs.Prelude.{Result, Ok, Err, IfOk, OnErr, IfSome, slice_get}
 use Rattle.std.proofs.Common.{◌≡◌, ◌≢◌}
@@ -86,7 +86,7 @@ pub sized_asked : (s : Parameters) (me : ℕ) (asked new : SlotsState) (kept : R
     → IfOk result (λ r. new ≡ with_request asked to (record { slot = r.0; number = r.1; time = now }) (message r))
     → OnErr result (new ≡ asked) → IsSized s me asked kept → IsSized s me new kept
 sized_asked s me asked new kept to now (Ok r) message is refused sized =
-    let state : SlotState = Sealed r.1 now (message r) in
+    let state : SlotState = Committed r.1 now (message r) in
     rw is (record {
       range = sized.range;
       requesters = requests.nodes-given asked to r.0 r.1 state ∙ sized.requesters;

@@ -41,7 +41,7 @@ filled_more settings me which node count counts F low is = record {
   ];
 }
 
--- a place of a front
+-- a place of a prefix
 take_get : (xs : List ℕ) (n k : ℕ) → k < n → slice_get (take n xs) k ≡ slice_get xs k
 take_get xs zero k low = absurd (omega (arith, low))
 take_get [] (suc n) k low = refl

@@ -11,7 +11,7 @@ use Rattle.wire_message.specs.Parameters.{credits_of}
 use Rattle.part_window.specs.SlotsState.{PeerState, slot_at, with_slot_changed}
 use Rattle.part_window.specs.Due.{IsDue as SlotsDue, IsNextDue as SlotsNextDue}
 use Rattle.node_core.specs.Known.{IsDue, IsNextDue}
-use Rattle.part_window.specs.Due.{due_at, due_time, sent_again, IsFirstDue, NoneIsDue}
+use Rattle.part_window.specs.Due.{due_at, due_time, as_retransmitted, IsFirstDue, NoneIsDue}
 use Rattle.spec_node.specs.declared.answer.SlotRef.{SlotRef}
 use Rattle.spec_node.specs.Record.{Request, Node}
 use Rattle.spec_node.specs.Requests.{open_in, Due, dues, all_dues}
@@ -177,14 +177,14 @@ next_is e r now peer slot S F D =
 -- ---- a tick
 
 -- a tick at which nothing new is sent
-record Resent (old : CoreState) (now : ℕ) (a : Option SlotRef) (new : CoreState) : Type 0 where
+record Retransmitted (old : CoreState) (now : ℕ) (a : Option SlotRef) (new : CoreState) : Type 0 where
   same : IsSameNode old new
   steps : (r : Node Local) → CoreStands old r
       → (a ≡ due_slot (next_due old.settings r now)) × CoreStands new (after_resend r now (next_due old.settings r now))
 
 -- a tick at which nothing is due
 tick_none : (e : CoreState) (now : ℕ) (new : CoreState) → NoneIsDue e.requests now e.settings.resend → new ≡ e
-    → Resent e now None new
+    → Retransmitted e now None new
 tick_none e now new none is = record {
   same = rw is (record { settings = refl; me_is = refl; table = refl; segment_length = refl });
   steps = λ r S. let next = next_none e r now S none in (sym (ap due_slot next), rw (next, is) S);
@@ -193,8 +193,8 @@ tick_none e now new none is = record {
 -- a tick at which a slot is due
 tick_some : (e : CoreState) (now peer slot : ℕ) (new : CoreState)
     → IsFirstDue e.requests now e.settings.resend peer slot
-    → new ≡ record e { requests = with_slot_changed e.requests peer slot (sent_again now) }
-    → Resent e now (Some (request_slot peer slot)) new
+    → new ≡ record e { requests = with_slot_changed e.requests peer slot (as_retransmitted now) }
+    → Retransmitted e now (Some (request_slot peer slot)) new
 tick_some e now peer slot new F is = record {
   same = rw is (record { settings = refl; me_is = refl; table = refl; segment_length = refl });
   steps = λ r S.
@@ -207,13 +207,13 @@ tick_some e now peer slot new F is = record {
 }
 
 -- the slot that a resending tells
-abbrev pub resent_slot : Option (ℕ × ℕ) → Option SlotRef
-resent_slot None = None
-resent_slot (Some at) = Some (request_slot at.0 at.1)
+abbrev pub retransmitted_slot : Option (ℕ × ℕ) → Option SlotRef
+retransmitted_slot None = None
+retransmitted_slot (Some at) = Some (request_slot at.0 at.1)
 
 -- what the code sends again is what the record has to send again
 resends_step : (e : CoreState) (now : ℕ) (at : Option (ℕ × ℕ)) (new : CoreState) → Retransmits e now at new
-    → Resent e now (resent_slot at) new
+    → Retransmitted e now (retransmitted_slot at) new
 resends_step e now None new h = tick_none e now new h.0 h.1
 resends_step e now (Some at) new h = tick_some e now at.0 at.1 new h.0 h.1
 
@@ -236,7 +236,7 @@ tick_is meaning e r now (Some due) new is stands =
 -- a tick is the record's step
 pub ticks_step : (meaning : Meaning) (e : CoreState) (now : ℕ) (at : Option (ℕ × ℕ)) (new : CoreState)
     → Retransmits e now at new
-    → CoreSteps meaning e (record { now = now; event = Ticks; answer = OfTick (retransmits (resent_slot at)) }) new
+    → CoreSteps meaning e (record { now = now; event = Ticks; answer = OfTick (retransmits (retransmitted_slot at)) }) new
 ticks_step meaning e now at new h =
     let it = resends_step e now at new h in
     record {

@@ -9,7 +9,7 @@ use Rattle.node_core.specs.declared.asking.Category.{Category as CodeCategory}
 use Rattle.node_core.specs.declared.asking.Category.TheVariants as categories
 use Rattle.node_core.specs.declared.library.LibraryRequest.{LibraryRequest}
 use Rattle.node_core.specs.declared.library.LibraryRequest.TheVariants as library
-use Rattle.node_core.specs.Library.{Work, Put, Get, Memset, Note}
+use Rattle.node_core.specs.Library.{Work, Put, Get, Memset, Notification}
 use Rattle.node_core.specs.ClientRules.{asks_of, content_by, said_in}
 
 -- the category
@@ -50,4 +50,4 @@ abbrev pub work_of : LibraryRequest → Work
 work_of (library.Put local remote len) = Put local remote len
 work_of (library.Get local remote len) = Get local remote len
 work_of (library.Memset remote len byte) = Memset remote len byte
-work_of (library.Note note) = Note note
+work_of (library.Notification notification) = Notification notification

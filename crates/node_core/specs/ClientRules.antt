@@ -10,7 +10,7 @@ use Rattle.wire_message.specs.Content.{short_request, medium_request, long_reque
 use Rattle.part_segment.specs.Bytes.{part}
 use Rattle.part_handlers.specs.declared.lock_answer.Held.{Held}
 use Rattle.part_handlers.specs.declared.lock_answer.Owner.TheVariants as owner
-use Rattle.part_handlers.specs.Locks.{blocked, holds}
+use Rattle.part_handlers.specs.Locks.{blocking_lock, holds}
 use Rattle.part_handlers.specs.declared.table.Entry.{Entry}
 use Rattle.part_handlers.specs.declared.rules.Context.TheVariants.{Thread}
 use Rattle.part_handlers.specs.declared.rules.Fault.{Fault}
@@ -151,12 +151,12 @@ pub record IsFine (segment : ℕ) (asking : Asking) : Type 0 where
 
 -- the smallest lock that a thread holds among those that the handler of this index may take, or that of any reply
 abbrev pub busy_lock : (table : List (Option Entry)) → (handler : ℕ) → List Held → Option ℕ
-busy_lock table handler held = blocked held (bit_or (listed_for table handler) (reply_locks table))
+busy_lock table handler held = blocking_lock held (bit_or (listed_for table handler) (reply_locks table))
 
 -- the smallest lock that a thread holds among those that the message's handler may take; an Ack has no handler
 abbrev pub awaited_lock : (table : List (Option Entry)) → Content → List Held → Option ℕ
 awaited_lock table content held =
-    if is_ack (code content.kind) then None else blocked held (listed_for table content.handler)
+    if is_ack (code content.kind) then None else blocking_lock held (listed_for table content.handler)
 
 -- ---- the behaviour
 

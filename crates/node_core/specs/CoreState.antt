@@ -5,7 +5,7 @@ use Rattle.part_window.specs.SlotsState.{SlotsState}
 use Rattle.part_window.specs.RepliesState.{RepliesState}
 use Rattle.part_handlers.specs.declared.table.Entry.{Entry}
 use Rattle.part_handlers.specs.declared.lock_answer.Held.{Held}
-use Rattle.part_handlers.specs.LogState.{Logged}
+use Rattle.part_handlers.specs.LogState.{LogRecord}
 
 pub record CoreState : Type 0 where
   pub settings : Parameters
@@ -16,4 +16,4 @@ pub record CoreState : Type 0 where
   pub segment : List ℕ
   pub locks : List Held
   pub cells : List ℤ
-  pub log : Logged
+  pub log : LogRecord

@@ -6,10 +6,10 @@ use Rattle.std.specs.Prelude.{if◌then◌else◌, Result, Ok, Err}
 use Rattle.wire_message.specs.Parameters.{Parameters, credits_of}
 use Rattle.wire_message.specs.Message.{Message, IsMessage, spelling, code, is_ack}
 use Rattle.wire_message.specs.declared.content.Address.{Address}
-use Rattle.wire_message.specs.Content.{Content, addressed, content_of}
+use Rattle.wire_message.specs.Content.{Content, message_at_address, content_of}
 use Rattle.part_window.specs.SlotsState.{CanClaim, Refuses, IsNew, IsTakenAt, Vacant, with_request, with_slot}
 use Rattle.part_window.specs.SlotsState.{with_slot_changed}
-use Rattle.part_window.specs.Due.{IsDueNext, sent_again}
+use Rattle.part_window.specs.Due.{IsDueNext, as_retransmitted}
 use Rattle.part_window.specs.declared.credits.NoClaim.TheVariants as claims
 use Rattle.part_window.specs.RepliesState.{JudgesAt, with_reply}
 use Rattle.part_window.specs.declared.replies.Judged.TheVariants.{New, Duplicate, Stale}
@@ -104,7 +104,8 @@ reply_outcome meaning core contact content =
 -- the reply of a request of another node, with an Ack for none, on its way
 abbrev pub answer_message : CoreState → Contact → Outcome → Message
 answer_message core contact run =
-    addressed (address_in core.settings contact.me contact.peer contact.slot contact.number) (reply_or_ack run.reply)
+    message_at_address (address_in core.settings contact.me contact.peer contact.slot contact.number)
+    (reply_or_ack run.reply)
 
 -- the core after a reply landed and ran
 abbrev pub with_reply_ran : Meaning → CoreState → Contact → Content → CoreState
@@ -145,7 +146,8 @@ pub record ContentFor : Type 0 where
 -- the request that is claimed for a node, in this slot and with this number
 abbrev pub claimed_message : CoreState → Transition ContentFor Claim → Message
 claimed_message core step =
-    addressed (address_in core.settings core.me step.event.to step.answer.slot step.answer.number) step.event.content
+    message_at_address
+    (address_in core.settings core.me step.event.to step.answer.slot step.answer.number) step.event.content
 
 -- the lowest free slot and the next number are taken, and the message is kept there
 pub record Accepts (core : CoreState) (step : Transition ContentFor Claim) (new : CoreState) : Type 0 where
@@ -261,7 +263,7 @@ Runs meaning core message new = RunsBy (delivered_outcome meaning core message) 
 -- the message of this reply to a request of another node
 abbrev pub reply_to : CoreState → Message → (reply : Content) → Message
 reply_to core message reply =
-    addressed (address_in core.settings core.me message.from message.slot message.number) reply
+    message_at_address (address_in core.settings core.me message.from message.slot message.number) reply
 
 -- this reply to a request that is new in its slot is kept there, and nothing else changed
 pub record KeepsAnswer (core : CoreState) (message : Message) (reply : Content) (new : CoreState) : Type 0 where
@@ -300,8 +302,8 @@ pub record RunsNew (meaning : Meaning) (core : CoreState) (message : Message) (a
 -- what a message that is delivered is answered, and what it leaves
 abbrev pub DeliversMessage : Meaning → CoreState → Message → Delivered → CoreState → Type 0
 DeliversMessage meaning core message (delivered.Ran at) new = RunsNew meaning core message (delivered.Ran at) new
-DeliversMessage meaning core message (delivered.Noted at note) new =
-    RunsNew meaning core message (delivered.Noted at note) new
+DeliversMessage meaning core message (delivered.Notified at notification) new =
+    RunsNew meaning core message (delivered.Notified at notification) new
 DeliversMessage meaning core message (delivered.Duplicate at) new =
     IsOurRequest core message × (at ≡ reply_slot message.from message.slot)
     × JudgesAt core.replies message.from message.slot message.number Duplicate × (new ≡ core)
@@ -325,7 +327,7 @@ abbrev pub Retransmits : CoreState → (now : ℕ) → Option (ℕ × ℕ) → C
 Retransmits core now None new = IsDueNext core.requests now core.settings.resend None × (new ≡ core)
 Retransmits core now (Some at) new =
     IsDueNext core.requests now core.settings.resend (Some at) ×
-    (new ≡ record core { requests = with_slot_changed core.requests at.0 at.1 (sent_again now) })
+    (new ≡ record core { requests = with_slot_changed core.requests at.0 at.1 (as_retransmitted now) })
 
 -- ---- a request of a thread
 

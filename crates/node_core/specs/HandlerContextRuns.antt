@@ -5,11 +5,11 @@ use Rattle.part_window.specs.RepliesState.{RepliesState, with_reply}
 use Rattle.part_segment.specs.Image.{written_by}
 use Rattle.part_handlers.specs.declared.lock_answer.Held.{Held}
 use Rattle.part_handlers.specs.declared.message.Reply.{Reply}
-use Rattle.part_handlers.specs.LogState.{Logged, notes}
+use Rattle.part_handlers.specs.LogState.{LogRecord, notes}
 use Rattle.part_handlers.specs.declared.rules.Role.TheVariants as role
-use Rattle.part_handlers.specs.Runs.{Arrival, Frame, Start, Outcome, Meaning, IsLawful, closed, violation}
+use Rattle.part_handlers.specs.Runs.{Arrival, Frame, Start, Outcome, Meaning, IsLawful, after_return, violation}
 use Rattle.part_handlers.specs.Runs.{outgoing_reply, IsReady, IsPlaced, AreFree, IsSpelled}
-use Rattle.part_handlers.specs.Desks.{arrival_of, buffer_after, reply_after}
+use Rattle.part_handlers.specs.Tokens.{arrival_of, buffer_after, reply_after}
 use Rattle.node_core.specs.declared.context.Work.{Work}
 use Rattle.node_core.specs.declared.context.HandlerContext.{HandlerContext}
 use Rattle.node_core.specs.declared.context.OwnReply.{OwnReply}
@@ -27,21 +27,21 @@ pub record OwnFrame : Type 0 where
   pub me : ℕ
 
 -- what the runs of handlers write
-pub record Touched : Type 0 where
+pub record HandlerState : Type 0 where
   pub cells : List ℤ
   pub segment : List ℕ
   pub locks : List Held
-  pub log : Logged
+  pub log : LogRecord
 
 -- the run of a handler: what stays the same meanwhile, what it gives, and what it found
 pub record HandlerContextRun : Type 0 where
   pub frame : Frame
   pub outcome : Outcome
-  pub before : Touched
+  pub before : HandlerState
 
 -- what a context has of it
-abbrev pub touched : HandlerContext → Touched
-touched context = record {
+abbrev pub handler_state : HandlerContext → HandlerState
+handler_state context = record {
   cells = context.cells.now;
   segment = context.segment.now;
   locks = context.locks.now;
@@ -59,7 +59,7 @@ pub record IsSameHandlerContext (old new : HandlerContext) : Type 0 where
   pub listed_same : new.listed ≡ old.listed
 
 -- what a handler finds
-abbrev pub start_on : Touched → Start
+abbrev pub start_on : HandlerState → Start
 start_on found = record { cells = found.cells; segment = found.segment; locks = found.locks }
 
 -- what stays the same on a context while a handler runs for a message
@@ -94,12 +94,12 @@ context_run meaning handler context arrival =
     let frame = frame_on context arrival in
     record {
       frame = frame;
-      outcome = closed frame (meaning handler frame (start_on (touched context)));
-      before = touched context;
+      outcome = after_return frame (meaning handler frame (start_on (handler_state context)));
+      before = handler_state context;
     }
 
 -- the run of the handler that is worked on, where it finds this
-abbrev pub run_of : Meaning → Work → Touched → HandlerContextRun
+abbrev pub run_of : Meaning → Work → HandlerState → HandlerContextRun
 run_of meaning work before =
     let frame : Frame = record {
       settings = work.settings.now;
@@ -107,10 +107,15 @@ run_of meaning work before =
       listed = work.listed;
       arrival = arrival_of work.message;
     } in
-    record { frame = frame; outcome = closed frame (meaning work.handler frame (start_on before)); before = before }
+    record {
+      frame = frame;
+      outcome = after_return frame (meaning work.handler frame (start_on before));
+      before =
+          before;
+    }
 
 -- what the run of a handler left of that: what it wrote, the locks that were held, and the violations that were noted
-pub record LeavesTouched (run : HandlerContextRun) (after : Touched) : Type 0 where
+pub record LeavesTouched (run : HandlerContextRun) (after : HandlerState) : Type 0 where
   pub cells_are : after.cells ≡ run.outcome.cells
   pub segment_is : after.segment ≡ written_by run.before.segment run.outcome.writes
   pub same_length : length after.segment ≡ length run.before.segment
@@ -122,16 +127,16 @@ abbrev pub own_frame : OwnReply → OwnFrame
 own_frame own = record { settings = own.settings.now; table = own.table.now; me = own.me }
 
 -- the run of a reply of the local node, after its payload landed
-abbrev pub own_reply_run : Meaning → OwnFrame → Content → Touched → HandlerContextRun
+abbrev pub own_reply_run : Meaning → OwnFrame → Content → HandlerState → HandlerContextRun
 own_reply_run meaning own content before =
     let frame = frame_of_run (handlers_of own.settings own.table meaning) role.Reply (with_itself own.me) content in
     record {
       frame = frame;
-      outcome = closed frame (meaning content.handler frame (start_on before));
+      outcome = after_return frame (meaning content.handler frame (start_on before));
       before = before;
     }
 
--- what is asked of the reply of an own request, whose payload stands at the front of a buffer
+-- what is asked of the reply of an own request, whose payload stands at the prefix of a buffer
 pub record CanRunOwnReply (own : OwnReply) (segment : List ℕ) (locks : List Held) (buffer : List ℕ) : Type 0 where
   pub few : own.reply.count ≤ 16
   pub args : length own.reply.args ≡ 16
@@ -141,11 +146,11 @@ pub record CanRunOwnReply (own : OwnReply) (segment : List ℕ) (locks : List He
   pub free : AreFree (listed_for own.table.now own.reply.handler) locks
 
 -- the segment after a payload landed
-abbrev pub landed_on : Touched → Content → Touched
+abbrev pub landed_on : HandlerState → Content → HandlerState
 landed_on found content = record found { segment = written_by found.segment (landing content) }
 
 -- the reply of an own request, if there is one, landed and ran
-abbrev pub RunsReply : Meaning → HandlerContextRun → Option Content → (middle after : Touched) → Type 0
+abbrev pub RunsReply : Meaning → HandlerContextRun → Option Content → (middle after : HandlerState) → Type 0
 RunsReply meaning run None middle after = after ≡ middle
 RunsReply meaning run (Some content) middle after =
     let own : OwnFrame = record {
@@ -156,13 +161,14 @@ RunsReply meaning run (Some content) middle after =
     LeavesTouched (own_reply_run meaning own content (landed_on middle content)) after
 
 -- the run of an own request left this, and then that of its reply
-pub record RunsOwn (meaning : Meaning) (run : HandlerContextRun) (after : Touched) : Type 0 where
-  pub middle : Touched
+pub record RunsOwn (meaning : Meaning) (run : HandlerContextRun) (after : HandlerState) : Type 0 where
+  pub middle : HandlerState
   pub left : LeavesTouched run middle
   pub replied : RunsReply meaning run run.outcome.reply middle after
 
 -- the run left this, and the reply that it sent, with its bytes in the buffer
-pub record Ran (run : HandlerContextRun) (after : Touched) (buffer new_buffer : List ℕ) (reply : Option Reply) : Type 0 where
+pub record Ran (run : HandlerContextRun) (after : HandlerState) (buffer new_buffer : List ℕ) (reply : Option Reply)
+    : Type 0 where
   pub left : LeavesTouched run after
   pub buffer_is : new_buffer ≡ buffer_after run.frame.settings run.frame.arrival run.outcome.reply buffer
   pub reply_is : reply ≡ reply_after run.frame.settings run.frame.arrival run.outcome.reply
@@ -173,15 +179,17 @@ pub record Ran (run : HandlerContextRun) (after : Touched) (buffer new_buffer : 
 abbrev pub reply_of_run : HandlerContextRun → Message
 reply_of_run run = outgoing_reply run.frame.settings run.frame.arrival (reply_or_ack run.outcome.reply)
 
--- the run of another node's request left this, and the datagram of its reply, or of an Ack, at the front of the buffer
-pub record LeavesReply (run : HandlerContextRun) (after : Touched) (buffer new_buffer : List ℕ) (len : ℕ) : Type 0 where
+-- the run of another node's request left this, and the datagram of its reply, or of an Ack, at the prefix of the buffer
+pub record LeavesReply (run : HandlerContextRun) (after : HandlerState) (buffer new_buffer : List ℕ) (len : ℕ)
+    : Type 0 where
   pub left : LeavesTouched run after
   pub message : IsMessage (reply_of_run run)
   pub len_is : len ≡ length (spelling (reply_of_run run))
   pub buffer_is : new_buffer ≡ spelling (reply_of_run run) ++ drop (length (spelling (reply_of_run run))) buffer
 
 -- the run of another node's request left this, and its reply, or an Ack, in its slot
-pub record KeepsReply (run : HandlerContextRun) (after : Touched) (replies new_replies : RepliesState) : Type 0 where
+pub record KeepsReply (run : HandlerContextRun) (after : HandlerState) (replies new_replies : RepliesState)
+    : Type 0 where
   pub left : LeavesTouched run after
   pub message : IsMessage (reply_of_run run)
   pub replies_are : new_replies ≡ with_reply replies run.frame.arrival.source run.frame.arrival.slot

@@ -9,7 +9,7 @@ use Rattle.part_handlers.specs.declared.table.Entry.{Entry}
 use Rattle.part_handlers.specs.declared.rules.Role.{Role}
 use Rattle.part_handlers.specs.declared.rules.Role.TheVariants as role
 use Rattle.part_handlers.specs.Registered.{entry_at}
-use Rattle.part_handlers.specs.Runs.{Arrival, Frame, Start, Outcome, Meaning, violation, closed}
+use Rattle.part_handlers.specs.Runs.{Arrival, Frame, Start, Outcome, Meaning, violation, after_return}
 use Rattle.spec_node.specs.Behaviour.{Contact}
 use Rattle.node_core.specs.Library.{is_library, library_outcome}
 use Rattle.node_core.specs.Kept.{Local, start_from, with_writes}
@@ -77,7 +77,7 @@ frame_of_run handlers which contact content = record {
 abbrev pub client_outcome : NodeHandlers → Role → Contact → Content → Start → Outcome
 client_outcome handlers which contact content start =
     let frame = frame_of_run handlers which contact content in
-    closed frame (handlers.meaning content.handler frame start)
+    after_return frame (handlers.meaning content.handler frame start)
 
 -- what the run of a handler gives: the library's own, or a client's
 abbrev pub outcome : NodeHandlers → Role → Contact → Content → Start → Outcome

@@ -8,10 +8,11 @@ use Rattle.wire_message.specs.Parameters.{Parameters}
 use Rattle.wire_message.specs.Content.{Content, code, is_ack, short_request, long_request, long_reply}
 use Rattle.wire_message.specs.declared.kind.Kind.{Kind}
 use Rattle.wire_message.specs.declared.kind.Kind.TheVariants as kind
-use Rattle.wire_message.specs.declared.note.BarrierNote.{BarrierNote}
-use Rattle.wire_message.specs.Notes.{IsNote, is_no_note, note_arguments, high_half, low_half, joined_halves}
-use Rattle.wire_message.specs.Notes.{argument}
-use Rattle.wire_message.specs.Notes.{mask_of}
+use Rattle.wire_message.specs.declared.notification.BarrierNotification.{BarrierNotification}
+use Rattle.wire_message.specs.Notifications.{IsNotification, is_no_notification, notification_arguments, high_half}
+use Rattle.wire_message.specs.Notifications.{low_half, joined_halves}
+use Rattle.wire_message.specs.Notifications.{argument}
+use Rattle.wire_message.specs.Notifications.{mask_of}
 use Rattle.part_segment.specs.Bytes.{part}
 use Rattle.part_segment.specs.Image.{Write}
 use Rattle.part_handlers.specs.Runs.{Start, Outcome, passes_end}
@@ -38,9 +39,9 @@ get_handler = 65
 abbrev pub memset_handler : ℕ
 memset_handler = 66
 
--- a note of the barrier: a Short request
-abbrev pub note_handler : ℕ
-note_handler = 67
+-- a notification of the barrier: a Short request
+abbrev pub notification_handler : ℕ
+notification_handler = 67
 
 -- the bytes that a get asked for: a Long reply
 abbrev pub get_reply_handler : ℕ
@@ -53,7 +54,7 @@ is_library handler = nat_le handler 127
 -- the library has a handler of this index for messages of this kind
 abbrev pub has_library : Kind → (handler : ℕ) → Bool
 has_library kind.ShortRequest handler =
-    (handler == get_handler) || ((handler == memset_handler) || (handler == note_handler))
+    (handler == get_handler) || ((handler == memset_handler) || (handler == notification_handler))
 has_library kind.MediumRequest handler = false
 has_library kind.LongRequest handler = handler == put_handler
 has_library kind.ShortReply handler = false
@@ -72,7 +73,7 @@ pub data Work : Type 0 where
   -- `len` bytes of the other's segment from `remote` on become this byte
   Memset : (remote len byte : ℕ) → Work
   -- the other is told this of the barrier
-  Note : BarrierNote → Work
+  Notification : BarrierNotification → Work
 
 -- 1 to 8,192 bytes from the offset on, inside a segment of that length
 pub record IsChunk (segment offset len : ℕ) : Type 0 where
@@ -80,14 +81,14 @@ pub record IsChunk (segment offset len : ℕ) : Type 0 where
   pub few : len ≤ MAX_PAYLOAD
   pub inside : offset + len ≤ segment
 
--- its ranges are inside the segments, and its note is one among the nodes
+-- its ranges are inside the segments, and its notification is one among the nodes
 abbrev pub WorkFits : Parameters → Work → Type 0
 WorkFits settings (Put local remote len) =
     IsChunk settings.segment local len × IsChunk settings.segment remote len
 WorkFits settings (Get local remote len) =
     IsChunk settings.segment local len × IsChunk settings.segment remote len
 WorkFits settings (Memset remote len byte) = IsChunk settings.segment remote len × (byte < 256)
-WorkFits settings (Note note) = IsNote settings.nodes note
+WorkFits settings (Notification notification) = IsNotification settings.nodes notification
 
 -- ---- arguments
 
@@ -106,7 +107,8 @@ work_content version segment (Put local remote len) = long_request put_handler [
 work_content version segment (Get local remote len) = short_request get_handler (fetch_arguments local remote len)
 work_content version segment (Memset remote len byte) =
     short_request memset_handler (fill_arguments remote len byte)
-work_content version segment (Note note) = short_request note_handler (note_arguments version note)
+work_content version segment (Notification notification) =
+    short_request notification_handler (notification_arguments version notification)
 
 -- ---- arguments, read again
 
@@ -129,9 +131,9 @@ abbrev pub fill_said : List ℤ → Fill
 fill_said args =
     record { remote = argument_number args 0; len = natural (argument args 2); byte = natural (argument args 3) }
 
--- the note that arguments spell
-abbrev pub note_said : (version : ℕ) → List ℤ → BarrierNote
-note_said version args = record {
+-- the notification that arguments spell
+abbrev pub notification_said : (version : ℕ) → List ℤ → BarrierNotification
+notification_said version args = record {
   phase = argument_number args 0;
   mask = mask_of version args;
   id = argument args (length args - 2);
@@ -166,7 +168,7 @@ abbrev pub has_wrong_args : Parameters → (handler : ℕ) → List ℤ → Bool
 has_wrong_args settings handler args =
     if handler == get_handler then is_no_fetch settings.segment args
     else (if handler == memset_handler then is_no_fill settings.segment args
-    else (if handler == note_handler then is_no_note settings.version settings.nodes args
+    else (if handler == notification_handler then is_no_notification settings.version settings.nodes args
     else not (length args == 0)))
 
 -- why a content with an index of the library is refused: it is no Ack, and the library has no handler of its kind for
@@ -191,13 +193,13 @@ library_writes content =
     if content.handler == memset_handler then filling (fill_said content.args) ∷ [] else []
 
 -- the bytes that a get asked for, out of this segment
-abbrev pub fetched : (segment : List ℕ) → Fetch → Content
-fetched segment fetch = long_reply get_reply_handler [] fetch.local (part segment fetch.remote fetch.len)
+abbrev pub fetched_content : (segment : List ℕ) → Fetch → Content
+fetched_content segment fetch = long_reply get_reply_handler [] fetch.local (part segment fetch.remote fetch.len)
 
 -- the reply of a run; none stands for an Ack
 abbrev pub library_reply : (segment : List ℕ) → Content → Option Content
 library_reply segment content =
-    if content.handler == get_handler then Some (fetched segment (fetch_said content.args)) else None
+    if content.handler == get_handler then Some (fetched_content segment (fetch_said content.args)) else None
 
 -- what a run of a handler of the library gives, from what it finds after the payload landed
 abbrev pub library_outcome : Content → Start → Outcome
@@ -209,7 +211,8 @@ library_outcome content start = record {
   refused = [];
 }
 
--- how a run of a request is answered: with the note, where it was one
+-- how a run of a request is answered: with the notification, where it was one
 abbrev pub run_answer : (version : ℕ) → Content → SlotRef → Delivered
 run_answer version content at =
-    if content.handler == note_handler then delivered.Noted at (note_said version content.args) else delivered.Ran at
+    if content.handler == notification_handler then delivered.Notified at (notification_said version content.args)
+    else delivered.Ran at

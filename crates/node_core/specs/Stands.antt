@@ -2,7 +2,7 @@
 use Rattle.std.specs.Prelude.{ℕ, ◌≡◌, ◌≢◌, ◌<◌, List, [], length, Option, None, Some, slice_get}
 use Rattle.wire_message.specs.Parameters.{Parameters, AreInRange, credits_of}
 use Rattle.wire_message.specs.Message.{spelling}
-use Rattle.part_window.specs.SlotsState.{SlotState, Vacant, Sealed, PeerState, slot_at}
+use Rattle.part_window.specs.SlotsState.{SlotState, Vacant, Committed, PeerState, slot_at}
 use Rattle.part_window.specs.RepliesState.{ReplyState, Unused, Kept}
 use Rattle.part_handlers.specs.LogState.{log_of}
 use Rattle.spec_node.specs.Record.{Request, Run, Node}
@@ -16,7 +16,7 @@ use Rattle.node_core.specs.CoreState.{CoreState}
 abbrev pub slot_state : Parameters → (me peer : ℕ) → Option (ℕ × Request) → SlotState
 slot_state settings me peer None = Vacant
 slot_state settings me peer (Some open_) =
-    Sealed open_.0 open_.1.time (spelling (request_message settings me peer open_.0 open_.1))
+    Committed open_.0 open_.1.time (spelling (request_message settings me peer open_.0 open_.1))
 
 -- a slot of a peer's requests, by the last run of the slot
 abbrev pub reply_state : Parameters → (me peer : ℕ) → Option Run → ReplyState

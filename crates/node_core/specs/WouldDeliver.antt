@@ -28,7 +28,8 @@ pub record WouldRun (core : CoreState) (message : Message) (answer : Delivered) 
 -- why a message would be answered so
 abbrev pub WouldAnswer : CoreState → Message → Delivered → Type 0
 WouldAnswer core message (delivered.Ran at) = WouldRun core message (delivered.Ran at)
-WouldAnswer core message (delivered.Noted at note) = WouldRun core message (delivered.Noted at note)
+WouldAnswer core message (delivered.Notified at notification) =
+    WouldRun core message (delivered.Notified at notification)
 WouldAnswer core message (delivered.Duplicate at) =
     IsOurRequest core message × (at ≡ reply_slot message.from message.slot)
     × JudgesAt core.replies message.from message.slot message.number judged.Duplicate

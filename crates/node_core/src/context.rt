@@ -3,20 +3,20 @@
 ghost use Rattle.std.specs.Prelude.{◌≡◌, ◌≢◌, ◌<◌, ◌≤◌, None, length};
 ghost use Rattle.part_window.specs.RepliesState.{JudgesAt, slot_count};
 ghost use Rattle.part_handlers.specs.declared.rules.Role.TheVariants as role;
-ghost use Rattle.part_handlers.specs.Desks.{arrival_of};
+ghost use Rattle.part_handlers.specs.Tokens.{arrival_of};
 ghost use Rattle.node_core.specs.HandlerContextRuns.{CanRun, CanAnswer, Ran, LeavesReply, KeepsReply};
 ghost use Rattle.node_core.specs.HandlerContextRuns.{context_run, run_of, own_frame, own_reply_run};
 ghost use Rattle.node_core.specs.HandlerContextRuns.{CanRunOwnReply, IsSameHandlerContext, LeavesTouched, RunsOwn};
-ghost use Rattle.node_core.specs.HandlerContextRuns.{landed_on, touched};
+ghost use Rattle.node_core.specs.HandlerContextRuns.{landed_on, handler_state};
 ghost use Rattle.node_core.specs.Landed.{content_at};
 ghost use Rattle.node_core.specs.HandlerRuns.{listed_for};
-ghost use Rattle.part_handlers.specs.Locks.{blocked};
+ghost use Rattle.part_handlers.specs.Locks.{blocking_lock};
 ghost use Rattle.part_handlers.specs.Registered.{reply_locks};
 ghost use Rattle.part_handlers.specs.Runs.{IsReady, AreFree, IsPlaced};
 
 use crate::landing::land_reply;
 use crate::own::place_replied;
-use part_handlers::{Cells, Desk, Handlers, Incoming, Locks, Log, Reply, Role, Table};
+use part_handlers::{Cells, Handlers, Incoming, Locks, Log, Reply, Role, Table, Token};
 use part_segment::Segment;
 use part_window::{Judged, ReplySlots};
 use wire_message::{Address, Settings, ack, spell};
@@ -50,8 +50,8 @@ struct Work<'a> {
     message: Incoming<'a>,
 }
 
-/// Runs a handler at a desk over the buffer; its reply, where it sent one.
-fn run_at_desk<H: Handlers>(
+/// Runs a handler at a token over the buffer; its reply, where it sent one.
+fn run_with_token<H: Handlers>(
     handlers: &H,
     work: &Work<'_>,
     segment: &mut Segment,
@@ -76,7 +76,7 @@ fn run_at_desk<H: Handlers>(
       log = log.new;
     }) buffer.old buffer.new result }
 {
-    let mut desk = Desk::new(
+    let mut token = Token::new(
         work.settings,
         work.table,
         locks,
@@ -85,8 +85,8 @@ fn run_at_desk<H: Handlers>(
         work.message,
         buffer,
     );
-    handlers.run(work.handler, segment, cells, &mut desk);
-    desk.close()
+    handlers.run(work.handler, segment, cells, &mut token);
+    token.close()
 }
 
 /// The reply of an own request, and what stays the same while its handler runs.
@@ -99,7 +99,7 @@ struct OwnReply<'a> {
 }
 
 impl<'a> HandlerContext<'a> {
-    /// Runs the handler of this index for a message, at a desk over the buffer; its reply, where it sent one.
+    /// Runs the handler of this index for a message, at a token over the buffer; its reply, where it sent one.
     pub fn run<H: Handlers>(
         &mut self,
         handlers: &H,
@@ -111,7 +111,7 @@ impl<'a> HandlerContext<'a> {
         ensures same { IsSameHandlerContext self.old self.new }
         ensures ran { let run =
             context_run (H.meaning handlers.now) handler self.old (arrival_of message.entry) in
-            Ran run (touched self.new) buffer.old buffer.new result }
+            Ran run (handler_state self.new) buffer.old buffer.new result }
     {
         let work = Work {
             handler,
@@ -120,7 +120,7 @@ impl<'a> HandlerContext<'a> {
             listed: self.listed,
             message,
         };
-        run_at_desk(
+        run_with_token(
             handlers,
             &work,
             self.segment,
@@ -142,11 +142,11 @@ impl<'a> HandlerContext<'a> {
         requires ready { CanRun self.old (arrival_of request) buffer.old }
         requires own { request.source ≡ request.me }
         requires role { request.role ≡ role.Request }
-        requires replies { blocked self.old.locks.now (reply_locks self.old.table.now) ≡ None }
+        requires replies { blocking_lock self.old.locks.now (reply_locks self.old.table.now) ≡ None }
         ensures same { IsSameHandlerContext self.old self.new }
         ensures ran { let run =
             context_run (H.meaning handlers.now) handler self.old (arrival_of request.entry) in
-            RunsOwn (H.meaning handlers.now) run (touched self.new) }
+            RunsOwn (H.meaning handlers.now) run (handler_state self.new) }
     {
         let me = request.me;
         if let Some(reply) = self.run(handlers, handler, request, buffer) {
@@ -160,13 +160,13 @@ impl<'a> HandlerContext<'a> {
         }
     }
 
-    /// Runs the handler of the reply of an own request, whose payload stands at the front of the buffer.
+    /// Runs the handler of the reply of an own request, whose payload stands at the prefix of the buffer.
     fn run_own_reply<'b, H: Handlers>(&mut self, handlers: &H, own: &OwnReply<'b>, buffer: &'b [u8])
         requires { CanRunOwnReply own.now self.old.segment.now self.old.locks.now buffer.now }
         ensures same { IsSameHandlerContext self.old self.new }
         ensures ran { let content = content_at buffer.now own.now.reply in
             LeavesTouched (own_reply_run (H.meaning handlers.now) (own_frame own.now) content
-            (landed_on (touched self.old) content)) (touched self.new) }
+            (landed_on (handler_state self.old) content)) (handler_state self.new) }
     {
         let reply = own.reply;
         let shown = land_reply(self.segment, buffer, &reply);
@@ -186,7 +186,7 @@ impl<'a> HandlerContext<'a> {
                 place: place_replied(&reply),
             },
         };
-        let _ = run_at_desk(
+        let _ = run_with_token(
             handlers,
             &work,
             self.segment,
@@ -212,16 +212,16 @@ impl<'a> HandlerContext<'a> {
         ensures same { IsSameHandlerContext self.old self.new }
         ensures kept { let run =
             context_run (H.meaning handlers.now) handler self.old (arrival_of message.entry) in
-            KeepsReply run (touched self.new) replies.old replies.new }
+            KeepsReply run (handler_state self.new) replies.old replies.new }
     {
         let mut place = replies.place(message.source, message.slot, message.number);
         let buffer = place.buffer();
         let len = self.answer_into(handlers, handler, message, buffer);
-        place.seal(len);
+        place.commit(len);
     }
 
-    /// Runs the handler of a request of another node at a desk over the buffer, and leaves the datagram of its reply at
-    /// the front of the buffer, or that of an Ack where it sent none; tells the datagram's length.
+    /// Runs the handler of a request of another node at a token over the buffer, and leaves the datagram of its reply
+    /// at the prefix of the buffer, or that of an Ack where it sent none; tells the datagram's length.
     fn answer_into<H: Handlers>(
         &mut self,
         handlers: &H,
@@ -235,7 +235,7 @@ impl<'a> HandlerContext<'a> {
         ensures same { IsSameHandlerContext self.old self.new }
         ensures left { let run =
             context_run (H.meaning handlers.now) handler self.old (arrival_of message.entry) in
-            LeavesReply run (touched self.new) buffer.old buffer.new result }
+            LeavesReply run (handler_state self.new) buffer.old buffer.new result }
     {
         let address = Address {
             version: self.settings.version(),

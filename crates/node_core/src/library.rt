@@ -2,13 +2,13 @@
 
 ghost use Rattle.std.specs.Prelude.{◌≡◌, ◌≤◌, ◌<◌, ◌+◌, ◌^◌, ◌∷◌, [], length, pos, IfSome, is_none};
 ghost use Rattle.std.specs.Prelude.{nat_lt};
-ghost use Rattle.wire_message.specs.Notes.{argument, high_half as high_part};
-ghost use Rattle.wire_message.specs.Notes.{low_half as low_part};
+ghost use Rattle.wire_message.specs.Notifications.{argument, high_half as high_part};
+ghost use Rattle.wire_message.specs.Notifications.{low_half as low_part};
 ghost use Rattle.node_core.specs.Library.{fetch_arguments, fill_arguments, fetch_said, fill_said};
 ghost use Rattle.node_core.specs.Library.{is_beyond};
 ghost use Rattle.node_core.specs.Library.{is_no_fetch, is_no_fill, argument_number};
 
-use wire_message::{BarrierNote, MAX_PAYLOAD, high_half, joined, low_half};
+use wire_message::{BarrierNotification, MAX_PAYLOAD, high_half, joined, low_half};
 
 /// The most bytes of a part, as an argument tells them.
 const LONGEST: u16 = MAX_PAYLOAD as u16;
@@ -22,7 +22,7 @@ pub(crate) const GET: u8 = 65;
 /// The handler of a part of a memset: a Short request.
 pub(crate) const MEMSET: u8 = 66;
 
-/// The handler of a note of the barrier: a Short request.
+/// The handler of a notification of the barrier: a Short request.
 pub(crate) const NOTE: u8 = 67;
 
 /// The handler of the bytes that a get asked for: a Long reply.
@@ -32,7 +32,7 @@ pub(crate) const GET_REPLY: u8 = 68;
 pub(crate) const LAST_OWN: u8 = 127;
 
 /// What the library asks of another node (GASNet 1.8.1, extended API): a chunk of a transfer, 1 to 8,192 bytes
-/// (profile), or a note of the barrier.
+/// (profile), or a notification of the barrier.
 #[derive(Clone, Copy)]
 pub enum LibraryRequest {
     /// Bytes of the local segment go to the other's.
@@ -63,7 +63,7 @@ pub enum LibraryRequest {
         byte: u8,
     },
     /// The other is told this of the barrier.
-    Note(BarrierNote),
+    Notification(BarrierNotification),
 }
 
 /// A part of a get, as the node that is asked reads it.

@@ -18,14 +18,16 @@ ghost use Rattle.node_core.specs.Sizes.{HasSegment};
 use crate::answer::{Asked, Delivered, SlotRef, Why};
 use crate::arguments::arguments;
 use crate::asking::{Asking, Category, Payload};
+use crate::committing::commit_reply;
 use crate::landing::land;
 use crate::library::{
     GET, GET_REPLY, LibraryRequest, MEMSET, NOTE, PUT, fetch_arguments, fill_arguments, read_fetch,
     read_fill,
 };
 use crate::node::Core;
-use crate::sealing::seal_reply;
-use wire_message::{Address, Kind, Settings, View, ack, args_note, long_reply, note_args};
+use wire_message::{
+    Address, Kind, Settings, View, ack, args_notification, long_reply, notification_args,
+};
 
 /// Whether the library has a handler of this index for messages of this kind.
 fn has_library(kind: Kind, handler: u8) -> bool
@@ -54,7 +56,7 @@ fn has_wrong_args(settings: &Settings, message: &View<'_>) -> bool
         return read_fill(args, settings.segment()).is_none();
     }
     if message.handler == NOTE {
-        return args_note(args, settings.nodes(), settings.version()).is_none();
+        return args_notification(args, settings.nodes(), settings.version()).is_none();
     }
     count != 0
 }
@@ -143,7 +145,7 @@ impl Core {
     {
         let way = self.reply_way(message);
         if message.handler != GET {
-            seal_reply(&mut self.replies, &ack(way));
+            commit_reply(&mut self.replies, &ack(way));
             return;
         }
         let (args, count) = arguments(message);
@@ -154,7 +156,7 @@ impl Core {
             unreachable!();
         };
         let reply = long_reply(way, GET_REPLY, &[], fetch.local, bytes);
-        seal_reply(&mut self.replies, &reply);
+        commit_reply(&mut self.replies, &reply);
     }
 
     /// How the run of a request of the library is told.
@@ -171,10 +173,10 @@ impl Core {
         }
         let (args, count) = arguments(message);
         let (nodes, version) = (self.settings.nodes(), self.settings.version());
-        let Some(note) = args_note(&args[..count], nodes, version) else {
+        let Some(notification) = args_notification(&args[..count], nodes, version) else {
             unreachable!();
         };
-        Delivered::Noted(at, note)
+        Delivered::Notified(at, notification)
     }
 
     /// A request of the library to another node.
@@ -214,9 +216,9 @@ impl Core {
             LibraryRequest::Memset { remote, len, byte } => {
                 self.claim_short(now, to, MEMSET, &fill_arguments(remote, len, byte))
             }
-            LibraryRequest::Note(note) => {
+            LibraryRequest::Notification(notification) => {
                 let mut args = [0; 12];
-                let count = note_args(&note, self.settings.version(), &mut args);
+                let count = notification_args(&notification, self.settings.version(), &mut args);
                 self.claim_short(now, to, NOTE, &args[..count])
             }
         }

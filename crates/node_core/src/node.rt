@@ -7,9 +7,9 @@ ghost use Rattle.part_handlers.specs.LogState.{log_of};
 ghost use Rattle.part_handlers.specs.Locks.{lock_answer, unlock_answer};
 ghost use Rattle.part_handlers.specs.Runs.{Meaning};
 ghost use Rattle.spec_node.specs.Record.{opening_node};
-ghost use Rattle.spec_node.specs.Requests.{unreturned};
+ghost use Rattle.spec_node.specs.Requests.{outstanding};
 ghost use Rattle.spec_node.specs.Credits.{greatest_holding};
-ghost use Rattle.spec_node.specs.Held.{held};
+ghost use Rattle.spec_node.specs.Held.{held_buffers};
 ghost use Rattle.spec_node.specs.SlotMessages.{message_at, number_in_slot};
 ghost use Rattle.spec_node.specs.NodeStep.{Asks, Does, Ticks, OfRequest, OfCall, OfTick};
 ghost use Rattle.node_core.specs.AskedFor.{ask_of, work_of};
@@ -56,7 +56,7 @@ pub struct Core {
     // For a call on the local node: the payload of its request, and its reply. Each is the one part of a block, whose
     // memory is reserved, and touched at the first such call.
     pub(crate) lent: Block,
-    pub(crate) desk: Block,
+    pub(crate) token: Block,
 }
 
 impl Model for Core {
@@ -81,7 +81,7 @@ impl Model for Core {
     } };
 
     ghost invariant = { λ c.
-        IsSized c.settings c.me c.requests c.replies × (length c.desk ≡ 1)
+        IsSized c.settings c.me c.requests c.replies × (length c.token ≡ 1)
         × (length c.lent ≡ 1) × (holds Handler c.locks ≡ false) };
 }
 
@@ -124,7 +124,7 @@ impl Core {
         ensures stands { IfOk result (λ core. CoreStands core (opening_node nothing_done)) }
     {
         let lent = Block::new(alloc, 1)?;
-        let desk = Block::new(alloc, 1)?;
+        let token = Block::new(alloc, 1)?;
         let log = Log::new(alloc)?;
         let table = table.copy()?;
         let replies = free_replies(alloc, settings, me)?;
@@ -140,7 +140,7 @@ impl Core {
             cells: Cells::new(),
             log,
             lent,
-            desk,
+            token,
         })
     }
 
@@ -150,11 +150,11 @@ impl Core {
     /// handler-safe lock; `BadArg` with `Node` where `to` is no node, with `Handler` where no handler of requests is
     /// registered for the index, with `Count` where there are more than 16 arguments, with `Payload` where there are
     /// more than 8,192 bytes, with `Source` where the payload is a range that passes the end of the local segment, with
-    /// `Offset` where its place passes the end of the target's; for the local node `LockBusy` with the smallest lock that
-    /// a thread holds among those of the handler and of all handlers of replies, else `Ran`, where the handler runs at
-    /// once and then that of its reply; `Exhausted` where the numbers of the pair are used up; `NotYet` where all its
-    /// credits are out; else `Accepted`. `now` is the time of its sending, in any one unit. After a refusal the core
-    /// stands for the same record, but that `Forbidden` is noted as a violation.
+    /// `Offset` where its place passes the end of the target's; for the local node `LockBusy` with the smallest lock
+    /// that a thread holds among those of the handler and of all handlers of replies, else `Ran`, where the handler
+    /// runs at once and then that of its reply; `Exhausted` where the numbers of the pair are used up; `NotYet` where
+    /// all its credits are out; else `Accepted`. `now` is the time of its sending, in any one unit. After a refusal the
+    /// core stands for the same record, but that `Forbidden` is noted as a violation.
     ///
     /// The segment is as long as the settings say.
     pub fn request<H: Handlers>(&mut self, handlers: &H, now: u64, asking: &Asking<'_>) -> Asked
@@ -171,13 +171,13 @@ impl Core {
     }
 
     /// A request of the library to another node, of the node's own accord (GASNet 1.8.1, extended API): a chunk of a
-    /// transfer, or a note of the barrier. A put's bytes are copied out of the local segment as it is now.
+    /// transfer, or a notification of the barrier. A put's bytes are copied out of the local segment as it is now.
     ///
     /// `Exhausted` exactly where the numbers of the pair are used up, then `NotYet` where all its credits are out, else
     /// `Accepted`. `now` is the time of its sending.
     ///
-    /// Ranges are of 1 to 8,192 bytes inside the segments, a note's mask is within the nodes and its flags 0 to 3, and
-    /// the local segment is as long as the settings say.
+    /// Ranges are of 1 to 8,192 bytes inside the segments, a notification's mask is within the nodes and its flags 0 to
+    /// 3, and the local segment is as long as the settings say.
     pub fn ask(&mut self, now: u64, to: u16, work: &LibraryRequest) -> Asked
         requires node { to < self.old.settings.nodes }
         requires other { to ≢ self.old.me }
@@ -233,9 +233,9 @@ impl Core {
         }
     }
 
-    /// Notes that the request which is due at `now` is sent again, and tells its slot: of those that aren't back and
-    /// were last sent `resend` or more before, the one that was sent earliest, then the one to the lower node, then the
-    /// one in the lower slot. None exactly where none is due.
+    /// Notifications that the request which is due at `now` is sent again, and tells its slot: of those that aren't
+    /// back and were last sent `resend` or more before, the one that was sent earliest, then the one to the lower node,
+    /// then the one in the lower slot. None exactly where none is due.
     pub fn tick(&mut self, now: u64) -> Option<SlotRef>
         ensures { (meaning : Meaning) → CoreSteps meaning self.old
             (record { now = now; event = Ticks; answer = OfTick (retransmits result) }) self.new }
@@ -277,7 +277,7 @@ impl Core {
     {
         let answer = self.locks.lock(Owner::Thread(thread), lock, 0);
         if let LockAnswer::Refused(fault) = answer {
-            self.note(thread, Fault::Lock(fault));
+            self.log_violation(thread, Fault::Lock(fault));
         }
         answer
     }
@@ -298,16 +298,16 @@ impl Core {
     {
         let answer = self.locks.unlock(Owner::Thread(thread), lock);
         if let UnlockAnswer::Refused(fault) = answer {
-            self.note(thread, Fault::Lock(fault));
+            self.log_violation(thread, Fault::Lock(fault));
         }
         answer
     }
 
-    /// Notes a violation of a thread.
-    fn note(&mut self, thread: u16, fault: Fault)
+    /// Notifications a violation of a thread.
+    fn log_violation(&mut self, thread: u16, fault: Fault)
         ensures { self.new ≡ noting self.old thread (fault ∷ []) }
     {
-        self.log.note(Violation {
+        self.log.log_violation(Violation {
             context: Context::Thread(thread),
             fault,
         });
@@ -355,7 +355,7 @@ impl Core {
     /// at most the sum over the peers of the credits both ways.
     pub fn held(&self) -> usize
         ensures is { ForItsRecord self.now (λ node.
-            result ≡ held self.now.settings self.now.me node) }
+            result ≡ held_buffers self.now.settings self.now.me node) }
         ensures few { ForItsRecord self.now (λ node.
             result ≤ greatest_holding self.now.settings self.now.me) }
     {
@@ -367,7 +367,7 @@ impl Core {
         requires node { to < self.now.settings.nodes }
         requires other { to ≢ self.now.me }
         ensures { ForItsRecord self.now (λ node.
-            result ≡ credits_of self.now.settings self.now.me to - unreturned (node.asked to)) }
+            result ≡ credits_of self.now.settings self.now.me to - outstanding (node.asked to)) }
     {
         self.requests.free(to)
     }

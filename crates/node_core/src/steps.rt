@@ -4,7 +4,7 @@ ghost use Rattle.std.specs.Prelude.{◌≡◌, ◌≢◌, ◌<◌, ◌≤◌, �
 ghost use Rattle.wire_message.specs.Content.{IsMessage, content_of};
 ghost use Rattle.wire_message.specs.Reading.{viewed_message};
 ghost use Rattle.spec_node.specs.Step.{slots_for, with_sender};
-ghost use Rattle.part_handlers.specs.Desks.{arrival_of};
+ghost use Rattle.part_handlers.specs.Tokens.{arrival_of};
 ghost use Rattle.part_handlers.specs.declared.rules.Role.TheVariants as role;
 ghost use Rattle.part_window.specs.RepliesState.{JudgesAt};
 ghost use Rattle.part_window.specs.declared.replies.Judged.TheVariants as judged;
@@ -25,13 +25,13 @@ ghost use Rattle.node_core.specs.Sizes.{HasSegment};
 use crate::answer::{Asked, Delivered, Side, SlotRef, Why};
 use crate::arguments::arguments;
 use crate::asking::{Asking, Category, Payload};
+use crate::committing::commit_request;
 use crate::context::{HandlerContext, listed_for};
 use crate::landing::{Landing, land, land_if_written, lend_own};
 use crate::library::LAST_OWN;
 use crate::library_runs::library_fault;
 use crate::node::Core;
 use crate::own::place_asked;
-use crate::sealing::seal_request;
 use crate::slots::slots_of;
 use part_handlers::{
     CallKind, Context, Fault, Forbidden, Handlers, Incoming, Role, Violation, Which, allowed,
@@ -74,7 +74,7 @@ impl Core {
         let context = Context::Thread(thread);
         let judged = allowed(context, &self.locks, false, call);
         if let Err(forbidden) = judged {
-            self.log.note(Violation {
+            self.log.log_violation(Violation {
                 context,
                 fault: Fault::Rule(forbidden),
             });
@@ -151,7 +151,7 @@ impl Core {
             table: &self.table,
             listed,
         };
-        context.run_own(handlers, asking.handler, request, self.desk.part_mut(0));
+        context.run_own(handlers, asking.handler, request, self.token.part_mut(0));
     }
 
     /// A request to another node.
@@ -197,7 +197,7 @@ impl Core {
             slot: 0,
             number: 0,
         };
-        match seal_request(&mut self.requests, way, now, asking, payload) {
+        match commit_request(&mut self.requests, way, now, asking, payload) {
             Ok((slot, number)) => Asked::Accepted { to, slot, number },
             Err(NoClaim::Exhausted) => Asked::Exhausted,
             Err(NoClaim::NotYet) => Asked::NotYet,
@@ -242,7 +242,7 @@ impl Core {
         let Some(payload) = self.segment.part(offset, len) else {
             unreachable!();
         };
-        match seal_request(&mut self.requests, way, now, asking, payload) {
+        match commit_request(&mut self.requests, way, now, asking, payload) {
             Ok((slot, number)) => Asked::Accepted { to, slot, number },
             Err(NoClaim::Exhausted) => Asked::Exhausted,
             Err(NoClaim::NotYet) => Asked::NotYet,
@@ -561,10 +561,10 @@ impl Core {
             table: &self.table,
             listed,
         };
-        let _ = context.run(handlers, reply.handler, incoming, self.desk.part_mut(0));
+        let _ = context.run(handlers, reply.handler, incoming, self.token.part_mut(0));
     }
 
-    /// Notes that the request which is due at `now` is sent again, and tells its node and slot.
+    /// Notifications that the request which is due at `now` is sent again, and tells its node and slot.
     pub(crate) fn resend(&mut self, now: u64) -> Option<(u16, u16)>
         ensures { Retransmits self.old now result self.new }
     {

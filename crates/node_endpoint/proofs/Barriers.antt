@@ -2,7 +2,7 @@
 use Rattle.std.proofs.lemmas.Bool.{cases_Bool}
 use Rattle.std.proofs.Common.{add-one, zero, inl, inr, ◌≡◌, ℕ, suc, ◌+◌, ℤ, Bool, true, false, Option, None, Some, refl}
 use Rattle.std.proofs.Common.{ap, ap₂, ◌∙◌, subst, ◌<◌, ◌-◌, arith}
-use Rattle.wire_message.specs.declared.note.BarrierNote.{BarrierNote}
+use Rattle.wire_message.specs.declared.notification.BarrierNotification.{BarrierNotification}
 use Rattle.part_barrier.specs.BarrierState.{BarrierState}
 use Rattle.part_barrier.specs.Record.{BarrierRecord, notify_answer, notify_after, try_answer, try_after}
 use Rattle.part_barrier.specs.Stands.{BarrierStands}
@@ -10,7 +10,7 @@ use Rattle.part_barrier.specs.declared.answer.Notified.{Notified}
 use Rattle.part_barrier.specs.declared.answer.BarrierAnswer.{BarrierAnswer}
 use Rattle.node_core.specs.CoreState.{CoreState}
 use Rattle.node_rules.specs.BarrierCalls.{Notify, TryBarrier, barrier_does, exhausted_for, identifier, first_where}
-use Rattle.node_rules.specs.EndpointRules.{with_barrier, note_among}
+use Rattle.node_rules.specs.EndpointRules.{with_barrier, notification_among}
 use Rattle.std.specs.Int.{w32}
 use Rattle.std.proofs.lemmas.Int.{to_z-of_z}
 use Rattle.node_rules.proofs.Noting.{identifier_fits}
@@ -59,7 +59,7 @@ pub try_does : (core : CoreState) (extended : Extended) (barrier : BarrierState)
     → PartDoes (record { core = core; extended = extended }) thread
     (λ caller kept. with_barrier kept (barrier_does caller (TryBarrier id flags) kept.barrier)) (answers.Barrier says)
     (record { core = core; extended = record extended { barrier = barrier } })
-try_does core extended barrier thread id flags exhausted says worns answer stands = record {
+try_does core extended barrier thread id flags exhausted says exhausted answer stands = record {
   same = same_core core;
   frame = record { nodes = refl; me_is = refl; threads = refl; room = refl };
   steps = λ node S.
@@ -67,7 +67,7 @@ try_does core extended barrier thread id flags exhausted says worns answer stand
       let nodes = core.settings.nodes in
       let tried = λ (exhausted : Option ℕ). try_answer nodes core.me kept
       (record { id = identifier id; flags = flags; exhausted = exhausted }) in
-      let same : tried exhausted ≡ tried (exhausted_for (caller_in core node thread) kept) = ap tried (worns node S) in (
+      let same : tried exhausted ≡ tried (exhausted_for (caller_in core node thread) kept) = ap tried (exhausted node S) in (
         ap (λ (s : BarrierAnswer). answers.Barrier s) (answer nodes core.me kept S.barrier ∙ same),
         record {
           core = S.core;
@@ -91,48 +91,48 @@ pub first_here : (test : ℕ → Bool) (node many : ℕ) → test node ≡ true
     → first_where test node (suc many) ≡ Some node
 first_here test node many here = rw here refl
 
-pub among_unasked : (due : ℕ → Option BarrierNote) (can : ℕ → Bool) (node many : ℕ) → can node ≡ false
-    → note_among due can node (suc many) ≡ note_among due can (node + 1) many
+pub among_unasked : (due : ℕ → Option BarrierNotification) (can : ℕ → Bool) (node many : ℕ) → can node ≡ false
+    → notification_among due can node (suc many) ≡ notification_among due can (node + 1) many
 among_unasked due can node many none = rw (none, add-one) refl
 
-pub among_none : (due : ℕ → Option BarrierNote) (can : ℕ → Bool) (node many : ℕ) → can node ≡ true
-    → due node ≡ None → note_among due can node (suc many) ≡ note_among due can (node + 1) many
+pub among_none : (due : ℕ → Option BarrierNotification) (can : ℕ → Bool) (node many : ℕ) → can node ≡ true
+    → due node ≡ None → notification_among due can node (suc many) ≡ notification_among due can (node + 1) many
 among_none due can node many asked none = rw (asked, none, add-one) refl
 
-pub among_here : (due : ℕ → Option BarrierNote) (can : ℕ → Bool) (node many : ℕ) (note : BarrierNote)
-    → can node ≡ true → due node ≡ Some note
-    → note_among due can node (suc many) ≡ Some (record { to = node; note = note })
-among_here due can node many note asked here = rw (asked, here) refl
+pub among_here : (due : ℕ → Option BarrierNotification) (can : ℕ → Bool) (node many : ℕ) (notification : BarrierNotification)
+    → can node ≡ true → due node ≡ Some notification
+    → notification_among due can node (suc many) ≡ Some (record { to = node; notification = notification })
+among_here due can node many notification asked here = rw (asked, here) refl
 
 -- nothing is due to the node
-pub among_undue : (due : ℕ → Option BarrierNote) (can : ℕ → Bool) (node many : ℕ) → due node ≡ None
-    → note_among due can node (suc many) ≡ note_among due can (node + 1) many
+pub among_undue : (due : ℕ → Option BarrierNotification) (can : ℕ → Bool) (node many : ℕ) → due node ≡ None
+    → notification_among due can node (suc many) ≡ notification_among due can (node + 1) many
 among_undue due can node many none = elim (cases_Bool (can node)) [
   | inl asked ↦ among_none due can node many asked none
   | inr unasked ↦ among_unasked due can node many unasked
 ]
 
 -- nothing is due to the first so many nodes
-pub among_skip : (due : ℕ → Option BarrierNote) (can : ℕ → Bool) (node many skip : ℕ)
+pub among_skip : (due : ℕ → Option BarrierNotification) (can : ℕ → Bool) (node many skip : ℕ)
     → ((to : ℕ) → to < node + skip → due to ≡ None)
-    → note_among due can node many ≡ note_among due can (node + skip) (many - skip)
+    → notification_among due can node many ≡ notification_among due can (node + skip) (many - skip)
 among_skip due can node many zero none =
     let from : node ≡ node + 0 = omega arith in
     let rest : many ≡ many - 0 = omega arith in
-    ap₂ (note_among due can) from rest
+    ap₂ (notification_among due can) from rest
 among_skip due can node zero (suc skip) none =
     let rest : 0 ≡ 0 - suc skip = omega arith in
-    ap (note_among due can (node + suc skip)) rest
+    ap (notification_among due can (node + suc skip)) rest
 among_skip due can node (suc many) (suc skip) none =
     let from : node + 1 + skip ≡ node + suc skip = omega arith in
     let rest : many - skip ≡ suc many - suc skip = omega arith in
     among_undue due can node many (none node (omega arith))
     ∙ (among_skip due can (node + 1) many skip (λ to below. none to (omega (arith, below)))
-    ∙ ap₂ (note_among due can) from rest)
+    ∙ ap₂ (notification_among due can) from rest)
 
 -- nothing is due
-pub among_quiet : (due : ℕ → Option BarrierNote) (can : ℕ → Bool) (node many : ℕ)
-    → ((to : ℕ) → due to ≡ None) → note_among due can node many ≡ None
+pub among_quiet : (due : ℕ → Option BarrierNotification) (can : ℕ → Bool) (node many : ℕ)
+    → ((to : ℕ) → due to ≡ None) → notification_among due can node many ≡ None
 among_quiet due can node zero quiet = refl
 among_quiet due can node (suc many) quiet = elim (cases_Bool (can node)) [
   | inl asked ↦ among_none due can node many asked (quiet node) ∙ among_quiet due can (node + 1) many quiet

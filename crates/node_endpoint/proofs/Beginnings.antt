@@ -26,7 +26,7 @@ use Rattle.node_rules.specs.TransferCalls.{Caller, BeginImplicit, after_beginnin
 use Rattle.node_rules.specs.TransferCalls.{transfer_does}
 use Rattle.node_rules.specs.declared.answer.Answer.TheVariants as answers
 use Rattle.part_regions.specs.declared.Region.{Region}
-use Rattle.part_regions.specs.Regions.{after_operation, region_of, named}
+use Rattle.part_regions.specs.Regions.{after_operation, region_of, region_of_serial}
 use Rattle.std.proofs.Math.ListN.{length-set}
 use Rattle.std.specs.Prelude.{slice_set}
 use Rattle.node_rules.specs.declared.answer.Begun.{Begun}
@@ -168,7 +168,7 @@ length-after_operation regions thread serial = by (region_of regions thread)
     by : (found : Option Region) → length (elim found as (λ _. List (Option Region)) [
       | None ↦ regions
       | Some region ↦ elim region.name as (λ _. List (Option Region)) [
-        | None ↦ slice_set regions thread (Some (named serial))
+        | None ↦ slice_set regions thread (Some (region_of_serial serial))
         | Some first ↦ regions
       ]
     ]) ≡ length regions
@@ -176,10 +176,10 @@ length-after_operation regions thread serial = by (region_of regions thread)
     by (Some region) = by_name region.name
       where
         by_name : (name : Option ℕ) → length (elim name as (λ _. List (Option Region)) [
-          | None ↦ slice_set regions thread (Some (named serial))
+          | None ↦ slice_set regions thread (Some (region_of_serial serial))
           | Some first ↦ regions
         ]) ≡ length regions
-        by_name None = length-set regions thread (Some (named serial))
+        by_name None = length-set regions thread (Some (region_of_serial serial))
         by_name (Some first) = refl
 
 length-with_name : (thread : ℕ) (says : Begun) (regions : List (Option Region))

@@ -28,7 +28,7 @@ use Rattle.node_rules.specs.EndpointLocal.{EndpointLocal, IsEndpointKept, core_o
 use Rattle.node_rules.specs.EndpointRules.{OtherCall, OnCore, OnTransfers, OnBarrier, does_call, unless_forbidden}
 use Rattle.node_rules.specs.EndpointRules.{RecordEvent, transition, endpoint_rules, with_core_outcome}
 use Rattle.node_rules.specs.CoreCalls.{Poll, Attempt, Lock, Unlock, Cell, SetCell, OnSegment, if_allowed}
-use Rattle.node_rules.specs.Called.{Meant, Requests, Performs, meant, called, node_event}
+use Rattle.node_rules.specs.Called.{Meant, Requests, Performs, meant, event_of_call, node_event}
 use Rattle.node_rules.specs.Memory.{SegmentCall, segment_does, OnSegment as OnSegmentBytes}
 use Rattle.node_rules.specs.TransferCalls.{Caller}
 use Rattle.node_rules.specs.Tracking.{NodeTracks}
@@ -363,7 +363,7 @@ pub call_whole : (core new : CoreState) (extended next : Extended) (thread : ℕ
     → IsWhole core extended → IsSameExtended extended next
     → CallSteps (endpoint_of core extended) thread of_thread answer (endpoint_of new next) → IsWhole new next
 call_whole core new extended next thread of_thread answer W frame C =
-    step_whole core new extended next 0 (called thread of_thread) answer W frame (C nothing_runs nothing_lawful 0)
+    step_whole core new extended next 0 (event_of_call thread of_thread) answer W frame (C nothing_runs nothing_lawful 0)
 
 -- where the table allows the call
 pub allowed_whole : (core new : CoreState) (extended : Extended) (thread : ℕ) (kind : CallKind)

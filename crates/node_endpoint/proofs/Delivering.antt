@@ -24,16 +24,16 @@ use Rattle.part_barrier.specs.Record.{BarrierRecord}
 use Rattle.part_transfers.specs.Operation.{Operation}
 use Rattle.part_transfers.specs.Stands.{Stands as TransfersStand}
 use Rattle.node_core.specs.Kept.{Local}
-use Rattle.node_core.specs.Library.{run_answer, note_handler, note_said}
+use Rattle.node_core.specs.Library.{run_answer, notification_handler, notification_said}
 use Rattle.node_core.specs.ClientRules.{rules}
 use Rattle.node_core.specs.Stands.{CoreStands}
 use Rattle.node_core.specs.CoreState.{CoreState}
 use Rattle.node_core.specs.CoreContracts.{CoreSteps, CoreTold, Delivers, core_job}
 use Rattle.node_core.specs.WouldDeliver.{WouldDeliver as CoreWouldDeliver}
-use Rattle.wire_message.specs.declared.note.BarrierNote.{BarrierNote}
+use Rattle.wire_message.specs.declared.notification.BarrierNotification.{BarrierNotification}
 use Rattle.node_rules.specs.BarrierCalls.{has_ranges}
 use Rattle.node_rules.specs.EndpointLocal.{EndpointLocal, core_of}
-use Rattle.node_rules.specs.EndpointRules.{transition, after_note}
+use Rattle.node_rules.specs.EndpointRules.{transition, after_notification}
 use Rattle.node_rules.specs.declared.answer.Answer.TheVariants as answers
 use Rattle.node_rules.proofs.Over.{endpoint_over}
 use Rattle.node_endpoint.specs.declared.extended.Extended.{Extended}
@@ -48,27 +48,27 @@ pub record IsTold (answer : Delivered) (old new : EndpointLocal) : Type 0 where
   pub regions : new.regions ≡ old.regions
   pub registers : new.registers ≡ old.registers
 
--- a run, by whether it is a note's
+-- a run, by whether it is a notification's
 run_operations : (settings : Parameters) (content : Content) (at : SlotRef) (operations : List Operation)
     → operations ≡ after_answer (run_answer settings.version content at) operations
-run_operations settings content at operations = elim (cases_Bool (content.handler == note_handler)) [
-  | inl note ↦ rw note refl
+run_operations settings content at operations = elim (cases_Bool (content.handler == notification_handler)) [
+  | inl notification ↦ rw notification refl
   | inr other ↦ rw other refl
 ]
 
 run_barrier : (settings : Parameters) (content : Content) (at : SlotRef) (barrier : BarrierRecord)
-    → ((place : SlotRef) (note : BarrierNote) → run_answer settings.version content at ≡ delivered.Noted place note
-    → has_ranges note ≡ true)
-    → after_note settings content barrier ≡ heard_by (run_answer settings.version content at) barrier
-run_barrier settings content at barrier ranged = elim (cases_Bool (content.handler == note_handler)) [
-  | inl note ↦ rw (note, ranged at (note_said settings.version content.args) (rw note refl)) refl
+    → ((place : SlotRef) (notification : BarrierNotification) → run_answer settings.version content at ≡ delivered.Notified place notification
+    → has_ranges notification ≡ true)
+    → after_notification settings content barrier ≡ heard_by (run_answer settings.version content at) barrier
+run_barrier settings content at barrier ranged = elim (cases_Bool (content.handler == notification_handler)) [
+  | inl notification ↦ rw (notification, ranged at (notification_said settings.version content.args) (rw notification refl)) refl
   | inr other ↦ rw other refl
 ]
 
 told_by : (meaning : Meaning) (endpoint : EndpointState) (node : Node EndpointLocal) (message : Message) (v : Verdict)
-    → ((place : SlotRef) (note : BarrierNote)
-    → answer_by (job_here meaning endpoint).behaviour.messages message v ≡ delivered.Noted place note
-    → has_ranges note ≡ true)
+    → ((place : SlotRef) (notification : BarrierNotification)
+    → answer_by (job_here meaning endpoint).behaviour.messages message v ≡ delivered.Notified place notification
+    → has_ranges notification ≡ true)
     → IsTold (answer_by (job_here meaning endpoint).behaviour.messages message v) node.local
     (after_delivery (site_of (job_here meaning endpoint) endpoint.core.me) node message v).local
 told_by meaning endpoint node message Runs ranged = record {
@@ -116,7 +116,7 @@ message_steps meaning core new extended heard now message answer lawful C H =
     ap core_delivered it.0 ∙ ap (λ (w : Verdict). answer_by own message w) (sym alike) in
     let next = after_delivery site node message v in
     let told = told_by meaning old node message v
-    (λ place note e. H.ranged place note (is ∙ e)) in
+    (λ place notification e. H.ranged place notification (is ∙ e)) in
     let left : CoreStands new (under core_of next) =
     subst (λ (n : Node Local). CoreStands new n)
     (sym (delivery_under core_of own site node message v over

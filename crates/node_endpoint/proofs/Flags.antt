@@ -48,9 +48,9 @@ pub flags_above : (flags : List Bool) (node : ℕ) (flag : Bool)
 flags_above flags node flag after to above =
     flag-other flags node flag to (λ e. omega (arith, e, above)) ∙ after to (omega (arith, above))
 
--- the flags at the front alone
-pub flags_front : (flags : List Bool) (count to : ℕ) → to < count → flag_at (take count flags) to ≡ flag_at flags to
-flags_front flags count to low = ap (λ o. unwrap_or o false) (get-take count to flags low)
+-- the flags at the prefix alone
+pub flags_prefix : (flags : List Bool) (count to : ℕ) → to < count → flag_at (take count flags) to ≡ flag_at flags to
+flags_prefix flags count to low = ap (λ o. unwrap_or o false) (get-take count to flags low)
 
 -- the local node's numbers aren't used up
 pub own_exhausted : (core : CoreState) (extended : Extended) (node : Node EndpointLocal)

@@ -30,7 +30,7 @@ use Rattle.node_rules.specs.declared.answer.Answer.{Answer}
 use Rattle.node_rules.specs.declared.answer.Answer.TheVariants as answers
 use Rattle.node_core.specs.declared.asking.Asking.{Asking as CodeAsking}
 use Rattle.node_core.specs.AskedFor.{ask_of, asking_of}
-use Rattle.node_rules.specs.Called.{called, node_event, IsMeantBy}
+use Rattle.node_rules.specs.Called.{event_of_call, node_event, IsMeantBy}
 use Rattle.node_rules.specs.declared.call.Call.{Call}
 use Rattle.node_rules.proofs.Over.{endpoint_over}
 use Rattle.node_endpoint.specs.declared.extended.Extended.{Extended}
@@ -144,7 +144,7 @@ request_steps meaning core new extended now ask answer lawful C =
 
 -- a call that asks this is that event
 pub asked_event : (call : Call) (thread : ℕ) (asking : CodeAsking) → IsMeantBy call thread (Some asking)
-    → called thread call ≡ Asks (ask_of asking)
+    → event_of_call thread call ≡ Asks (ask_of asking)
 asked_event call thread asking meant_is =
     ap (node_event thread) meant_is.1
     ∙ ap (λ by. Asks (record { thread = by; to = asking.to; what = asking_of asking })) (sym meant_is.0)

@@ -9,14 +9,14 @@ use Rattle.wire_message.specs.Content.{content_of}
 use Rattle.part_handlers.specs.Runs.{Meaning}
 use Rattle.spec_node.specs.declared.answer.Asked.{Asked as AskedAnswer}
 use Rattle.spec_node.specs.declared.answer.Asked.TheVariants as asked
-use Rattle.spec_node.specs.Record.{Request, Run, Node, numbered}
+use Rattle.spec_node.specs.Record.{Request, Run, Node, element_at}
 use Rattle.spec_node.specs.Requests.{Due, is_open}
 use Rattle.spec_node.specs.declared.answer.Why.{Why}
 use Rattle.spec_node.specs.Executed.{greatest, run_at}
 use Rattle.spec_node.specs.Behaviour.{Ask, is_request}
 use Rattle.spec_node.specs.Step.{Verdict, Refused, Duplicated, Passed, Runs, Missed, Returns, verdict, answer_by}
 use Rattle.spec_node.specs.Step.{request_answer, request_slot, reply_slot, next_due, choice_of, tick_answer}
-use Rattle.spec_node.specs.Step.{unless_refused, unless_waiting, judged, taken_back, refusal}
+use Rattle.spec_node.specs.Step.{unless_refused, unless_waiting, verdict_of_number, taken_back, refusal}
 use Rattle.spec_node.specs.NodeStep.{Job, site_of}
 use Rattle.spec_node.proofs.Answers.{accepted_says}
 use Rattle.spec_node.proofs.Runs.{greatest_there, run_at_says, run_at_from}
@@ -31,7 +31,7 @@ use Rattle.node_rules.specs.EndpointLocal.{EndpointLocal}
 use Rattle.node_rules.specs.EndpointRules.{OnCore}
 use Rattle.node_rules.specs.EndpointRules.{sent_as}
 use Rattle.node_rules.specs.TransferCalls.{Caller}
-use Rattle.node_core.specs.Library.{note_handler, run_answer}
+use Rattle.node_core.specs.Library.{notification_handler, run_answer}
 use Rattle.spec_node.specs.declared.answer.SlotRef.{SlotRef}
 use Rattle.spec_node.specs.Behaviour.{Sending}
 use Rattle.spec_node.specs.Requests.{next_claim}
@@ -77,7 +77,7 @@ repeated_slot me from slot number runs some same = elim (greatest_there slot run
 
 -- only a request with the greatest number of its slot comes again
 repeated_says : (reason : Option Why) (is_asked : Bool) (number top slot : ℕ) (lock : Option ℕ) (open_ : Option Request)
-    → unless_refused reason (if is_asked then judged number top lock else taken_back slot open_ lock) ≡ Duplicated
+    → unless_refused reason (if is_asked then verdict_of_number number top lock else taken_back slot open_ lock) ≡ Duplicated
     → number ≡ top
 repeated_says (Some why) is_asked number top slot lock open_ e = absurd (refused e)
   where
@@ -102,8 +102,8 @@ repeated_says None false number top slot lock open_ e = absurd (taken (is_open s
 -- how a run is answered
 run_slot : (version : ℕ) (content : Content) (at : SlotRef)
     → sends (answers.Delivered (run_answer version content at)) ≡ Some at
-run_slot version content at = elim (cases_Bool (content.handler == note_handler)) [
-  | inl note ↦ rw note refl
+run_slot version content at = elim (cases_Bool (content.handler == notification_handler)) [
+  | inl notification ↦ rw notification refl
   | inr other ↦ rw other refl
 ]
 
@@ -120,13 +120,13 @@ delivered_slot meaning old node m Duplicated some e =
     (repeated_says (refusal (site_of (job_here meaning old) old.core.me) m) (is_request m.kind) m.number
     (greatest m.slot (node.ran m.from)) m.slot
     ((job_here meaning old).behaviour.messages.waits (content_of m) node.local)
-    (numbered (node.asked m.from) m.number) e)
+    (element_at (node.asked m.from) m.number) e)
 delivered_slot meaning old node m _ some e = refl
 
 -- how a tick is answered that sends
 sent_slot : (content : Content) (at : SlotRef) → sends (answers.Ticked (sent_as content at)) ≡ Some at
-sent_slot content at = elim (cases_Bool (content.handler == note_handler)) [
-  | inl note ↦ rw note refl
+sent_slot content at = elim (cases_Bool (content.handler == notification_handler)) [
+  | inl notification ↦ rw notification refl
   | inr other ↦ rw other refl
 ]
 

@@ -1,7 +1,7 @@
 -- What each part of an endpoint keeps makes up what the endpoint keeps.
 use Rattle.std.proofs.Common.{◌≡◌, ℕ, ◌<◌, ◌≤◌, sym, ap, ◌∙◌, subst}
 use Rattle.wire_message.specs.Parameters.{Parameters, credits_of}
-use Rattle.part_handlers.specs.Runs.{Meaning, IsLawfulMeaning, untouched}
+use Rattle.part_handlers.specs.Runs.{Meaning, IsLawfulMeaning, nothing_done}
 use Rattle.part_handlers.proofs.Lawful.{lawful-untouched}
 use Rattle.spec_node.specs.Record.{Node}
 use Rattle.spec_node.specs.NodeStep.{node_answer, node_after}
@@ -14,7 +14,7 @@ use Rattle.part_transfers.specs.Stands.{room_of}
 use Rattle.node_core.specs.CoreState.{CoreState}
 use Rattle.node_core.specs.CoreContracts.{IsSameNode}
 use Rattle.node_rules.specs.EndpointLocal.{EndpointLocal, IsEndpointKept}
-use Rattle.node_rules.specs.EndpointRules.{RecordEvent, told, transition}
+use Rattle.node_rules.specs.EndpointRules.{RecordEvent, answer_told, transition}
 use Rattle.node_rules.specs.Tracking.{NodeTracks}
 use Rattle.node_rules.specs.declared.answer.Answer.{Answer}
 use Rattle.node_rules.proofs.Sound.{rules_sound}
@@ -24,7 +24,7 @@ use Rattle.node_endpoint.specs.Parts.{EndpointKeeps, Parts, whole, HasRecord, Is
 
 -- a meaning under which no handler does anything
 pub nothing_runs : Meaning
-nothing_runs handler frame start = untouched start
+nothing_runs handler frame start = nothing_done start
 
 pub nothing_lawful : IsLawfulMeaning nothing_runs
 unfolding nothing_runs
@@ -59,7 +59,7 @@ stands_by endpoint node K kept tracks = record {
 pub steps_by : (meaning : Meaning) (old new : EndpointState) (now : ℕ) (event : RecordEvent) (answer : Answer)
     → IsLawfulMeaning meaning → IsSameNode old.core new.core
     → ForItsRecord old (λ node.
-    (answer ≡ told (node_answer (job_here meaning old) old.core.me node now event))
+    (answer ≡ answer_told (node_answer (job_here meaning old) old.core.me node now event))
     × EndpointKeeps new (node_after (job_here meaning old) old.core.me node now event))
     → NodeSteps meaning old (transition now event answer) new
 steps_by meaning old new now event answer lawful same does = record {

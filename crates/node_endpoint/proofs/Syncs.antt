@@ -26,7 +26,7 @@ use Rattle.node_rules.specs.TransferCalls.{SyncHandle, SyncImplicit, transfer_do
 use Rattle.node_rules.specs.TransferCalls.{emptied_by, whole_registers}
 use Rattle.node_rules.specs.declared.answer.Answer.TheVariants as answers
 use Rattle.node_endpoint.specs.declared.extended.Extended.{Extended}
-use Rattle.node_endpoint.proofs.Flags.{flags_front}
+use Rattle.node_endpoint.proofs.Flags.{flags_prefix}
 use Rattle.node_endpoint.specs.EndpointState.{EndpointStands, ForItsRecord}
 use Rattle.node_endpoint.specs.Parts.{EndpointOutcome, PartDoes, endpoint_of}
 
@@ -72,11 +72,11 @@ AreExhausted core extended flags =
     ForItsRecord (endpoint_of core extended) (λ node. (to : ℕ) → to < core.settings.nodes
     → flag_at flags to ≡ is_exhausted core.settings node to)
 
--- those at the front, where they are as many as the nodes
-pub front_exhausted : (core : CoreState) (extended : Extended) (flags : List Bool) (count : ℕ)
+-- those at the prefix, where they are as many as the nodes
+pub prefix_exhausted : (core : CoreState) (extended : Extended) (flags : List Bool) (count : ℕ)
     → core.settings.nodes ≤ count → AreExhausted core extended flags → AreExhausted core extended (take count flags)
-front_exhausted core extended flags count all are = λ node S to low.
-    flags_front flags count to (omega (arith, low, all)) ∙ are node S to low
+prefix_exhausted core extended flags count all are = λ node S to low.
+    flags_prefix flags count to (omega (arith, low, all)) ∙ are node S to low
 
 agreed : (core : CoreState) (extended : Extended) (flags : List Bool) → AreExhausted core extended flags
     → (node : Node EndpointLocal) → EndpointStands (endpoint_of core extended) node

@@ -5,11 +5,11 @@ use Rattle.std.proofs.Common.{refl, sym, ap, ◌∙◌, subst, arith}
 use Rattle.std.specs.List.{list_any}
 use Rattle.std.proofs.lemmas.Bool.{cases_Bool, lt-leb}
 use Rattle.wire_message.specs.Parameters.{Parameters}
-use Rattle.wire_message.specs.declared.note.BarrierNote.{BarrierNote}
+use Rattle.wire_message.specs.declared.notification.BarrierNotification.{BarrierNotification}
 use Rattle.part_handlers.specs.declared.table.Entry.{Entry}
 use Rattle.part_handlers.specs.Runs.{Meaning, IsLawfulMeaning}
 use Rattle.spec_node.specs.Record.{Node}
-use Rattle.spec_node.specs.Requests.{Due, free_slot, next_claim, taken, unreturned}
+use Rattle.spec_node.specs.Requests.{Due, free_slot, next_claim, taken_slots, outstanding}
 use Rattle.spec_node.specs.Credits.{limits_of}
 use Rattle.spec_node.specs.Behaviour.{Sending}
 use Rattle.spec_node.specs.Step.{next_due, choice_of, tick_choice, tick_answer, after_tick, can_ask, TickChoice}
@@ -24,7 +24,7 @@ use Rattle.spec_node.specs.declared.answer.Ticked.{Ticked}
 use Rattle.spec_node.specs.declared.answer.Ticked.TheVariants as ticked
 use Rattle.spec_node.proofs.Answers.{CanAsk, can_says}
 use Rattle.spec_node.proofs.Slots.{taken_numbered, free_outside, free_le}
-use Rattle.part_barrier.specs.Record.{BarrierRecord, SentNote, send, note_to}
+use Rattle.part_barrier.specs.Record.{BarrierRecord, SentNotification, send, notification_to}
 use Rattle.part_barrier.specs.BarrierState.{BarrierState}
 use Rattle.part_barrier.specs.Stands.{BarrierStands}
 use Rattle.part_transfers.specs.declared.transfers.Transfers.{Transfers}
@@ -32,25 +32,25 @@ use Rattle.part_transfers.specs.declared.operation.Next.{Next}
 use Rattle.part_transfers.specs.Operation.{Operation, target, next_chunk, issue, IsFreeSlot}
 use Rattle.part_transfers.specs.Stands.{Stands as TransfersStand, room_of}
 use Rattle.node_core.specs.Kept.{Local, segment_of}
-use Rattle.node_core.specs.Library.{Work, WorkFits, Note, work_content}
+use Rattle.node_core.specs.Library.{Work, WorkFits, Notification, work_content}
 use Rattle.node_core.specs.ClientRules.{rules}
 use Rattle.node_core.specs.CoreState.{CoreState}
 use Rattle.node_core.specs.Known.{IsDue as CoreIsDue, IsNextDue as CoreNextDue}
 use Rattle.node_core.specs.Stands.{CoreStands}
 use Rattle.node_core.specs.CoreContracts.{CoreSteps, CoreTold, IsSameNode, AsksOwn, retransmits, core_job}
 use Rattle.node_rules.specs.EndpointLocal.{EndpointLocal, core_of}
-use Rattle.node_rules.specs.EndpointRules.{transition, job_of, next_sending, note_first, next_note, chunk_work}
+use Rattle.node_rules.specs.EndpointRules.{transition, job_of, next_sending, notification_first, next_notification, chunk_work}
 use Rattle.node_rules.specs.EndpointRules.{sending_of}
 use Rattle.node_rules.specs.Tracking.{NodeTracks}
 use Rattle.node_rules.specs.declared.answer.Answer.TheVariants as answers
-use Rattle.node_rules.proofs.Sending.{chunk_no_note}
-use Rattle.node_rules.proofs.Works.{sending_well, note_work_fits, chunk_work_fits}
+use Rattle.node_rules.proofs.Sending.{chunk_no_notification}
+use Rattle.node_rules.proofs.Works.{sending_well, notification_work_fits, chunk_work_fits}
 use Rattle.node_endpoint.specs.declared.extended.Extended.{Extended}
 use Rattle.std.specs.Prelude.{is_some, nat_le}
 use Rattle.node_endpoint.specs.EndpointState.{EndpointState, EndpointStands, ForItsRecord, NodeSteps, job_here}
 use Rattle.node_endpoint.specs.EndpointState.{IsDue, IsNextDue, IsTickTarget}
 use Rattle.node_endpoint.specs.EndpointState.{sends_again, sent_to}
-use Rattle.node_endpoint.specs.Parts.{EndpointKeeps, Parts, IsWhole, CanSend, PartSends, endpoint_of, whole, found_note}
+use Rattle.node_endpoint.specs.Parts.{EndpointKeeps, Parts, IsWhole, CanSend, PartSends, endpoint_of, whole, found_notification}
 use Rattle.node_endpoint.specs.Parts.{HasRecord}
 use Rattle.node_endpoint.proofs.Stepping.{steps_by, keeps_of, nothing_runs, barrier_of, stays_whole}
 use Rattle.node_endpoint.proofs.Calling.{stands_with, same_extended}
@@ -201,11 +201,11 @@ rest_steps core new extended now C next meaning lawful =
 
 -- ---- what goes next
 
--- the note that was found
-abbrev pub FindsNote : CoreState → Extended → Option (ℕ × BarrierNote) → Type 0
-FindsNote core extended found =
+-- the notification that was found
+abbrev pub FindsNotification : CoreState → Extended → Option (ℕ × BarrierNotification) → Type 0
+FindsNotification core extended found =
     (meaning : Meaning) → ForItsRecord (endpoint_of core extended) (λ node.
-    found_note found ≡ next_note core.settings core.me
+    found_notification found ≡ next_notification core.settings core.me
     (can_ask (site_of (job_here meaning (endpoint_of core extended)) core.me) node) node.local.barrier)
 
 -- and the chunk
@@ -215,30 +215,30 @@ FindsChunk core extended next =
     next ≡ next_chunk (can_ask (site_of (job_here meaning (endpoint_of core extended)) core.me) node) 1
     node.local.operations)
 
-pub note_next : (core : CoreState) (extended : Extended) (found : ℕ × BarrierNote)
-    → FindsNote core extended (Some found) → SendsNext core extended found.0 (Note found.1)
-note_next core extended found note meaning node S =
-    ap (λ (n : Option SentNote). note_first core.settings (segment_of core.settings node.local.core) n
+pub notification_next : (core : CoreState) (extended : Extended) (found : ℕ × BarrierNotification)
+    → FindsNotification core extended (Some found) → SendsNext core extended found.0 (Notification found.1)
+notification_next core extended found notification meaning node S =
+    ap (λ (n : Option SentNotification). notification_first core.settings (segment_of core.settings node.local.core) n
     (next_chunk (can_ask (site_of (job_here meaning (endpoint_of core extended)) core.me) node) 1
-    node.local.operations)) (sym (note meaning node S))
+    node.local.operations)) (sym (notification meaning node S))
 
-pub chunk_next : (core : CoreState) (extended : Extended) (next : Next) → FindsNote core extended None
+pub chunk_next : (core : CoreState) (extended : Extended) (next : Next) → FindsNotification core extended None
     → FindsChunk core extended (Some next) → SendsNext core extended (target next.transfer) (chunk_work next)
-chunk_next core extended next note chunk meaning node S =
+chunk_next core extended next notification chunk meaning node S =
     let segment = segment_of core.settings node.local.core in
     let can = can_ask (site_of (job_here meaning (endpoint_of core extended)) core.me) node in
-    ap (λ (n : Option SentNote). note_first core.settings segment n (next_chunk can 1 node.local.operations))
-    (sym (note meaning node S))
-    ∙ ap (λ (n : Option Next). note_first core.settings segment None n) (sym (chunk meaning node S))
+    ap (λ (n : Option SentNotification). notification_first core.settings segment n (next_chunk can 1 node.local.operations))
+    (sym (notification meaning node S))
+    ∙ ap (λ (n : Option Next). notification_first core.settings segment None n) (sym (chunk meaning node S))
 
-pub nothing_next : (core : CoreState) (extended : Extended) → FindsNote core extended None
+pub nothing_next : (core : CoreState) (extended : Extended) → FindsNotification core extended None
     → FindsChunk core extended None → SendsNothing core extended
-nothing_next core extended note chunk meaning node S =
+nothing_next core extended notification chunk meaning node S =
     let segment = segment_of core.settings node.local.core in
     let can = can_ask (site_of (job_here meaning (endpoint_of core extended)) core.me) node in
-    ap (λ (n : Option SentNote). note_first core.settings segment n (next_chunk can 1 node.local.operations))
-    (sym (note meaning node S))
-    ∙ ap (λ (n : Option Next). note_first core.settings segment None n) (sym (chunk meaning node S))
+    ap (λ (n : Option SentNotification). notification_first core.settings segment n (next_chunk can 1 node.local.operations))
+    (sym (notification meaning node S))
+    ∙ ap (λ (n : Option Next). notification_first core.settings segment None n) (sym (chunk meaning node S))
 
 -- what goes next may be asked
 pub may_send : (core : CoreState) (extended : Extended) (to : ℕ) (work : Work) → IsWhole core extended
@@ -262,20 +262,20 @@ may_send core extended to work W next fits = record {
     says = can_says (site_of (job_here nothing_runs (endpoint_of core extended)) core.me) W.record_.0 to
         (can nothing_runs W.record_.0 W.record_.1)
 
-pub note_may : (core : CoreState) (extended : Extended) (found : ℕ × BarrierNote) → IsWhole core extended
-    → FindsNote core extended (Some found) → CanSend core extended found.0 (Note found.1)
-note_may core extended found W note =
-    may_send core extended found.0 (Note found.1) W (note_next core extended found note)
-    (note_work_fits core.settings core.me
+pub notification_may : (core : CoreState) (extended : Extended) (found : ℕ × BarrierNotification) → IsWhole core extended
+    → FindsNotification core extended (Some found) → CanSend core extended found.0 (Notification found.1)
+notification_may core extended found W notification =
+    may_send core extended found.0 (Notification found.1) W (notification_next core extended found notification)
+    (notification_work_fits core.settings core.me
     (can_ask (site_of (job_here nothing_runs (endpoint_of core extended)) core.me) W.record_.0) W.record_.0.local
-    (record { to = found.0; note = found.1 }) W.record_.1.core.range W.record_.1.kept
-    (sym (note nothing_runs W.record_.0 W.record_.1)))
+    (record { to = found.0; notification = found.1 }) W.record_.1.core.range W.record_.1.kept
+    (sym (notification nothing_runs W.record_.0 W.record_.1)))
 
 pub chunk_may : (core : CoreState) (extended : Extended) (next : Next) → IsWhole core extended
-    → FindsNote core extended None → FindsChunk core extended (Some next)
+    → FindsNotification core extended None → FindsChunk core extended (Some next)
     → CanSend core extended (target next.transfer) (chunk_work next)
-chunk_may core extended next W note chunk =
-    may_send core extended (target next.transfer) (chunk_work next) W (chunk_next core extended next note chunk)
+chunk_may core extended next W notification chunk =
+    may_send core extended (target next.transfer) (chunk_work next) W (chunk_next core extended next notification chunk)
     (chunk_work_fits core.settings core.me
     (can_ask (site_of (job_here nothing_runs (endpoint_of core extended)) core.me) W.record_.0) W.record_.0.local
     next W.record_.1.kept (sym (chunk nothing_runs W.record_.0 W.record_.1)))
@@ -291,7 +291,7 @@ claims meaning endpoint node to can =
     let says = can_says (site_of (job_here meaning endpoint) endpoint.core.me) node to can in
     rw (
       lt-leb endpoint.core.settings.last (length (node.asked to)) says.left,
-      lt-leb (limits_of endpoint.core.settings endpoint.core.me to).credits (unreturned (node.asked to)) says.free,
+      lt-leb (limits_of endpoint.core.settings endpoint.core.me to).credits (outstanding (node.asked to)) says.free,
     ) refl
 
 -- so the answer of the core is an acceptance
@@ -315,9 +315,9 @@ slot_free version to node T place index operation sent here is issued slot =
           (record { operation = operation; sent = sent; numbered_so = here; issued = issued }) in
           let taken_so = taken_numbered (node.asked (target operation.transfer)) sent.number it.request it.accepted
           (it.back ∙ out) in
-          let same : list_any (eqb (free_slot (node.asked to))) (taken (node.asked to)) ≡ true =
-          subst (λ t. list_any (eqb (free_slot (node.asked to))) (taken (node.asked t)) ≡ true) is
-          (subst (λ q. list_any (eqb q) (taken (node.asked (target operation.transfer))) ≡ true) (it.slot ∙ slot)
+          let same : list_any (eqb (free_slot (node.asked to))) (taken_slots (node.asked to)) ≡ true =
+          subst (λ t. list_any (eqb (free_slot (node.asked to))) (taken_slots (node.asked t)) ≡ true) is
+          (subst (λ q. list_any (eqb q) (taken_slots (node.asked (target operation.transfer))) ≡ true) (it.slot ∙ slot)
           taken_so) in
           absurd (true≢false (sym same ∙ free_outside (node.asked to))))
     ]
@@ -341,21 +341,21 @@ asked_core core new extended now to slot number work node may C S =
           (C.steps (under core_of node) S.core).1,
     )
 
--- a note
-pub note_sends : (core new : CoreState) (extended : Extended) (barrier : BarrierState) (now to slot number : ℕ)
-    (note : BarrierNote) → CanSend core extended to (Note note)
-    → AsksOwn core (record { now = now; to = to; work = Note note; answer = asked.Accepted to slot number }) new
+-- a notification
+pub notification_sends : (core new : CoreState) (extended : Extended) (barrier : BarrierState) (now to slot number : ℕ)
+    (notification : BarrierNotification) → CanSend core extended to (Notification notification)
+    → AsksOwn core (record { now = now; to = to; work = Notification notification; answer = asked.Accepted to slot number }) new
     → ((nodes me : ℕ) (kept : BarrierRecord) → BarrierStands nodes me extended.barrier kept
-    → BarrierStands nodes me barrier (send kept to (note_to nodes me kept to)))
+    → BarrierStands nodes me barrier (send kept to (notification_to nodes me kept to)))
     → PartSends (record { core = core; extended = extended })
-    (record { now = now; to = to; work = Note note }) (ticked.Note (request_slot to slot))
+    (record { now = now; to = to; work = Notification notification }) (ticked.Notification (request_slot to slot))
     (record { core = new; extended = record extended { barrier = barrier } })
-note_sends core new extended barrier now to slot number note may C sent = record {
+notification_sends core new extended barrier now to slot number notification may C sent = record {
   same = C.same;
   frame = record { nodes = refl; me_is = refl; threads = refl; room = refl };
   steps = λ meaning node S.
-      let it = asked_core core new extended now to slot number (Note note) node may C S in (
-        ap (λ q. ticked.Note (request_slot to q)) it.0,
+      let it = asked_core core new extended now to slot number (Notification notification) node may C S in (
+        ap (λ q. ticked.Notification (request_slot to q)) it.0,
         record {
           core = it.2;
           transfers = S.transfers;
@@ -394,7 +394,7 @@ chunk_sends core new extended transfers now slot number next may found C noted r
       let to = target next.transfer in
       let it = asked_core core new extended now to slot number (chunk_work next) node may C S in
       let segment = segment_of core.settings node.local.core in
-      let other = chunk_no_note core.settings.version segment next in
+      let other = chunk_no_notification core.settings.version segment next in
       let bytes = (work_content core.settings.version segment (chunk_work next)).payload in
       let claim = next_claim (node.asked to) in
       let free = subst (λ q. IsFreeSlot node.local.operations to q) (sym it.0)

@@ -27,9 +27,9 @@ use Rattle.node_core.specs.CoreContracts.{IsSameNode}
 use Rattle.node_core.specs.Stands.{CoreStands}
 use Rattle.node_core.specs.Known.{IsSoFrom, is_accepted}
 use Rattle.node_rules.specs.EndpointLocal.{EndpointLocal, IsEndpointKept, core_of}
-use Rattle.node_rules.specs.EndpointRules.{OtherCall, RecordEvent, job_of, told, transition, unless_forbidden}
+use Rattle.node_rules.specs.EndpointRules.{OtherCall, RecordEvent, job_of, answer_told, transition, unless_forbidden}
 use Rattle.node_rules.specs.Tracking.{NodeTracks}
-use Rattle.node_rules.specs.Called.{Meant, Requests, Performs, meant, called, HasTarget}
+use Rattle.node_rules.specs.Called.{Meant, Requests, Performs, meant, event_of_call, HasTarget}
 use Rattle.node_rules.specs.declared.call.Call.{Call}
 use Rattle.node_rules.specs.declared.call.Call.TheVariants as call
 use Rattle.node_rules.specs.declared.call.Event.{Event}
@@ -87,7 +87,7 @@ pub record NodeSteps
   where
     pub same : IsSameNode old.core new.core
     pub steps : ForItsRecord old (λ node.
-        (step.answer ≡ told (node_answer (job_here meaning old) old.core.me node step.now step.event))
+        (step.answer ≡ answer_told (node_answer (job_here meaning old) old.core.me node step.now step.event))
         × EndpointStands new (node_after (job_here meaning old) old.core.me node step.now step.event))
 
 -- a call of a thread that does nothing but be judged by the rule table
@@ -101,7 +101,7 @@ abbrev pub judged_outcome : Behaviour EndpointLocal → JudgedCall → EndpointL
 judged_outcome behaviour call local =
     unless_forbidden behaviour call.thread (behaviour.judges call.thread call.kind local) local (call.allowed, local)
 
-pub record Judged (old : EndpointState) (call : JudgedCall) (answer : Answer) (new : EndpointState) : Type 0 where
+pub record IsJudged (old : EndpointState) (call : JudgedCall) (answer : Answer) (new : EndpointState) : Type 0 where
   pub same : IsSameNode old.core new.core
   pub steps : (meaning : Meaning) → ForItsRecord old (λ node.
       (answer ≡ (judged_outcome (job_here meaning old).behaviour.messages call node.local).0)
@@ -120,7 +120,7 @@ pub record BytesCome
 -- what a step of the endpoint does
 abbrev pub EndpointSteps : Meaning → EndpointState → Transition Event Answer → EndpointState → Type 0
 EndpointSteps meaning old step new = elim step.event [
-  | event.Call thread call ↦ NodeSteps meaning old (transition step.now (called thread call) step.answer) new
+  | event.Call thread call ↦ NodeSteps meaning old (transition step.now (event_of_call thread call) step.answer) new
   | event.Deliver bytes ↦ BytesCome meaning old (transition step.now bytes.now step.answer) new
   | event.Tick ↦ NodeSteps meaning old (transition step.now Ticks step.answer) new
 ]

@@ -1,7 +1,7 @@
 -- The two parts of an endpoint, its core and what it keeps of the extended API, and what the second one's calls do.
 use Rattle.std.specs.Prelude.{ℕ, ◌≡◌, ◌≢◌, ◌<◌, ◌≤◌, true, List, Option, None, Some, length}
 use Rattle.wire_message.specs.Parameters.{credits_of}
-use Rattle.wire_message.specs.declared.note.BarrierNote.{BarrierNote}
+use Rattle.wire_message.specs.declared.notification.BarrierNotification.{BarrierNotification}
 use Rattle.part_handlers.specs.Runs.{Meaning, IsLawfulMeaning}
 use Rattle.part_handlers.specs.declared.rules.CallKind.{CallKind}
 use Rattle.part_handlers.specs.declared.rules.CallKind.TheVariants as kinds
@@ -15,7 +15,7 @@ use Rattle.spec_node.specs.declared.answer.Delivered.TheVariants as delivered
 use Rattle.spec_node.specs.declared.answer.SlotRef.{SlotRef}
 use Rattle.spec_node.specs.declared.answer.Ticked.{Ticked}
 use Rattle.spec_node.specs.declared.answer.Why.{Why}
-use Rattle.part_barrier.specs.Record.{BarrierRecord, SentNote, hear}
+use Rattle.part_barrier.specs.Record.{BarrierRecord, SentNotification, hear}
 use Rattle.part_barrier.specs.Stands.{BarrierStands}
 use Rattle.part_transfers.specs.Operation.{Operation, come_back}
 use Rattle.part_transfers.specs.Stands.{room_of}
@@ -34,7 +34,7 @@ use Rattle.node_rules.specs.EndpointRules.{transition}
 use Rattle.node_rules.specs.CoreCalls.{Poll, Attempt}
 use Rattle.node_rules.specs.TransferCalls.{Caller, transfer_does, transfer_kind, begin_says, after_beginning}
 use Rattle.node_rules.specs.BarrierCalls.{barrier_does, has_ranges}
-use Rattle.node_rules.specs.Called.{Meant, Requests, Performs, called}
+use Rattle.node_rules.specs.Called.{Meant, Requests, Performs, event_of_call}
 use Rattle.node_rules.specs.declared.call.Call.{Call}
 use Rattle.node_rules.specs.declared.answer.Answer.{Answer}
 use Rattle.node_rules.specs.declared.answer.Answer.TheVariants as answers
@@ -161,7 +161,7 @@ after_answer _ operations = operations
 
 -- and the barrier
 abbrev pub heard_by : Delivered → BarrierRecord → BarrierRecord
-heard_by (delivered.Noted at note) barrier = hear barrier note
+heard_by (delivered.Notified at notification) barrier = hear barrier notification
 heard_by _ barrier = barrier
 
 pub record Hears (old : Extended) (answer : Delivered) (new : Extended) : Type 0 where
@@ -169,8 +169,9 @@ pub record Hears (old : Extended) (answer : Delivered) (new : Extended) : Type 0
   pub regions : new.regions ≡ old.regions
   pub registers : new.registers ≡ old.registers
   pub refused : (reason : Why) → answer ≡ delivered.Refused reason → new ≡ old
-  -- a note is one of the code's, so its numbers have their ranges
-  pub ranged : (at : SlotRef) (note : BarrierNote) → answer ≡ delivered.Noted at note → has_ranges note ≡ true
+  -- a notification is one of the code's, so its numbers have their ranges
+  pub ranged : (at : SlotRef) (notification : BarrierNotification) → answer ≡ delivered.Notified at notification
+      → has_ranges notification ≡ true
   pub transfers : (operations : List Operation) → TransfersStand old.transfers operations
       → TransfersStand new.transfers (after_answer answer operations)
   pub barrier : (nodes me : ℕ) (kept : BarrierRecord) → BarrierStands nodes me old.barrier kept
@@ -190,23 +191,23 @@ pub record CanSend (core : CoreState) (extended : Extended) (to : ℕ) (work : W
   pub fits : WorkFits core.settings work
   pub can : ForItsRecord (endpoint_of core extended) (λ node. can_ask_of (endpoint_of core extended) node to)
 
--- the note that was found, with the node that it goes to
-abbrev pub found_note : Option (ℕ × BarrierNote) → Option SentNote
-found_note None = None
-found_note (Some found) = Some (record { to = found.0; note = found.1 })
+-- the notification that was found, with the node that it goes to
+abbrev pub found_notification : Option (ℕ × BarrierNotification) → Option SentNotification
+found_notification None = None
+found_notification (Some found) = Some (record { to = found.0; notification = found.1 })
 
 -- this work is asked of a node at this time, by a tick
-pub record Sent : Type 0 where
+pub record SentWork : Type 0 where
   pub now : ℕ
   pub to : ℕ
   pub work : Work
 
 -- it is the request of the tick
-abbrev pub sending_in : EndpointState → Node EndpointLocal → Sent → Sending
+abbrev pub sending_in : EndpointState → Node EndpointLocal → SentWork → Sending
 sending_in endpoint node sent =
     sending_of endpoint.core.settings (segment_of endpoint.core.settings node.local.core) sent.to sent.work
 
-pub record PartSends (old : Parts) (sent : Sent) (answer : Ticked) (new : Parts) : Type 0 where
+pub record PartSends (old : Parts) (sent : SentWork) (answer : Ticked) (new : Parts) : Type 0 where
   pub same : IsSameNode old.core new.core
   pub frame : IsSameExtended old.extended new.extended
   pub steps : (meaning : Meaning) → ForItsRecord (whole old) (λ node.
@@ -221,4 +222,4 @@ pub record PartSends (old : Parts) (sent : Sent) (answer : Ticked) (new : Parts)
 abbrev pub CallSteps : EndpointState → (thread : ℕ) → Call → Answer → EndpointState → Type 0
 CallSteps old thread call answer new =
     (meaning : Meaning) → IsLawfulMeaning meaning → (now : ℕ)
-    → NodeSteps meaning old (transition now (called thread call) answer) new
+    → NodeSteps meaning old (transition now (event_of_call thread call) answer) new

@@ -7,7 +7,7 @@ use Rattle.spec_node.specs.Transition.{Transition}
 use Rattle.spec_node.specs.declared.answer.SlotRef.{SlotRef}
 use Rattle.part_handlers.specs.Runs.{Meaning}
 use Rattle.node_rules.specs.Sent.{Packet, Asking, Replying, sends as sent_by}
-use Rattle.node_rules.specs.Called.{called}
+use Rattle.node_rules.specs.Called.{event_of_call}
 use Rattle.node_rules.specs.Sends.{sends}
 use Rattle.node_rules.specs.EndpointRules.{RecordEvent, transition}
 use Rattle.node_endpoint.specs.EndpointState.{EndpointState, ForItsRecord, job_here}
@@ -34,7 +34,7 @@ NodeSends meaning endpoint step = ForItsRecord endpoint (λ node.
 -- so does a step of the endpoint
 abbrev pub StepSends : Meaning → EndpointState → Transition Event Answer → Type 0
 StepSends meaning endpoint step = elim step.event [
-  | event.Call thread call ↦ NodeSends meaning endpoint (transition step.now (called thread call) step.answer)
+  | event.Call thread call ↦ NodeSends meaning endpoint (transition step.now (event_of_call thread call) step.answer)
   | event.Deliver bytes ↦
       (message : Message) → message.version ≡ endpoint.core.settings.version → Spells message bytes.now
       → NodeSends meaning endpoint (transition step.now (Comes message) step.answer)

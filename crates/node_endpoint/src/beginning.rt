@@ -99,7 +99,7 @@ fn name_region(regions: &mut Regions, thread: u16, says: Begun)
     ensures { regions.new ≡ with_name thread says regions.old }
 {
     if let Begun::Handle(handle) = says {
-        regions.note(thread, handle.serial);
+        regions.add(thread, handle.serial);
     }
 }
 

@@ -6,7 +6,7 @@ ghost use Rattle.part_handlers.specs.LogState.{log_of};
 ghost use Rattle.part_handlers.specs.Runs.{Meaning, IsLawfulMeaning};
 ghost use Rattle.part_handlers.specs.Locks.{holds};
 ghost use Rattle.spec_node.specs.Credits.{greatest_holding};
-ghost use Rattle.spec_node.specs.Held.{held};
+ghost use Rattle.spec_node.specs.Held.{held_buffers};
 ghost use Rattle.spec_node.specs.NodeStep.{Ticks};
 ghost use Rattle.spec_node.specs.Record.{opening_node};
 ghost use Rattle.spec_node.specs.SlotMessages.{message_at, number_in_slot};
@@ -17,7 +17,7 @@ ghost use Rattle.node_core.specs.InPlace.{IsQuiet, keeping_in};
 ghost use Rattle.node_core.specs.Known.{IsLastRun};
 ghost use Rattle.node_rules.specs.EndpointLocal.{nothing_begun};
 ghost use Rattle.node_rules.specs.EndpointRules.{transition};
-ghost use Rattle.node_rules.specs.Called.{HasTarget, meant, called, IsMeantBy};
+ghost use Rattle.node_rules.specs.Called.{HasTarget, meant, event_of_call, IsMeantBy};
 ghost use Rattle.node_rules.specs.TransferCalls.{handle_in};
 ghost use Rattle.node_endpoint.specs.EndpointState.{EndpointStands, ForItsRecord, EndpointSteps, NodeSteps};
 ghost use Rattle.node_endpoint.specs.EndpointState.{IsNodeOf, MayHappen, MayBeCalled, BytesCome};
@@ -106,9 +106,9 @@ impl Endpoint {
     /// `Attempt` `Allowed`, and they change nothing. `Cell` and `SetCell`, and the calls on the local
     /// segment, are no library calls.
     /// Requests are those of `node_core::Core`; a delivery that brings a reply tells the transfers, and one
-    /// of a note the barrier. A tick sends the request that is due again, else the barrier's note that is
-    /// due to the least node that can be asked, else the next chunk of the oldest operation whose target
-    /// can be asked. What the event sends is the message of the slot that `Answer::sends` names.
+    /// of a notification the barrier. A tick sends the request that is due again, else the barrier's notification that
+    /// is due to the least node that can be asked, else the next chunk of the oldest operation whose target can be
+    /// asked. What the event sends is the message of the slot that `Answer::sends` names.
     ///
     /// An event that runs no handler does the same whatever the handlers mean.
     #[inline(always)]
@@ -135,11 +135,11 @@ impl Endpoint {
     ) -> Answer
         requires { MayBeCalled self.old.core.settings thread call.now }
         ensures steps { NodeSteps (H.meaning handlers.now) self.old
-            (transition now (called thread call.now) result) self.new }
+            (transition now (event_of_call thread call.now) result) self.new }
         ensures sends { NodeSends (H.meaning handlers.now) self.old
-            (transition now (called thread call.now) result) }
+            (transition now (event_of_call thread call.now) result) }
         ensures quiet { (HasTarget call.now self.old.core.me → ⊥) → (meaning : Meaning) →
-            NodeSteps meaning self.old (transition now (called thread call.now) result) self.new }
+            NodeSteps meaning self.old (transition now (event_of_call thread call.now) result) self.new }
     {
         self.call_as_recorded(handlers, now, thread, call)
     }
@@ -219,7 +219,7 @@ impl Endpoint {
         if self.core.is_due(now) {
             return None;
         }
-        if let Some((to, _)) = self.extended.next_note(&self.core) {
+        if let Some((to, _)) = self.extended.next_notification(&self.core) {
             return Some(to);
         }
         match self.extended.next_chunk(&self.core) {
@@ -228,8 +228,8 @@ impl Endpoint {
         }
     }
 
-    /// From which time on a tick sends a request again, as long as no event happens to the node: at each time a tick does
-    /// so exactly where this time has come. `None` exactly where it does so at no time. A look at one entry, which
+    /// From which time on a tick sends a request again, as long as no event happens to the node: at each time a tick
+    /// does so exactly where this time has come. `None` exactly where it does so at no time. A look at one entry, which
     /// changes nothing.
     pub fn next_due(&self) -> Option<u64>
         ensures { IsNextDue self.now result }
@@ -304,7 +304,7 @@ impl Endpoint {
     /// slot with a reply; at most the sum over the peers of the credits both ways.
     pub fn held(&self) -> usize
         ensures is { ForItsRecord self.now (λ node.
-            result ≡ held self.now.core.settings self.now.core.me node) }
+            result ≡ held_buffers self.now.core.settings self.now.core.me node) }
         ensures few { ForItsRecord self.now (λ node.
             result ≤ greatest_holding self.now.core.settings self.now.core.me) }
     {
@@ -346,7 +346,7 @@ impl Endpoint {
     ) -> Answer
         requires { MayBeCalled self.old.core.settings thread call.now }
         ensures { NodeSteps (H.meaning handlers.now) self.old
-            (transition now (called thread call.now) result)
+            (transition now (event_of_call thread call.now) result)
             self.new }
     {
         if let Some(asking) = call.asking(thread) {
@@ -425,8 +425,10 @@ impl Endpoint {
         if let Some(at) = self.core.tick(now) {
             return Ticked::Retransmission(at);
         }
-        if let Some((to, note)) = self.extended.next_note(&self.core) {
-            return self.extended.send_note(&mut self.core, now, to, &note);
+        if let Some((to, notification)) = self.extended.next_notification(&self.core) {
+            return self
+                .extended
+                .send_notification(&mut self.core, now, to, &notification);
         }
         match self.extended.next_chunk(&self.core) {
             Some(next) => self.extended.send_chunk(&mut self.core, now, &next),

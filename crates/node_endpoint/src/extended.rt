@@ -18,7 +18,7 @@ use part_barrier::Barrier;
 use part_regions::Regions;
 use part_transfers::{Handle, Transfers};
 use std::alloc::{AllocError, Global};
-use wire_message::{BarrierNote, Settings};
+use wire_message::{BarrierNotification, Settings};
 
 /// What an endpoint keeps beside its core: the operations of its node, the access regions that its threads have begun,
 /// 256 registers of handles, and its barrier.
@@ -46,12 +46,12 @@ fn most_credits(settings: &Settings, me: u16) -> u16
     most
 }
 
-/// A note of these parts: its numbers have their ranges.
-fn note_of(phase: u64, mask: [u64; 4], id: i32, flags: u8) -> BarrierNote
+/// A notification of these parts: its numbers have their ranges.
+fn notification_of(phase: u64, mask: [u64; 4], id: i32, flags: u8) -> BarrierNotification
     ensures is { result ≡ record { phase = phase; mask = mask; id = id; flags = flags } }
     ensures ranged { has_ranges result ≡ true }
 {
-    BarrierNote {
+    BarrierNotification {
         phase,
         mask,
         id,
@@ -129,9 +129,14 @@ impl Extended {
             Delivered::Returned { to, slot, number } => {
                 self.transfers.back(*to, *slot, *number);
             }
-            Delivered::Noted(_, note) => {
-                let note = note_of(note.phase, note.mask, note.id, note.flags);
-                self.barrier.heard(&note);
+            Delivered::Notified(_, notification) => {
+                let notification = notification_of(
+                    notification.phase,
+                    notification.mask,
+                    notification.id,
+                    notification.flags,
+                );
+                self.barrier.heard(&notification);
             }
             _ => {}
         }

@@ -9,13 +9,13 @@
 //!   grammar. What the rule table forbids is answered `Forbidden`, whatever the call, and noted once. The message that
 //!   the step sends is that of the slot which `Answer::sends` names [`sends`: `StepSends`]; `Endpoint::message` gives
 //!   it, `Endpoint::number` its number. A step that runs no handler (`RunsNone`: a tick, or a call that is no request
-//!   to the local node) is the same whatever the handlers mean [`quiet`]. `Endpoint::call` is such a step at the call of
-//!   a thread, without an event around it [`steps`: `NodeSteps`; `sends`: `NodeSends`; `quiet`].
-//! - A tick sends a request again that is due; else the note of the barrier that is due to the least node that can be
-//!   asked; else the next chunk of the oldest operation whose target can be asked. `Endpoint::next_target` tells before
-//!   it which node would get a request of the node's own accord [`target`: `IsTickTarget`]; `would_accept` whether an
-//!   event would accept a request. `next_due` tells from which time on a tick sends a request again, as long as no event
-//!   happens [`IsNextDue`].
+//!   to the local node) is the same whatever the handlers mean [`quiet`]. `Endpoint::call` is such a step at the call
+//!   of a thread, without an event around it [`steps`: `NodeSteps`; `sends`: `NodeSends`; `quiet`].
+//! - A tick sends a request again that is due; else the notification of the barrier that is due to the least node that
+//!   can be asked; else the next chunk of the oldest operation whose target can be asked. `Endpoint::next_target` tells
+//!   before it which node would get a request of the node's own accord [`target`: `IsTickTarget`]; `would_accept`
+//!   whether an event would accept a request. `next_due` tells from which time on a tick sends a request again, as long
+//!   as no event happens [`IsNextDue`].
 //! - `Endpoint::would_deliver` tells what a delivery of bytes would be answered [`told`: `WouldDeliver`]: every
 //!   delivery of them is answered so, at any time and whatever the handlers mean [`agrees`: `IsAnsweredAlways`].
 //! - `Endpoint::new` gives an endpoint that stands for the opening record [`stands`]; want of memory is its one error.

@@ -5,12 +5,12 @@ ghost use Rattle.wire_message.specs.Parameters.{Parameters, AreInRange};
 ghost use Rattle.part_handlers.specs.Runs.{Meaning};
 ghost use Rattle.spec_node.specs.Step.{can_ask, request_slot};
 ghost use Rattle.spec_node.specs.NodeStep.{site_of};
-ghost use Rattle.part_barrier.specs.BarrierState.{note_at};
+ghost use Rattle.part_barrier.specs.BarrierState.{notification_at};
 ghost use Rattle.part_transfers.specs.Operation.{next_chunk, target};
-ghost use Rattle.part_transfers.specs.Stands.{CanNote};
+ghost use Rattle.part_transfers.specs.Stands.{CanMarkSent};
 ghost use Rattle.part_transfers.specs.Syncs.{flag_at};
 ghost use Rattle.node_core.specs.AskedFor.{work_of};
-ghost use Rattle.node_core.specs.Library.{Note, WorkFits};
+ghost use Rattle.node_core.specs.Library.{Notification, WorkFits};
 ghost use Rattle.node_rules.specs.EndpointRules.{chunk_work};
 ghost use Rattle.node_endpoint.specs.EndpointState.{ForItsRecord, job_here};
 ghost use Rattle.node_endpoint.specs.Parts.{IsWhole, CanSend, PartSends, endpoint_of};
@@ -19,7 +19,7 @@ use crate::extended::Extended;
 use node_core::{Asked, Core, LibraryRequest, Side, SlotRef};
 use node_rules::Ticked;
 use part_transfers::{Next, Transfer};
-use wire_message::BarrierNote;
+use wire_message::BarrierNotification;
 
 /// What a chunk asks of its target.
 fn chunk_work(next: &Next) -> LibraryRequest
@@ -82,7 +82,7 @@ impl Extended {
             result ≡ next_chunk
             (can_ask (site_of (job_here meaning (endpoint_of core.now self.now)) core.now.me) node)
             1 node.local.operations) }
-        ensures can_note { IfSome result (λ next. CanNote self.now.transfers next.number) }
+        ensures can_mark_sent { IfSome result (λ next. CanMarkSent self.now.transfers next.number) }
     {
         if self.transfers.is_idle() {
             return None;
@@ -90,33 +90,37 @@ impl Extended {
         self.transfers.next(&self.can(core))
     }
 
-    /// Sends a note of the barrier to a node that can be asked.
-    pub(crate) fn send_note(
+    /// Sends a notification of the barrier to a node that can be asked.
+    pub(crate) fn send_notification(
         &mut self,
         core: &mut Core,
         now: u64,
         to: u16,
-        note: &BarrierNote,
+        notification: &BarrierNotification,
     ) -> Ticked
         requires whole { IsWhole core.old self.old }
-        requires can { CanSend core.old self.old to (Note note.now) }
-        requires due { note_at self.old.barrier to ≡ Some note.now }
+        requires can { CanSend core.old self.old to (Notification notification.now) }
+        requires due { notification_at self.old.barrier to ≡ Some notification.now }
         ensures { PartSends (record { core = core.old; extended = self.old })
-            (record { now = now; to = to; work = Note note.now }) result
+            (record { now = now; to = to; work = Notification notification.now }) result
             (record { core = core.new; extended = self.new }) }
     {
-        let Asked::Accepted { slot, .. } = core.ask(now, to, &LibraryRequest::Note(*note)) else {
+        let Asked::Accepted { slot, .. } = core.ask(
+            now,
+            to,
+            &LibraryRequest::Notification(*notification),
+        ) else {
             unreachable!()
         };
         self.barrier.sent(to);
-        Ticked::Note(request_slot(to, slot))
+        Ticked::Notification(request_slot(to, slot))
     }
 
     /// Sends a chunk to a node that can be asked.
     pub(crate) fn send_chunk(&mut self, core: &mut Core, now: u64, next: &Next) -> Ticked
         requires whole { IsWhole core.old self.old }
         requires can { CanSend core.old self.old (target next.now.transfer) (chunk_work next.now) }
-        requires can_note { CanNote self.old.transfers next.now.number }
+        requires can_mark_sent { CanMarkSent self.old.transfers next.now.number }
         requires next { (meaning : Meaning) → ForItsRecord (endpoint_of core.old self.old) (λ node.
             next_chunk
             (can_ask (site_of (job_here meaning (endpoint_of core.old self.old)) core.old.me) node)
@@ -129,7 +133,7 @@ impl Extended {
         let Asked::Accepted { slot, number, .. } = core.ask(now, to, &chunk_work(next)) else {
             unreachable!()
         };
-        self.transfers.note(next, slot, number);
+        self.transfers.mark_sent(next, slot, number);
         Ticked::Chunk(request_slot(to, slot))
     }
 }

@@ -5,7 +5,7 @@ ghost use Rattle.part_transfers.specs.Operation.{Operation};
 ghost use Rattle.part_transfers.specs.Stands.{Stands as TransfersStand};
 ghost use Rattle.part_transfers.specs.Syncs.{issued_answer, handle_answer, after_handle};
 ghost use Rattle.node_core.specs.CoreState.{CoreState};
-ghost use Rattle.node_rules.specs.TransferCalls.{handle_in, emptied, whole_registers, transfer_does};
+ghost use Rattle.node_rules.specs.TransferCalls.{handle_in, with_invalid, whole_registers, transfer_does};
 ghost use Rattle.node_rules.specs.TransferCalls.{SyncHandle, SyncAll, SyncSome, SyncImplicit};
 ghost use Rattle.node_rules.specs.TransferCalls.{RegionBegin, RegionEnd};
 ghost use Rattle.node_endpoint.specs.Parts.{IsWhole, PartDoes};
@@ -30,7 +30,7 @@ fn handles_in(registers: &[Handle; 256], regs: &[u8]) -> [Handle; 256]
 
 /// These registers become invalid.
 fn empty(registers: &mut [Handle; 256], regs: &[u8])
-    ensures { registers.new ≡ emptied regs.now registers.old }
+    ensures { registers.new ≡ with_invalid regs.now registers.old }
 {
     for reg in regs {
         registers[*reg as usize] = Handle { serial: 0 };

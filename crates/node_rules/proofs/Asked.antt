@@ -4,7 +4,7 @@ use Rattle.std.proofs.Common.{Some, refl, sym, ap, ◌∙◌, arith, eq-eqb, ne_
 use Rattle.std.proofs.lemmas.Bool.{cases_eq}
 use Rattle.std.proofs.lemmas.Option.{same_Some}
 use Rattle.base_lists.specs.Put.{put}
-use Rattle.base_lists.specs.Numbered.{numbered, change}
+use Rattle.base_lists.specs.Numbered.{element_at, change}
 use Rattle.base_lists.proofs.Put.{put_same, put_other}
 use Rattle.base_lists.proofs.Numbered.{numbered_in, numbered_kept, numbered-change, numbered-changed}
 use Rattle.spec_node.specs.Record.{Request}
@@ -19,8 +19,8 @@ pub record IsStill (back : Bool) (request now : Request) : Type 0 where
 -- each request is still there, and is back exactly where it was
 abbrev pub Stay : (asked later : ℕ → List Request) → Type 0
 Stay asked later =
-    (peer number : ℕ) (request : Request) → numbered (asked peer) number ≡ Some request
-    → (now : Request) × (numbered (later peer) number ≡ Some now) × IsStill request.back request now
+    (peer number : ℕ) (request : Request) → element_at (asked peer) number ≡ Some request
+    → (now : Request) × (element_at (later peer) number ≡ Some now) × IsStill request.back request now
 
 -- one is the request of this number to that peer, in that slot
 abbrev pub is_it : (from slot number peer any : ℕ) → Request → Bool
@@ -29,8 +29,8 @@ is_it from slot number peer any request = (peer == from) && ((request.slot == sl
 -- each request is still there, and is back where it was or is the one that came back
 abbrev pub Returns : (from slot number : ℕ) → (asked later : ℕ → List Request) → Type 0
 Returns from slot number asked later =
-    (peer any : ℕ) (request : Request) → numbered (asked peer) any ≡ Some request
-    → (now : Request) × (numbered (later peer) any ≡ Some now)
+    (peer any : ℕ) (request : Request) → element_at (asked peer) any ≡ Some request
+    → (now : Request) × (element_at (later peer) any ≡ Some now)
     × IsStill (if is_it from slot number peer any request then true else request.back) request now
 
 -- one is added
@@ -39,33 +39,33 @@ pub stay_push : (asked : ℕ → List Request) (to : ℕ) (new : Request)
 stay_push asked to new peer number request at = elim (cases_eq peer to) [
   | inl same ↦ (
     request,
-    ap (λ list. numbered list number)
+    ap (λ list. element_at list number)
         (ap (put asked to (asked to ++ new ∷ [])) same ∙ put_same asked to (asked to ++ new ∷ []))
-        ∙ numbered_kept (asked to) new number request (ap (λ one. numbered (asked one) number) (sym same) ∙ at),
+        ∙ numbered_kept (asked to) new number request (ap (λ one. element_at (asked one) number) (sym same) ∙ at),
     record { slot = refl; content = refl; back_is = refl },
   )
   | inr apart ↦ (
     request,
-    ap (λ list. numbered list number) (put_other asked to (asked to ++ new ∷ []) peer apart) ∙ at,
+    ap (λ list. element_at list number) (put_other asked to (asked to ++ new ∷ []) peer apart) ∙ at,
     record { slot = refl; content = refl; back_is = refl },
   )
 ]
 
 -- the request of this number to a peer changes, and no other
 pub changed : (asked : ℕ → List Request) (f : Request → Request) (to number peer any : ℕ) (request : Request)
-    → numbered (asked peer) any ≡ Some request
-    → (now : Request) × (numbered (put asked to (change f (asked to) number) peer) any ≡ Some now)
+    → element_at (asked peer) any ≡ Some request
+    → (now : Request) × (element_at (put asked to (change f (asked to) number) peer) any ≡ Some now)
     × (((peer ≡ to) × (any ≡ number) × (now ≡ f request)) ⊎ ((((peer ≡ to) × (any ≡ number)) → ⊥) × (now ≡ request)))
 changed asked f to number peer any request at = elim (cases_eq peer to) [
   | inl same ↦ (
       let here : put asked to (change f (asked to) number) peer ≡ change f (asked to) number =
       ap (put asked to (change f (asked to) number)) same ∙ put_same asked to (change f (asked to) number) in
-      let was : numbered (asked to) any ≡ Some request = ap (λ one. numbered (asked one) any) (sym same) ∙ at in
+      let was : element_at (asked to) any ≡ Some request = ap (λ one. element_at (asked one) any) (sym same) ∙ at in
       let now = numbered-changed f (asked to) number any request was in
       let before = numbered-change f (asked to) number any now.0 now.1 in
       let is : before.0 ≡ request = same_Some _ _ (sym before.1 ∙ was) in (
         now.0,
-        ap (λ list. numbered list any) here ∙ now.1,
+        ap (λ list. element_at list any) here ∙ now.1,
         elim before.2 [
           | inl other ↦ inr ((λ both. other.0 both.1), other.1 ∙ is)
           | inr one ↦ inl (same, one.0, one.1 ∙ ap f is)
@@ -73,7 +73,7 @@ changed asked f to number peer any request at = elim (cases_eq peer to) [
       ))
   | inr apart ↦ (
     request,
-    ap (λ list. numbered list any) (put_other asked to (change f (asked to) number) peer apart) ∙ at,
+    ap (λ list. element_at list any) (put_other asked to (change f (asked to) number) peer apart) ∙ at,
     inr ((λ both. apart both.0), refl),
   )
 ]
@@ -116,7 +116,7 @@ not_it from slot number peer any request none = elim (cases_eq peer from) [
 
 -- one comes back
 pub returns_back : (asked : ℕ → List Request) (from slot number : ℕ) (one : Request)
-    → numbered (asked from) number ≡ Some one → one.slot ≡ slot
+    → element_at (asked from) number ≡ Some one → one.slot ≡ slot
     → Returns from slot number asked (put asked from (change as_back (asked from) number))
 returns_back asked from slot number one here in_slot peer any request at =
     let now = changed asked as_back from number peer any request at in (
@@ -124,8 +124,8 @@ returns_back asked from slot number one here in_slot peer any request at =
       now.1,
       elim now.2 [
         | inl it ↦ (
-            let same : request ≡ one = same_Some _ _ (sym at ∙ (ap (λ p. numbered (asked p) any) it.0
-            ∙ (ap (numbered (asked from)) it.1 ∙ here))) in
+            let same : request ≡ one = same_Some _ _ (sym at ∙ (ap (λ p. element_at (asked p) any) it.0
+            ∙ (ap (element_at (asked from)) it.1 ∙ here))) in
             let slot_is : request.slot ≡ slot = ap (λ (r : Request). r.slot) same ∙ in_slot in
             record {
               slot = ap (λ (r : Request). r.slot) it.2;
@@ -154,5 +154,5 @@ returns_none asked from slot peer any request at = (
   },
 )
   where
-    none : (number : ℕ) → number ≡ 0 → numbered (asked peer) number ≡ Some request → ⊥
+    none : (number : ℕ) → number ≡ 0 → element_at (asked peer) number ≡ Some request → ⊥
     none number zero_is here = absurd (omega (arith, zero_is, numbered_in (asked peer) number request here))

@@ -8,13 +8,13 @@ use Rattle.std.specs.List.{slice_get, list_all}
 use Rattle.std.proofs.lemmas.Bool.{cases_Bool, cases_eq, and_parts, and_from}
 use Rattle.std.proofs.lemmas.List.{length-map, length-append}
 use Rattle.std.proofs.lemmas.Option.{same_Some}
-use Rattle.base_lists.specs.Numbered.{numbered, change}
+use Rattle.base_lists.specs.Numbered.{element_at, change}
 use Rattle.base_lists.proofs.Cases.{none_some}
 use Rattle.base_lists.proofs.Places.{slice_get_push}
 use Rattle.base_lists.proofs.Numbered.{numbered_push, numbered-change, numbered_mapped}
 use Rattle.spec_node.specs.Record.{Request}
 use Rattle.part_transfers.specs.declared.operation.Transfer.{Transfer}
-use Rattle.part_transfers.specs.Operation.{Operation, Sent, target, size, chunks, has_next, is_complete, went_as, as_back}
+use Rattle.part_transfers.specs.Operation.{Operation, SentChunk, target, size, chunks, has_next, is_complete, went_as, as_back}
 use Rattle.part_transfers.specs.Operation.{with_back}
 use Rattle.part_transfers.specs.Operation.{come_back, with_sent, chunk_of}
 use Rattle.part_transfers.specs.Syncs.{Choice, go}
@@ -45,13 +45,13 @@ tracks_stay version asked later operations stay tracks = record {
 -- ---- an operation begins
 
 -- a chunk of an operation that has issued none
-no_chunk : (operation : Operation) (index : ℕ) (sent : Sent) → operation.sent ≡ []
+no_chunk : (operation : Operation) (index : ℕ) (sent : SentChunk) → operation.sent ≡ []
     → slice_get operation.sent index ≡ Some sent → ⊥
 no_chunk operation index sent none at = none_some (sym (ap (λ sents. slice_get sents index) none) ∙ at)
 
 -- the chunk where its operation has this number
-abbrev chunk_in : (operations : List Operation) (number index : ℕ) (operation : Operation) (sent : Sent)
-    → numbered operations number ≡ Some operation → slice_get operation.sent index ≡ Some sent
+abbrev chunk_in : (operations : List Operation) (number index : ℕ) (operation : Operation) (sent : SentChunk)
+    → element_at operations number ≡ Some operation → slice_get operation.sent index ≡ Some sent
     → IsIssuedChunk operations number index
 chunk_in operations number index operation sent here at =
     record { operation = operation; sent = sent; numbered_so = here; issued = at }
@@ -82,7 +82,7 @@ tracks_begun version asked operations new none fresh tracks = record {
 }
   where
     before : (number index : ℕ) (chunk : IsIssuedChunk (operations ++ new ∷ []) number index)
-        → numbered operations number ≡ Some chunk.operation
+        → element_at operations number ≡ Some chunk.operation
     before number index chunk = elim (numbered_push operations new number chunk.operation chunk.numbered_so) [
       | inl was ↦ was
       | inr is ↦ absurd (no_chunk chunk.operation index chunk.sent
@@ -97,12 +97,12 @@ pub record IsSameButSynced (was now : Operation) : Type 0 where
   pub sent : now.sent ≡ was.sent
 
 -- a request of a chunk is one of it where its operation has the same transfer
-request_alike : (version : ℕ) (asked : ℕ → List Request) (number index : ℕ) (was now : Operation) (sent : Sent)
+request_alike : (version : ℕ) (asked : ℕ → List Request) (number index : ℕ) (was now : Operation) (sent : SentChunk)
     → now.transfer ≡ was.transfer → IsRequestOf version asked number index was sent
     → IsRequestOf version asked number index now sent
 request_alike version asked number index was now sent same is = record {
   request = is.request;
-  accepted = ap (λ transfer. numbered (asked (target transfer)) sent.number) same ∙ is.accepted;
+  accepted = ap (λ transfer. element_at (asked (target transfer)) sent.number) same ∙ is.accepted;
   slot = is.slot;
   content = is.content ∙ ap (λ transfer. chunk_content version (chunk_at transfer number index) sent.bytes) (sym same);
   back = is.back;
@@ -151,8 +151,8 @@ go_was choice first (operation ∷ later) (suc place) now at =
 
 -- the same by numbers
 pub number_was : (choice : Choice) (operations : List Operation) (number : ℕ) (now : Operation)
-    → numbered (go choice 1 operations) number ≡ Some now
-    → (was : Operation) × (numbered operations number ≡ Some was) × IsSameButSynced was now
+    → element_at (go choice 1 operations) number ≡ Some now
+    → (was : Operation) × (element_at operations number ≡ Some was) × IsSameButSynced was now
     × ((now.synced ≡ was.synced) ⊎ (choice number was ≡ true))
 number_was choice operations zero now at = absurd (none_some at)
 number_was choice operations (suc place) now at =
@@ -162,7 +162,7 @@ number_was choice operations (suc place) now at =
 -- all that are chosen are complete
 abbrev pub AreComplete : Choice → List Operation → Type 0
 AreComplete choice operations =
-    (number : ℕ) (operation : Operation) → numbered operations number ≡ Some operation
+    (number : ℕ) (operation : Operation) → element_at operations number ≡ Some operation
     → choice number operation ≡ true → is_complete operation ≡ true
 
 pub tracks_go : (version : ℕ) (asked : ℕ → List Request) (operations : List Operation) (choice : Choice)
@@ -181,7 +181,7 @@ tracks_go version asked operations choice all tracks = record {
       let was = number_was choice operations number operation at in
       let less = tracks.few number was.0 was.1 in
       subst (λ (o : Transfer). length operation.sent ≤ chunks (size o)) (sym was.2.transfer)
-      (subst (λ (sents : List Sent). length sents ≤ chunks (size was.0.transfer)) (sym was.2.sent) less);
+      (subst (λ (sents : List SentChunk). length sents ≤ chunks (size was.0.transfer)) (sym was.2.sent) less);
   complete = λ number operation at synced.
       let was = number_was choice operations number operation at in
       complete_alike was.0 operation was.2 ∙ elim was.3 [
@@ -216,8 +216,8 @@ after_return from slot request was = elim (cases_eq (target was.transfer) from) 
 ]
 
 pub return_was : (from slot request : ℕ) (operations : List Operation) (number : ℕ) (now : Operation)
-    → numbered (come_back from slot request operations) number ≡ Some now
-    → (was : Operation) × (numbered operations number ≡ Some was) × IsAfterReturn from slot request was now
+    → element_at (come_back from slot request operations) number ≡ Some now
+    → (was : Operation) × (element_at operations number ≡ Some was) × IsAfterReturn from slot request was now
 return_was from slot request operations number now at =
     let was = come_back_was from slot request operations number now at in (
       was.0,
@@ -227,13 +227,13 @@ return_was from slot request operations number now at =
     )
 
 -- a chunk then, by the one that it was
-record IsAfterReply (from slot request to : ℕ) (was now : Sent) : Type 0 where
+record IsAfterReply (from slot request to : ℕ) (was now : SentChunk) : Type 0 where
   slot_is : now.slot ≡ was.slot
   number : now.number ≡ was.number
   bytes : now.bytes ≡ was.bytes
   back : now.back ≡ (if (to == from) && ((was.slot == slot) && (was.number == request)) then true else was.back)
 
-here_after : (from slot request to : ℕ) (was : Sent) → to ≡ from
+here_after : (from slot request to : ℕ) (was : SentChunk) → to ≡ from
     → IsAfterReply from slot request to was (as_back slot request was)
 here_after from slot request to was same = elim (cases_Bool ((was.slot == slot) && (was.number == request))) [
   | inl it ↦ rw it
@@ -242,9 +242,9 @@ here_after from slot request to was same = elim (cases_Bool ((was.slot == slot) 
       (record { slot_is = refl; number = refl; bytes = refl; back = sym (rw (eq-eqb to from same, other) refl) })
 ]
 
-sent_was : (from slot request : ℕ) (was now : Operation) (index : ℕ) (sent : Sent)
+sent_was : (from slot request : ℕ) (was now : Operation) (index : ℕ) (sent : SentChunk)
     → IsAfterReturn from slot request was now → slice_get now.sent index ≡ Some sent
-    → (before : Sent) × (slice_get was.sent index ≡ Some before)
+    → (before : SentChunk) × (slice_get was.sent index ≡ Some before)
     × IsAfterReply from slot request (target was.transfer) before sent
 sent_was from slot request was now index sent after at = elim after.sent [
   | inl here ↦ (
@@ -252,7 +252,7 @@ sent_was from slot request was now index sent after at = elim after.sent [
       (ap (λ sents. slice_get sents index) (sym here.1) ∙ at) in (
         before.0,
         before.1,
-        subst (λ (s : Sent). IsAfterReply from slot request (target was.transfer) before.0 s) before.2
+        subst (λ (s : SentChunk). IsAfterReply from slot request (target was.transfer) before.0 s) before.2
             (here_after from slot request (target was.transfer) before.0 here.0),
       ))
   | inr there ↦ (
@@ -268,11 +268,11 @@ sent_was from slot request was now index sent after at = elim after.sent [
 ]
 
 -- what was complete is
-all_back : (slot request : ℕ) (sents : List Sent) → list_all (λ (sent : Sent). sent.back) sents ≡ true
-    → list_all (λ (sent : Sent). sent.back) (map (as_back slot request) sents) ≡ true
+all_back : (slot request : ℕ) (sents : List SentChunk) → list_all (λ (sent : SentChunk). sent.back) sents ≡ true
+    → list_all (λ (sent : SentChunk). sent.back) (map (as_back slot request) sents) ≡ true
 all_back slot request [] all = refl
 all_back slot request (sent ∷ later) all =
-    let both = and_parts sent.back (list_all (λ (s : Sent). s.back) later) all in
+    let both = and_parts sent.back (list_all (λ (s : SentChunk). s.back) later) all in
     and_from _ _ (one (went_as slot request sent) both.0) (all_back slot request later both.1)
   where
     one : (it : Bool) → sent.back ≡ true
@@ -290,12 +290,12 @@ still_many from slot request was now after = elim after.sent [
 still_complete : (from slot request : ℕ) (was now : Operation) → IsAfterReturn from slot request was now
     → is_complete was ≡ true → is_complete now ≡ true
 still_complete from slot request was now after done =
-    let both = and_parts (not (has_next was)) (list_all (λ (s : Sent). s.back) was.sent) done in
+    let both = and_parts (not (has_next was)) (list_all (λ (s : SentChunk). s.back) was.sent) done in
     let many : has_next now ≡ has_next was =
     rw (after.transfer, still_many from slot request was now after) refl in
     and_from _ _ (ap not many ∙ both.0) (elim after.sent [
-      | inl here ↦ ap (list_all (λ (s : Sent). s.back)) here.1 ∙ all_back slot request was.sent both.1
-      | inr there ↦ ap (list_all (λ (s : Sent). s.back)) there.1 ∙ both.1
+      | inl here ↦ ap (list_all (λ (s : SentChunk). s.back)) here.1 ∙ all_back slot request was.sent both.1
+      | inr there ↦ ap (list_all (λ (s : SentChunk). s.back)) there.1 ∙ both.1
     ])
 
 pub tracks_back : (version from slot number : ℕ) (asked later : ℕ → List Request) (operations : List Operation)
@@ -309,8 +309,8 @@ tracks_back version from slot number asked later operations returns tracks = rec
       let now = returns (target was.0.transfer) sent.0.number is.request is.accepted in
       record {
         request = now.0;
-        accepted = ap (λ transfer. numbered (later (target transfer)) chunk.sent.number) was.2.transfer
-            ∙ (ap (numbered (later (target was.0.transfer))) sent.2.number ∙ now.1);
+        accepted = ap (λ transfer. element_at (later (target transfer)) chunk.sent.number) was.2.transfer
+            ∙ (ap (element_at (later (target was.0.transfer))) sent.2.number ∙ now.1);
         slot = now.2.slot ∙ (is.slot ∙ sym sent.2.slot_is);
         content = now.2.content ∙ (is.content
             ∙ (ap (λ bytes. chunk_content version (chunk_at was.0.transfer place index) bytes) (sym sent.2.bytes)
@@ -348,20 +348,20 @@ tracks_back version from slot number asked later operations returns tracks = rec
 
 -- no request to the node has the number
 abbrev pub IsFresh : (asked : ℕ → List Request) → (to number : ℕ) → Type 0
-IsFresh asked to number = (request : Request) → numbered (asked to) number ≡ Some request → ⊥
+IsFresh asked to number = (request : Request) → element_at (asked to) number ≡ Some request → ⊥
 
 -- the operation of that number issues its next chunk as this request, which went as the chunk says
 pub record Issues (version : ℕ) (asked later : ℕ → List Request) (operations : List Operation) (place : ℕ)
     : Type 0 where
   pub operation : Operation
-  pub here : numbered operations place ≡ Some operation
+  pub here : element_at operations place ≡ Some operation
   pub has : has_next operation ≡ true
   pub request : Request
   pub number : ℕ
   pub bytes : List ℕ
   pub stay : Stay asked later
   pub fresh : IsFresh asked (target operation.transfer) number
-  pub accepted : numbered (later (target operation.transfer)) number ≡ Some request
+  pub accepted : element_at (later (target operation.transfer)) number ≡ Some request
   pub content : request.content ≡ chunk_content version (chunk_of place operation) bytes
   pub open_ : request.back ≡ false
 
@@ -372,14 +372,14 @@ after_issue {operations = operations} {place = place} it =
     change (with_sent it.request.slot it.number it.bytes) operations place
 
 -- the chunk that is new
-abbrev new_sent : (slot number : ℕ) (bytes : List ℕ) → Sent
+abbrev new_sent : (slot number : ℕ) (bytes : List ℕ) → SentChunk
 new_sent slot number bytes = record { slot = slot; number = number; bytes = bytes; back = false }
 
 -- a chunk then was one before, or is the new one
 data IsThen {version : ℕ} {asked later : ℕ → List Request} {operations : List Operation} {place : ℕ}
-    (it : Issues version asked later operations place) (number index : ℕ) (now : Operation) (sent : Sent)
+    (it : Issues version asked later operations place) (number index : ℕ) (now : Operation) (sent : SentChunk)
     : Type 0 where
-  Old : (was : Operation) → now.transfer ≡ was.transfer → numbered operations number ≡ Some was
+  Old : (was : Operation) → now.transfer ≡ was.transfer → element_at operations number ≡ Some was
       → slice_get was.sent index ≡ Some sent → IsThen it number index now sent
   New : number ≡ place → index ≡ length it.operation.sent → now.transfer ≡ it.operation.transfer
       → sent ≡ new_sent it.request.slot it.number it.bytes → IsThen it number index now sent
@@ -395,7 +395,7 @@ then_is version asked later operations place it number index chunk =
       | inl other ↦ Old was.0 (ap (λ (o : Operation). o.transfer) other.1) was.1
           (ap (λ (o : Operation). slice_get o.sent index) (sym other.1) ∙ chunk.issued)
       | inr one ↦
-          let same : was.0 ≡ it.operation = same_Some _ _ (sym was.1 ∙ (ap (numbered operations) one.0 ∙ it.here)) in
+          let same : was.0 ≡ it.operation = same_Some _ _ (sym was.1 ∙ (ap (element_at operations) one.0 ∙ it.here)) in
           let transfer : chunk.operation.transfer ≡ was.0.transfer = ap (λ (o : Operation). o.transfer) one.1 in
           elim (slice_get_push was.0.sent (new_sent it.request.slot it.number it.bytes) index chunk.sent
           (ap (λ (o : Operation). slice_get o.sent index) (sym one.1) ∙ chunk.issued)) [
@@ -407,26 +407,26 @@ then_is version asked later operations place it number index chunk =
 
 -- the request of a chunk that is new
 new_request : (version : ℕ) (asked later : ℕ → List Request) (operations : List Operation) (place : ℕ)
-    (it : Issues version asked later operations place) (number index : ℕ) (now : Operation) (sent : Sent)
+    (it : Issues version asked later operations place) (number index : ℕ) (now : Operation) (sent : SentChunk)
     → number ≡ place → index ≡ length it.operation.sent → now.transfer ≡ it.operation.transfer
     → sent ≡ new_sent it.request.slot it.number it.bytes
     → IsRequestOf version later number index now sent
 new_request version asked later operations place it number index now sent here last same is = record {
   request = it.request;
-  accepted = ap (λ (s : Sent). numbered (later (target now.transfer)) s.number) is
-      ∙ (ap (λ transfer. numbered (later (target transfer)) it.number) same ∙ it.accepted);
-  slot = ap (λ (s : Sent). s.slot) (sym is);
+  accepted = ap (λ (s : SentChunk). element_at (later (target now.transfer)) s.number) is
+      ∙ (ap (λ transfer. element_at (later (target transfer)) it.number) same ∙ it.accepted);
+  slot = ap (λ (s : SentChunk). s.slot) (sym is);
   content = it.content
       ∙ (ap (λ n. chunk_content version (chunk_at it.operation.transfer n (length it.operation.sent)) it.bytes)
       (sym here)
       ∙ (ap (λ i. chunk_content version (chunk_at it.operation.transfer number i) it.bytes) (sym last)
       ∙ (ap (λ transfer. chunk_content version (chunk_at transfer number index) it.bytes) (sym same)
-      ∙ ap (λ (s : Sent). chunk_content version (chunk_at now.transfer number index) s.bytes) (sym is))));
-  back = it.open_ ∙ ap (λ (s : Sent). s.back) (sym is);
+      ∙ ap (λ (s : SentChunk). chunk_content version (chunk_at now.transfer number index) s.bytes) (sym is))));
+  back = it.open_ ∙ ap (λ (s : SentChunk). s.back) (sym is);
 }
 
 -- an operation then has as many chunks, or it is the one that issued, with one more
-few_then : (sents : List Sent) (sent : Sent) (many : ℕ) → nat_lt (length sents) many ≡ true
+few_then : (sents : List SentChunk) (sent : SentChunk) (many : ℕ) → nat_lt (length sents) many ≡ true
     → length (sents ++ sent ∷ []) ≤ many
 few_then sents sent many less =
     omega (arith, length-append sents (sent ∷ []), ltb-true (length sents) many less)
@@ -447,7 +447,7 @@ tracks_issued version asked later operations place it tracks = record {
         | inl other ↦ subst (λ (o : Operation). length o.sent ≤ chunks (size o.transfer)) (sym other.1)
             (tracks.few number was.0 was.1)
         | inr one ↦
-            let same : was.0 ≡ it.operation = same_Some _ _ (sym was.1 ∙ (ap (numbered operations) one.0 ∙ it.here)) in
+            let same : was.0 ≡ it.operation = same_Some _ _ (sym was.1 ∙ (ap (element_at operations) one.0 ∙ it.here)) in
             subst (λ (o : Operation). length o.sent ≤ chunks (size o.transfer)) (sym one.1)
             (few_then was.0.sent _ (chunks (size was.0.transfer)) (ap has_next same ∙ it.has))
       ];
@@ -457,7 +457,7 @@ tracks_issued version asked later operations place it tracks = record {
         | inl other ↦ ap is_complete other.1 ∙ tracks.complete number was.0 was.1
             (ap (λ (o : Operation). o.synced) (sym other.1) ∙ synced)
         | inr one ↦
-            let same : was.0 ≡ it.operation = same_Some _ _ (sym was.1 ∙ (ap (numbered operations) one.0 ∙ it.here)) in
+            let same : was.0 ≡ it.operation = same_Some _ _ (sym was.1 ∙ (ap (element_at operations) one.0 ∙ it.here)) in
             let done : is_complete was.0 ≡ true =
             tracks.complete number was.0 was.1 (ap (λ (o : Operation). o.synced) (sym one.1) ∙ synced) in
             absurd (unfinished was.0 (ap has_next same ∙ it.has) done)
@@ -470,8 +470,8 @@ tracks_issued version asked later operations place it tracks = record {
     unfinished : (was : Operation) → has_next was ≡ true → is_complete was ≡ true → ⊥
     unfinished was has done = true≢false (sym done ∙ rw has refl)
 
-    old : (number index : ℕ) (now was : Operation) (sent : Sent) → now.transfer ≡ was.transfer
-        → numbered operations number ≡ Some was → slice_get was.sent index ≡ Some sent
+    old : (number index : ℕ) (now was : Operation) (sent : SentChunk) → now.transfer ≡ was.transfer
+        → element_at operations number ≡ Some was → slice_get was.sent index ≡ Some sent
         → IsRequestOf version later number index now sent
     old number index now was sent same here at =
         request_alike version later number index was now sent same
@@ -487,13 +487,13 @@ tracks_issued version asked later operations place it tracks = record {
         new_request version asked later operations place it number index chunk.operation chunk.sent here last same is
 
     -- the request of an old chunk isn't the new one
-    not_new : (number index : ℕ) (was : Operation) (sent : Sent) → numbered operations number ≡ Some was
+    not_new : (number index : ℕ) (was : Operation) (sent : SentChunk) → element_at operations number ≡ Some was
         → slice_get was.sent index ≡ Some sent → target was.transfer ≡ target it.operation.transfer
         → sent.number ≡ it.number → ⊥
     not_new number index was sent here at same numbers =
         let is = tracks.request number index (chunk_in operations number index was sent here at) in
-        it.fresh is.request (ap (λ to. numbered (asked to) it.number) (sym same)
-        ∙ (ap (numbered (asked (target was.transfer))) (sym numbers) ∙ is.accepted))
+        it.fresh is.request (ap (λ to. element_at (asked to) it.number) (sym same)
+        ∙ (ap (element_at (asked (target was.transfer))) (sym numbers) ∙ is.accepted))
 
     apart : (number index other second_index : ℕ) (chunk : IsIssuedChunk (after_issue it) number index)
         (second : IsIssuedChunk (after_issue it) other second_index)
@@ -506,9 +506,9 @@ tracks_issued version asked later operations place it tracks = record {
         (ap target (sym t) ∙ (same ∙ ap target u)) numbers
     apart number index other second_index chunk second same numbers (Old was t here at) (New place_is last u is) =
         absurd (not_new number index was chunk.sent here at (ap target (sym t) ∙ (same ∙ ap target u))
-        (numbers ∙ ap (λ (s : Sent). s.number) is))
+        (numbers ∙ ap (λ (s : SentChunk). s.number) is))
     apart number index other second_index chunk second same numbers (New place_is last t is) (Old also u there put_at) =
         absurd (not_new other second_index also second.sent there put_at
-        (ap target (sym u) ∙ (sym same ∙ ap target t)) (sym numbers ∙ ap (λ (s : Sent). s.number) is))
+        (ap target (sym u) ∙ (sym same ∙ ap target t)) (sym numbers ∙ ap (λ (s : SentChunk). s.number) is))
     apart number index other second_index chunk second same numbers (New place_is last t is) (New also_is end u also) =
         (place_is ∙ sym also_is, last ∙ sym end)

@@ -18,7 +18,7 @@ use Rattle.node_rules.specs.declared.answer.Begun.TheVariants as begun
 use Rattle.node_rules.specs.EndpointLocal.{EndpointLocal, with_core}
 use Rattle.node_rules.specs.CoreCalls.{LocalCall, Poll, Attempt, if_allowed, local_does}
 use Rattle.node_rules.specs.TransferCalls.{TransferCall, Begin, BeginImplicit, SyncImplicit, RegionBegin, RegionEnd}
-use Rattle.node_rules.specs.TransferCalls.{Caller, transfer_does, begin_says, after_beginning, ended}
+use Rattle.node_rules.specs.TransferCalls.{Caller, transfer_does, begin_says, after_beginning, after_region}
 use Rattle.node_rules.specs.EndpointRules.{OnCore, OnTransfers, OnBarrier, endpoint_rules}
 use Rattle.node_rules.specs.EndpointRules.{unless_forbidden}
 use Rattle.node_rules.specs.Touches.{Parts, nothing, touches, IsFramed, CallsAreFramed}
@@ -68,15 +68,15 @@ begun_rest caller transfer mode begun.Done local = refl
 begun_rest caller transfer mode _ local = refl
 
 ended_rest : (caller : Caller) (register : ℕ) (was : Option Region) (local : EndpointLocal)
-    → (ended caller register was local).1
-    ≡ touched_only (touches (OnTransfers (RegionEnd register))) local (ended caller register was local).1
+    → (after_region caller register was local).1
+    ≡ touched_only (touches (OnTransfers (RegionEnd register))) local (after_region caller register was local).1
 ended_rest caller register None local = refl
 ended_rest caller register (Some was) local = by_name was.name
   where
     by_name : (name : Option ℕ)
-        → (ended caller register (Some (record was { name = name })) local).1
+        → (after_region caller register (Some (record was { name = name })) local).1
         ≡ touched_only (touches (OnTransfers (RegionEnd register))) local
-        (ended caller register (Some (record was { name = name })) local).1
+        (after_region caller register (Some (record was { name = name })) local).1
     by_name None = refl
     by_name (Some name) = refl
 

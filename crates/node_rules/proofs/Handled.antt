@@ -10,7 +10,7 @@ use Rattle.wire_message.specs.Parameters.{Parameters}
 use Rattle.wire_message.specs.Content.{Content, is_request, code, is_ack, is_long}
 use Rattle.wire_message.specs.declared.kind.Kind.{Kind}
 use Rattle.wire_message.specs.declared.kind.Kind.TheVariants as kind
-use Rattle.wire_message.specs.Notes.{argument}
+use Rattle.wire_message.specs.Notifications.{argument}
 use Rattle.part_segment.specs.Bytes.{part}
 use Rattle.part_segment.specs.Image.{AllFit}
 use Rattle.part_segment.proofs.Images.{all_fit_none, all_fit_one}

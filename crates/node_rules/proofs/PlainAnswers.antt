@@ -16,7 +16,7 @@ use Rattle.node_rules.specs.Memory.{SegmentCall, Show, Set, Fill, LoadWord, SetW
 use Rattle.node_rules.specs.BarrierCalls.{BarrierCall, Notify, barrier_does}
 use Rattle.node_rules.specs.CoreCalls.{Poll, Attempt, OnSegment, if_allowed}
 use Rattle.node_rules.specs.TransferCalls.{TransferCall, SyncImplicit, RegionBegin, RegionEnd, Caller, transfer_does}
-use Rattle.node_rules.specs.TransferCalls.{ended}
+use Rattle.node_rules.specs.TransferCalls.{after_region}
 use Rattle.node_rules.specs.EndpointRules.{OnCore, OnTransfers, OnBarrier, unless_forbidden}
 use Rattle.node_rules.specs.PlainAnswers.{is_plain_answer, shows, AnswersArePlain}
 
@@ -51,11 +51,11 @@ segment_plain bytes (SetWord offset value) e = elim (cases_Bool (nat_lt (length 
 
 -- a call on transfers
 ended_plain : (caller : Caller) (register : ℕ) (was : Option Region) (local : EndpointLocal)
-    → is_plain_answer (ended caller register was local).0 ≡ true
+    → is_plain_answer (after_region caller register was local).0 ≡ true
 ended_plain caller register None local = refl
 ended_plain caller register (Some was) local = by_name was.name
   where
-    by_name : (name : Option ℕ) → is_plain_answer (ended caller register (Some (record { name = name })) local).0 ≡ true
+    by_name : (name : Option ℕ) → is_plain_answer (after_region caller register (Some (record { name = name })) local).0 ≡ true
     by_name None = refl
     by_name (Some name) = refl
 

@@ -7,7 +7,7 @@ use Rattle.std.proofs.lemmas.Bool.{cases_Bool, and_parts, eqb-true}
 use Rattle.base_lists.proofs.Cases.{none_some}
 use Rattle.wire_message.specs.Parameters.{Parameters, AreInRange}
 use Rattle.wire_message.specs.Content.{Content}
-use Rattle.wire_message.specs.Notes.{is_no_note}
+use Rattle.wire_message.specs.Notifications.{is_no_notification}
 use Rattle.part_handlers.specs.declared.table.Entry.{Entry}
 use Rattle.part_handlers.specs.Runs.{Meaning, IsLawfulMeaning}
 use Rattle.spec_node.specs.declared.answer.SlotRef.{SlotRef}
@@ -19,38 +19,38 @@ use Rattle.part_barrier.proofs.Within.{stays_within}
 use Rattle.part_transfers.specs.Operation.{Operation, issue, come_back}
 use Rattle.part_transfers.proofs.Issued.{issue_was}
 use Rattle.node_core.specs.Kept.{segment_of}
-use Rattle.node_core.specs.Library.{is_library, note_handler, note_said, has_wrong_args, run_answer}
+use Rattle.node_core.specs.Library.{is_library, notification_handler, notification_said, has_wrong_args, run_answer}
 use Rattle.node_core.specs.ClientRules.{content_refusal}
 use Rattle.node_rules.specs.EndpointLocal.{EndpointLocal, IsEndpointKept, AreByChunks, IsByChunks}
 use Rattle.node_rules.specs.BarrierCalls.{has_ranges}
-use Rattle.node_rules.specs.EndpointRules.{after_note, after_sent, sent_as, all_rules}
+use Rattle.node_rules.specs.EndpointRules.{after_notification, after_sent, sent_as, all_rules}
 use Rattle.node_rules.proofs.Chunks.{return_was}
-use Rattle.node_rules.proofs.Noting.{heard_note}
+use Rattle.node_rules.proofs.Noting.{heard_notification}
 use Rattle.node_rules.proofs.Handled.{asking_well, run_replies, request_kept, reply_kept, well_is, asks_no_ack}
 use Rattle.node_rules.proofs.Works.{sending_well}
 use Rattle.node_rules.proofs.Kept.{calls_kept}
 
 -- what is heard of a request that isn't refused can be sent on
-note_kept : (settings : Parameters) (table : List (Option Entry)) (content : Content) (barrier : BarrierRecord)
+notification_kept : (settings : Parameters) (table : List (Option Entry)) (content : Content) (barrier : BarrierRecord)
     → asks_well (content_refusal settings table) content ≡ true → IsNotedWithin settings.nodes barrier
-    → IsNotedWithin settings.nodes (after_note settings content barrier)
-note_kept settings table content barrier well good =
-    let note = note_said settings.version content.args in
-    elim (cases_Bool ((content.handler == note_handler) && has_ranges note)) [
+    → IsNotedWithin settings.nodes (after_notification settings content barrier)
+notification_kept settings table content barrier well good =
+    let notification = notification_said settings.version content.args in
+    elim (cases_Bool ((content.handler == notification_handler) && has_ranges notification)) [
       | inl heard ↦
-          let both = and_parts (content.handler == note_handler) (has_ranges note) heard in
-          let same : content.handler ≡ note_handler = eqb-true content.handler note_handler both.0 in
+          let both = and_parts (content.handler == notification_handler) (has_ranges notification) heard in
+          let same : content.handler ≡ notification_handler = eqb-true content.handler notification_handler both.0 in
           let parts = and_parts _ _ well in
           let is = well_is settings table content (asks_no_ack content.kind parts.0) parts.1 in
           let taken = is.right (own content.handler same) in
-          let right : is_no_note settings.version settings.nodes content.args ≡ false =
+          let right : is_no_notification settings.version settings.nodes content.args ≡ false =
           ap (λ handler. has_wrong_args settings handler content.args) (sym same) ∙ taken.right in
-          rw heard ((stays_within.1 settings.nodes barrier good).hear note
-          (heard_note settings.version settings.nodes content.args right both.1))
+          rw heard ((stays_within.1 settings.nodes barrier good).hear notification
+          (heard_notification settings.version settings.nodes content.args right both.1))
       | inr other ↦ rw other good
     ]
   where
-    own : (handler : ℕ) → handler ≡ note_handler → is_library handler ≡ true
+    own : (handler : ℕ) → handler ≡ notification_handler → is_library handler ≡ true
     own handler same = ap is_library same
 
 -- the operations keep their transfers where a reply comes back
@@ -76,8 +76,8 @@ issued_kept settings me to slot request bytes operations good (suc place) operat
 sent_kept : (settings : Parameters) (contact : Contact) (content : Content) (local : EndpointLocal)
     → IsEndpointKept settings contact.me local
     → IsEndpointKept settings contact.me (after_sent settings contact content local)
-sent_kept settings contact content local good = elim (cases_Bool (content.handler == note_handler)) [
-  | inl note ↦ rw note (record {
+sent_kept settings contact content local good = elim (cases_Bool (content.handler == notification_handler)) [
+  | inl notification ↦ rw notification (record {
     core = good.core;
     operations = good.operations;
     barrier = (stays_within.1 settings.nodes local.barrier good.barrier).send contact.peer _;
@@ -92,14 +92,14 @@ sent_kept settings contact content local good = elim (cases_Bool (content.handle
 
 -- a run is told as one
 told_run : (version : ℕ) (content : Content) (place : SlotRef) → RanRequest (run_answer version content place) place
-told_run version content place = elim (cases_Bool (content.handler == note_handler)) [
-  | inl note ↦ rw note refl
+told_run version content place = elim (cases_Bool (content.handler == notification_handler)) [
+  | inl notification ↦ rw notification refl
   | inr other ↦ rw other refl
 ]
 
 told_sent : (content : Content) (place : SlotRef) → IsFirstSent (sent_as content place) place
-told_sent content place = elim (cases_Bool (content.handler == note_handler)) [
-  | inl note ↦ rw note refl
+told_sent content place = elim (cases_Bool (content.handler == notification_handler)) [
+  | inl notification ↦ rw notification refl
   | inr chunk ↦ rw chunk refl
 ]
 
@@ -121,7 +121,7 @@ rules_sound settings table meaning range lawful = record {
     run = λ contact content local good well. record {
       core = request_kept settings table meaning contact content local.core lawful well good.core;
       operations = good.operations;
-      barrier = note_kept settings table content local.barrier well good.barrier;
+      barrier = notification_kept settings table content local.barrier well good.barrier;
     };
     take = λ contact content local good well. record {
       core = reply_kept settings table meaning contact content local.core lawful well good.core;

@@ -3,7 +3,7 @@ use Rattle.std.proofs.Common.{◌≡◌, ℕ, suc, ◌==◌, not, Bool, true, tr
 use Rattle.std.proofs.Common.{Option, None, Some, Result, Ok, Err, length, refl, sym, ap, ◌∙◌, subst, arith, eqb-true}
 use Rattle.std.proofs.lemmas.Bool.{and_parts}
 use Rattle.base_lists.specs.Put.{put}
-use Rattle.base_lists.specs.Numbered.{numbered}
+use Rattle.base_lists.specs.Numbered.{element_at}
 use Rattle.base_lists.proofs.Numbered.{numbered_nil, numbered_in}
 use Rattle.base_lists.proofs.Places.{slice_get_last}
 use Rattle.base_lists.proofs.Put.{put_same}
@@ -38,7 +38,7 @@ use Rattle.node_rules.specs.Tracking.{Tracks, NodeTracks, chunk_content}
 use Rattle.node_rules.proofs.Asked.{stay_push, stay_sent, returns_back, returns_none}
 use Rattle.node_rules.proofs.Chunks.{tracks_stay, tracks_back, Issues, tracks_issued}
 use Rattle.node_rules.proofs.Syncing.{transfer_tracks}
-use Rattle.node_rules.proofs.Sending.{IsSent, IsNote, IsChunk, sending_is, chunk_no_note, says_chunk}
+use Rattle.node_rules.proofs.Sending.{IsSent, IsNotification, IsChunk, sending_is, chunk_no_notification, says_chunk}
 use Rattle.node_rules.proofs.Sending.{issued_operations}
 
 -- before all events
@@ -108,7 +108,7 @@ comes_tracks : (settings : Parameters) (table : List (Option Entry)) (meaning : 
 comes_tracks settings table meaning me node message Runs is tracks = tracks
 comes_tracks settings table meaning me node message Returns is tracks =
     let returning = returns_says (site_of (job_of settings table meaning) me) node message is in
-    let one = open_is message.slot (numbered (node.asked message.from) message.number) returning.open_ in
+    let one = open_is message.slot (element_at (node.asked message.from) message.number) returning.open_ in
     tracks_back settings.version message.from message.slot message.number node.asked _ node.local.operations
     (returns_back node.asked message.from message.slot message.number one.0 one.1 one.2) tracks
 comes_tracks settings table meaning me node message _ is tracks = tracks
@@ -141,10 +141,10 @@ issues settings node can now slot next is =
       fresh = λ request at. absurd (omega (
         arith,
         numbered_in (node.asked to) (suc (length (node.asked to))) request
-            (ap (λ peer. numbered (node.asked peer) (suc (length (node.asked to)))) (sym same) ∙ at),
+            (ap (λ peer. element_at (node.asked peer) (suc (length (node.asked to)))) (sym same) ∙ at),
       ));
-      accepted = ap (λ peer. numbered (later peer) (suc (length (node.asked to)))) same
-          ∙ (ap (λ list. numbered list (suc (length (node.asked to))))
+      accepted = ap (λ peer. element_at (later peer) (suc (length (node.asked to)))) same
+          ∙ (ap (λ list. element_at list (suc (length (node.asked to))))
           (put_same node.asked to (node.asked to ++ new ∷ []))
           ∙ slice_get_last (node.asked to) new);
       content = says_chunk settings.version segment next
@@ -157,7 +157,7 @@ sends_tracks : (settings : Parameters) (table : List (Option Entry)) (meaning : 
     → IsSent settings me can node.local sending → NodeTracks settings.version node
     → NodeTracks settings.version
     (after_sending (site_of (job_of settings table meaning) me) node now sending)
-sends_tracks settings table meaning me node now can sending (IsNote sent is says) tracks =
+sends_tracks settings table meaning me node now can sending (IsNotification sent is says) tracks =
     subst (λ (s : Sending). NodeTracks settings.version
     (after_sending (site_of (job_of settings table meaning) me) node now s)) (sym says)
     (tracks_stay settings.version node.asked _ node.local.operations (stay_push node.asked sent.to _) tracks)
@@ -172,7 +172,7 @@ sends_tracks settings table meaning me node now can sending (IsChunk next is say
     (after_sending (site_of (job_of settings table meaning) me) node now s)) (sym says)
     (subst (Tracks settings.version
     (put node.asked to (node.asked to ++ new_request now contact.slot content ∷ [])))
-    (sym (issued_operations settings contact content node.local (chunk_no_note settings.version segment next)
+    (sym (issued_operations settings contact content node.local (chunk_no_notification settings.version segment next)
     ∙ first.issued contact.slot contact.number content.payload))
     (tracks_issued settings.version node.asked _ node.local.operations next.number it tracks))
 

@@ -9,28 +9,28 @@ use Rattle.std.proofs.lemmas.Option.{same_Some}
 use Rattle.base_lists.proofs.Cases.{cases_option, none_some}
 use Rattle.wire_message.specs.Parameters.{Parameters, AreInRange}
 use Rattle.wire_message.specs.Content.{Content, is_request, code, is_ack}
-use Rattle.wire_message.specs.declared.note.BarrierNote.{BarrierNote}
-use Rattle.wire_message.specs.Notes.{high_half, low_half, joined_halves}
-use Rattle.wire_message.proofs.Noted.{joined_again, not_refused}
+use Rattle.wire_message.specs.declared.notification.BarrierNotification.{BarrierNotification}
+use Rattle.wire_message.specs.Notifications.{high_half, low_half, joined_halves}
+use Rattle.wire_message.proofs.Notified.{joined_again, not_refused}
 use Rattle.part_segment.specs.Bytes.{part}
 use Rattle.part_handlers.specs.declared.table.Entry.{Entry}
 use Rattle.part_handlers.specs.Runs.{passes_end}
 use Rattle.spec_node.specs.Behaviour.{asks_well, Sending}
-use Rattle.part_barrier.specs.Record.{BarrierRecord, SentNote, note_to}
-use Rattle.part_barrier.proofs.Within.{notes_fit}
+use Rattle.part_barrier.specs.Record.{BarrierRecord, SentNotification, notification_to}
+use Rattle.part_barrier.proofs.Within.{notifications_fit}
 use Rattle.part_transfers.specs.declared.operation.Next.{Next}
 use Rattle.part_transfers.specs.declared.operation.Transfer.{Transfer}
 use Rattle.part_transfers.specs.declared.operation.Transfer.TheVariants as transfers
 use Rattle.part_transfers.specs.Operation.{size, chunks, chunk_start, chunk_size, next_chunk}
 use Rattle.part_transfers.proofs.Issued.{next_is_first}
 use Rattle.node_core.specs.Kept.{segment_of}
-use Rattle.node_core.specs.Library.{Work, Put, Get, Memset, Note, WorkFits, IsChunk as IsPiece, work_content, is_library}
+use Rattle.node_core.specs.Library.{Work, Put, Get, Memset, Notification, WorkFits, IsChunk as IsPiece, work_content, is_library}
 use Rattle.node_core.specs.Library.{has_library, has_wrong_args}
 use Rattle.node_core.specs.ClientRules.{content_refusal}
 use Rattle.node_core.proofs.LibraryLaws.{nodes_few}
 use Rattle.node_rules.specs.EndpointLocal.{EndpointLocal, IsEndpointKept, IsByChunks}
-use Rattle.node_rules.specs.EndpointRules.{note_among, next_note, next_sending, chunk_work}
-use Rattle.node_rules.proofs.Sending.{IsSent, IsNote as SendsNote, IsChunk as SendsChunk, sending_is}
+use Rattle.node_rules.specs.EndpointRules.{notification_among, next_notification, next_sending, chunk_work}
+use Rattle.node_rules.proofs.Sending.{IsSent, IsNotification as SendsNotification, IsChunk as SendsChunk, sending_is}
 
 -- ---- chunks
 
@@ -92,38 +92,38 @@ chunk_work_fits settings me can local next kept is =
 
 -- ---- notes
 
-among_is : (due : ℕ → Option BarrierNote) (can : ℕ → Bool) (node many : ℕ) (sent : SentNote)
-    → note_among due can node many ≡ Some sent → (can sent.to ≡ true) × (due sent.to ≡ Some sent.note)
+among_is : (due : ℕ → Option BarrierNotification) (can : ℕ → Bool) (node many : ℕ) (sent : SentNotification)
+    → notification_among due can node many ≡ Some sent → (can sent.to ≡ true) × (due sent.to ≡ Some sent.notification)
 among_is due can node zero sent e = absurd (none_some e)
 among_is due can node (suc many) sent e = elim (cases_Bool (can node)) [
   | inl can_be ↦ elim (cases_option (due node)) [
     | inl none ↦ among_is due can (suc node) many sent (rw (can_be, none) at e)
     | inr some ↦
-        let here : record { to = node; note = some.0 } ≡ sent = same_Some _ _ (rw (can_be, some.1) at e) in (
-          ap (λ (one : SentNote). can one.to) (sym here) ∙ can_be,
-          ap (λ (one : SentNote). due one.to) (sym here) ∙ (some.1 ∙ ap (λ (one : SentNote). Some one.note) here),
+        let here : record { to = node; notification = some.0 } ≡ sent = same_Some _ _ (rw (can_be, some.1) at e) in (
+          ap (λ (one : SentNotification). can one.to) (sym here) ∙ can_be,
+          ap (λ (one : SentNotification). due one.to) (sym here) ∙ (some.1 ∙ ap (λ (one : SentNotification). Some one.notification) here),
         )
   ]
   | inr shut ↦ among_is due can (suc node) many sent (rw shut at e)
 ]
 
--- the note that goes next: what is due to a node that can be asked
-pub next_note_is : (settings : Parameters) (me : ℕ) (can : ℕ → Bool) (barrier : BarrierRecord) (sent : SentNote)
-    → next_note settings me can barrier ≡ Some sent
-    → (me < settings.nodes) × (can sent.to ≡ true) × (note_to settings.nodes me barrier sent.to ≡ Some sent.note)
-next_note_is settings me can barrier sent e = elim (cases_Bool (nat_lt me settings.nodes)) [
+-- the notification that goes next: what is due to a node that can be asked
+pub next_notification_is : (settings : Parameters) (me : ℕ) (can : ℕ → Bool) (barrier : BarrierRecord) (sent : SentNotification)
+    → next_notification settings me can barrier ≡ Some sent
+    → (me < settings.nodes) × (can sent.to ≡ true) × (notification_to settings.nodes me barrier sent.to ≡ Some sent.notification)
+next_notification_is settings me can barrier sent e = elim (cases_Bool (nat_lt me settings.nodes)) [
   | inl there ↦
-      let it = among_is (note_to settings.nodes me barrier) can 0 settings.nodes sent (rw there at e) in
+      let it = among_is (notification_to settings.nodes me barrier) can 0 settings.nodes sent (rw there at e) in
       (ltb-true me settings.nodes there, it.0, it.1)
   | inr isnt ↦ absurd (none_some (rw isnt at e))
 ]
 
-pub note_work_fits : (settings : Parameters) (me : ℕ) (can : ℕ → Bool) (local : EndpointLocal) (sent : SentNote)
-    → AreInRange settings → IsEndpointKept settings me local → next_note settings me can local.barrier ≡ Some sent
-    → WorkFits settings (Note sent.note)
-note_work_fits settings me can local sent range kept is =
-    let it = next_note_is settings me can local.barrier sent is in
-    notes_fit settings.nodes me local.barrier sent.to sent.note range.nodes it.0 kept.barrier it.2
+pub notification_work_fits : (settings : Parameters) (me : ℕ) (can : ℕ → Bool) (local : EndpointLocal) (sent : SentNotification)
+    → AreInRange settings → IsEndpointKept settings me local → next_notification settings me can local.barrier ≡ Some sent
+    → WorkFits settings (Notification sent.notification)
+notification_work_fits settings me can local sent range kept is =
+    let it = next_notification_is settings me can local.barrier sent is in
+    notifications_fit settings.nodes me local.barrier sent.to sent.notification range.nodes it.0 kept.barrier it.2
 
 -- ---- requests of the library
 
@@ -167,9 +167,9 @@ work_well settings table segment (Memset remote len byte) range fits =
     (or_from false _ refl (or_from (nat_lt 8192 len) _ (le-ltb 8192 len fits.0.few)
     (or_from (nat_lt 255 byte) _ (le-ltb 255 byte (omega (arith, low)))
     (range_again settings.segment remote len small fits.0.inside)))) refl
-work_well settings table segment (Note note) range fits =
-    well_own settings table (work_content settings.version segment (Note note)) refl refl refl refl
-    (not_refused settings.version settings.nodes note range.version (nodes_few settings range) fits) refl
+work_well settings table segment (Notification notification) range fits =
+    well_own settings table (work_content settings.version segment (Notification notification)) refl refl refl refl
+    (not_refused settings.version settings.nodes notification range.version (nodes_few settings range) fits) refl
 
 -- what a tick sends goes to a node that can be asked, and may be delivered
 pub sending_well : (settings : Parameters) (table : List (Option Entry)) (me : ℕ) (can : ℕ → Bool)
@@ -184,11 +184,11 @@ sending_well settings table me can local sending range kept is =
 
     by_kind : IsSent settings me can local sending
         → (can sending.to ≡ true) × (asks_well (content_refusal settings table) sending.content ≡ true)
-    by_kind (SendsNote sent note_is same) = (
-      ap (λ (one : Sending). can one.to) same ∙ (next_note_is settings me can local.barrier sent note_is).1,
+    by_kind (SendsNotification sent notification_is same) = (
+      ap (λ (one : Sending). can one.to) same ∙ (next_notification_is settings me can local.barrier sent notification_is).1,
       ap (λ (one : Sending). asks_well (content_refusal settings table) one.content) same
-          ∙ work_well settings table segment (Note sent.note) range
-          (note_work_fits settings me can local sent range kept note_is),
+          ∙ work_well settings table segment (Notification sent.notification) range
+          (notification_work_fits settings me can local sent range kept notification_is),
     )
     by_kind (SendsChunk next next_is same) = (
       ap (λ (one : Sending). can one.to) same ∙ (next_is_first can local.operations next next_is).open_to,

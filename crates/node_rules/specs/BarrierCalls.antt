@@ -4,7 +4,7 @@ use Rattle.std.specs.Prelude.{ℕ, zero, suc, ◌^◌, nat_lt, ℤ, Bool, ◌&&�
 use Rattle.std.specs.List.{list_all}
 use Rattle.std.specs.Ordering.{int_eq}
 use Rattle.std.specs.Int.{w32, cast_signed, cast_unsigned}
-use Rattle.wire_message.specs.declared.note.BarrierNote.{BarrierNote}
+use Rattle.wire_message.specs.declared.notification.BarrierNotification.{BarrierNotification}
 use Rattle.part_barrier.specs.Record.{BarrierRecord, Try, notify_answer, notify_after, try_answer, try_after, owes}
 use Rattle.node_rules.specs.TransferCalls.{Caller}
 use Rattle.node_rules.specs.declared.answer.Answer.{Answer}
@@ -18,18 +18,19 @@ pub data BarrierCall : Type 0 where
 abbrev pub identifier : ℤ → ℤ
 identifier id = cast_signed w32 (cast_unsigned w32 id)
 
--- the numbers of a note are in the ranges of their types. Those of each note that was sent are
-abbrev pub has_ranges : BarrierNote → Bool
-has_ranges note =
-    nat_lt note.phase (2 ^ 64)
-    && (list_all (λ word. nat_lt word (2 ^ 64)) note.mask && int_eq (identifier note.id) note.id)
+-- the numbers of a notification are in the ranges of their types. Those of each notification that was sent are
+abbrev pub has_ranges : BarrierNotification → Bool
+has_ranges notification =
+    nat_lt notification.phase (2 ^ 64)
+    && (list_all (λ word. nat_lt word (2 ^ 64)) notification.mask
+    && int_eq (identifier notification.id) notification.id)
 
 -- the least node from this one on, among so many, of which the test holds
 abbrev pub first_where : (test : ℕ → Bool) → (node many : ℕ) → Option ℕ
 first_where test node zero = None
 first_where test node (suc many) = if test node then Some node else first_where test (suc node) many
 
--- the least node to which a note of the present phase must go, and for which no number is left
+-- the least node to which a notification of the present phase must go, and for which no number is left
 abbrev pub exhausted_for : Caller → BarrierRecord → Option ℕ
 exhausted_for caller barrier =
     first_where (λ to. caller.exhausted to && owes caller.settings.nodes caller.me barrier to) 0 caller.settings.nodes

@@ -69,8 +69,8 @@ abbrev pub node_event : (thread : ℕ) → Meant → RecordEvent
 node_event thread (Requests to asking) = NodeAsks (record { thread = thread; to = to; what = asking })
 node_event thread (Performs call) = NodeDoes thread call
 
-abbrev pub called : (thread : ℕ) → Call → RecordEvent
-called thread call = node_event thread (meant call)
+abbrev pub event_of_call : (thread : ℕ) → Call → RecordEvent
+event_of_call thread call = node_event thread (meant call)
 
 -- of the world
 abbrev pub event_at : (node thread : ℕ) → Meant → RecordsEvent

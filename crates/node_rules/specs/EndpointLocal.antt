@@ -2,7 +2,7 @@
 -- Origin: GASNet 1.8.1, core API, extended API. Registers of handles are this project's profile.
 use Rattle.std.specs.Prelude.{ℕ, ◌≡◌, ◌≢◌, ◌<◌, ◌≤◌, ◌+◌, nat_lt, Bool, true, List, [], Option, None, Some, replicate}
 use Rattle.wire_message.specs.Parameters.{Parameters}
-use Rattle.base_lists.specs.Numbered.{numbered}
+use Rattle.base_lists.specs.Numbered.{element_at}
 use Rattle.part_regions.specs.declared.Region.{Region}
 use Rattle.part_barrier.specs.Record.{BarrierRecord, opened_record}
 use Rattle.part_barrier.specs.Within.{IsNotedWithin}
@@ -79,7 +79,7 @@ pub record IsByChunks (settings : Parameters) (me : ℕ) (transfer : Transfer) :
 -- so is that of each of these operations
 abbrev pub AreByChunks : Parameters → (me : ℕ) → List Operation → Type 0
 AreByChunks settings me operations =
-    (number : ℕ) (operation : Operation) → numbered operations number ≡ Some operation
+    (number : ℕ) (operation : Operation) → element_at operations number ≡ Some operation
     → IsByChunks settings me operation.transfer
 
 -- what holds of what the node `me` keeps: beside what holds of the core's part, its operations are by chunks, and the

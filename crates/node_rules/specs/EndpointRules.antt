@@ -6,7 +6,7 @@ use Rattle.std.specs.Prelude.{ℕ, zero, suc, ◌+◌, ◌==◌, nat_lt, Bool, �
 use Rattle.std.specs.Prelude.{Option, None, Some}
 use Rattle.wire_message.specs.Parameters.{Parameters}
 use Rattle.wire_message.specs.Content.{Content}
-use Rattle.wire_message.specs.declared.note.BarrierNote.{BarrierNote}
+use Rattle.wire_message.specs.declared.notification.BarrierNotification.{BarrierNotification}
 use Rattle.part_handlers.specs.declared.table.Entry.{Entry}
 use Rattle.part_handlers.specs.declared.rules.Forbidden.{Forbidden}
 use Rattle.part_handlers.specs.declared.rules.CallKind.TheVariants as kinds
@@ -19,14 +19,15 @@ use Rattle.spec_node.specs.declared.answer.Ticked.TheVariants as ticked
 use Rattle.spec_node.specs.Behaviour.{Behaviour, Contact, Sending}
 use Rattle.spec_node.specs.NodeStep.{NodeBehaviour, Job, NodeEvent, NodeAnswer, OfRequest, OfCall, OfDelivery, OfTick}
 use Rattle.spec_node.specs.Transition.{Transition}
-use Rattle.spec_network.specs.World.{World, opening, Event, Timed}
-use Rattle.part_barrier.specs.Record.{BarrierRecord, SentNote, hear, note_to, send}
+use Rattle.spec_network.specs.World.{World, opening, Event, EventAt}
+use Rattle.part_barrier.specs.Record.{BarrierRecord, SentNotification, hear, notification_to, send}
 use Rattle.part_transfers.specs.declared.operation.Next.{Next}
 use Rattle.part_transfers.specs.declared.operation.Transfer.TheVariants as transfers
 use Rattle.part_transfers.specs.Operation.{target, next_chunk, issue, come_back}
 use Rattle.node_core.specs.Kept.{Local, segment_of}
 use Rattle.node_core.specs.ClientRules.{rules}
-use Rattle.node_core.specs.Library.{Work, Put, Get, Memset, Note, work_content, note_said, note_handler}
+use Rattle.node_core.specs.Library.{Work, Put, Get, Memset, Notification, work_content, notification_said}
+use Rattle.node_core.specs.Library.{notification_handler}
 use Rattle.node_rules.specs.EndpointLocal.{EndpointLocal, with_core, nothing_begun}
 use Rattle.node_rules.specs.CoreCalls.{LocalCall, local_does}
 use Rattle.node_rules.specs.TransferCalls.{TransferCall, transfer_kind, transfer_does, Caller}
@@ -53,8 +54,8 @@ RecordsEvent = Event OtherCall
 abbrev pub RecordEvent : Type 0
 RecordEvent = NodeEvent OtherCall
 
-abbrev pub timed : (now : ℕ) → RecordsEvent → Timed OtherCall
-timed now event = record { now = now; event = event }
+abbrev pub timed_event : (now : ℕ) → RecordsEvent → EventAt OtherCall
+timed_event now event = record { now = now; event = event }
 
 -- an event with its time and its answer
 abbrev pub transition : {Event Answer : Type 0} → (now : ℕ) → Event → Answer → Transition Event Answer
@@ -66,21 +67,23 @@ at_the_opening settings = opening (λ node. nothing_begun settings)
 
 -- ---- what ticks send
 
--- the note of the barrier that goes to the least node from this one on, among so many, that can be asked
-abbrev pub note_among : (due : ℕ → Option BarrierNote) → (can : ℕ → Bool) → (node many : ℕ) → Option SentNote
-note_among due can node zero = None
-note_among due can node (suc many) =
-    if can node then note_or node (due node) (note_among due can (suc node) many)
-    else note_among due can (suc node) many
+-- the notification of the barrier that goes to the least node from this one on, among so many, that can be asked
+abbrev pub notification_among : (due : ℕ → Option BarrierNotification) → (can : ℕ → Bool) → (node many : ℕ)
+    → Option SentNotification
+notification_among due can node zero = None
+notification_among due can node (suc many) =
+    if can node then notification_or node (due node) (notification_among due can (suc node) many)
+    else notification_among due can (suc node) many
   where
-    note_or : (node : ℕ) → Option BarrierNote → Option SentNote → Option SentNote
-    note_or node None later = later
-    note_or node (Some note) later = Some (record { to = node; note = note })
+    notification_or : (node : ℕ) → Option BarrierNotification → Option SentNotification → Option SentNotification
+    notification_or node None later = later
+    notification_or node (Some notification) later = Some (record { to = node; notification = notification })
 
--- the note that the node `me` sends next; what is no node sends none
-abbrev pub next_note : Parameters → (me : ℕ) → (can : ℕ → Bool) → BarrierRecord → Option SentNote
-next_note settings me can barrier =
-    if nat_lt me settings.nodes then note_among (note_to settings.nodes me barrier) can 0 settings.nodes else None
+-- the notification that the node `me` sends next; what is no node sends none
+abbrev pub next_notification : Parameters → (me : ℕ) → (can : ℕ → Bool) → BarrierRecord → Option SentNotification
+next_notification settings me can barrier =
+    if nat_lt me settings.nodes then notification_among (notification_to settings.nodes me barrier) can 0 settings.nodes
+    else None
 
 -- what a chunk asks of its target
 abbrev pub chunk_work : Next → Work
@@ -100,24 +103,25 @@ sends_chunk settings segment None = None
 sends_chunk settings segment (Some next) =
     Some (sending_of settings segment (target next.transfer) (chunk_work next))
 
--- a note goes before a chunk
-abbrev pub note_first : Parameters → (segment : List ℕ) → Option SentNote → Option Next → Option Sending
-note_first settings segment None next = sends_chunk settings segment next
-note_first settings segment (Some sent) next = Some (sending_of settings segment sent.to (Note sent.note))
+-- a notification goes before a chunk
+abbrev pub notification_first : Parameters → (segment : List ℕ) → Option SentNotification → Option Next → Option Sending
+notification_first settings segment None next = sends_chunk settings segment next
+notification_first settings segment (Some sent) next =
+    Some (sending_of settings segment sent.to (Notification sent.notification))
 
--- what a tick sends of the node's own accord: the note of the barrier that is due to the least node that can be asked,
--- else the next chunk of the oldest operation whose target can be asked
+-- what a tick sends of the node's own accord: the notification of the barrier that is due to the least node that can be
+-- asked, else the next chunk of the oldest operation whose target can be asked
 abbrev pub next_sending : Parameters → (me : ℕ) → (can : ℕ → Bool) → EndpointLocal → Option Sending
 next_sending settings me can local =
-    note_first settings (segment_of settings local.core) (next_note settings me can local.barrier)
+    notification_first settings (segment_of settings local.core) (next_notification settings me can local.barrier)
     (next_chunk can 1 local.operations)
 
 -- what is left where that was accepted
 abbrev pub after_sent : Parameters → Contact → Content → EndpointLocal → EndpointLocal
 after_sent settings contact content local =
-    if content.handler == note_handler
+    if content.handler == notification_handler
     then record local {
-      barrier = send local.barrier contact.peer (note_to settings.nodes contact.me local.barrier contact.peer);
+      barrier = send local.barrier contact.peer (notification_to settings.nodes contact.me local.barrier contact.peer);
     }
     else record local {
       operations = issue contact.peer contact.slot contact.number content.payload local.operations;
@@ -125,15 +129,15 @@ after_sent settings contact content local =
 
 -- how the tick is answered
 abbrev pub sent_as : Content → SlotRef → Ticked
-sent_as content at = if content.handler == note_handler then ticked.Note at else ticked.Chunk at
+sent_as content at = if content.handler == notification_handler then ticked.Notification at else ticked.Chunk at
 
 -- ---- messages
 
--- what a request of the library tells the barrier: a note, which is heard where its numbers are in range
-abbrev pub after_note : Parameters → Content → BarrierRecord → BarrierRecord
-after_note settings content barrier =
-    let note = note_said settings.version content.args in
-    if (content.handler == note_handler) && has_ranges note then hear barrier note else barrier
+-- what a request of the library tells the barrier: a notification, which is heard where its numbers are in range
+abbrev pub after_notification : Parameters → Content → BarrierRecord → BarrierRecord
+after_notification settings content barrier =
+    let notification = notification_said settings.version content.args in
+    if (content.handler == notification_handler) && has_ranges notification then hear barrier notification else barrier
 
 -- what a node does with messages, by the handlers of its table and the library's own
 abbrev pub endpoint_rules : Parameters → List (Option Entry) → Meaning → Behaviour EndpointLocal
@@ -149,7 +153,7 @@ endpoint_rules settings table meaning =
       waits = λ content local. own.waits content local.core;
       run = λ contact content local.
           let out = own.run contact content local.core in
-          (record local { core = out.0; barrier = after_note settings content local.barrier }, out.1);
+          (record local { core = out.0; barrier = after_notification settings content local.barrier }, out.1);
       take = λ contact content local. record local {
         core = own.take contact content local.core;
         operations = come_back contact.peer contact.slot contact.number local.operations;
@@ -210,8 +214,8 @@ asked_answer (asked.Forbidden forbidden) = answers.Forbidden forbidden
 asked_answer answer = answers.Asked answer
 
 -- of a node
-abbrev pub told : NodeAnswer Answer → Answer
-told (OfRequest answer) = asked_answer answer
-told (OfCall answer) = answer
-told (OfDelivery answer) = answers.Delivered answer
-told (OfTick answer) = answers.Ticked answer
+abbrev pub answer_told : NodeAnswer Answer → Answer
+answer_told (OfRequest answer) = asked_answer answer
+answer_told (OfCall answer) = answer
+answer_told (OfDelivery answer) = answers.Delivered answer
+answer_told (OfTick answer) = answers.Ticked answer

@@ -12,9 +12,9 @@ use Rattle.node_rules.specs.declared.answer.Answer.TheVariants as answer
 abbrev pub sends : Answer → Option SlotRef
 sends (answer.Asked (asked.Accepted to slot number)) = Some (request_slot to slot)
 sends (answer.Delivered (delivered.Ran at)) = Some at
-sends (answer.Delivered (delivered.Noted at note)) = Some at
+sends (answer.Delivered (delivered.Notified at notification)) = Some at
 sends (answer.Delivered (delivered.Duplicate at)) = Some at
 sends (answer.Ticked (ticked.Retransmission at)) = Some at
-sends (answer.Ticked (ticked.Note at)) = Some at
+sends (answer.Ticked (ticked.Notification at)) = Some at
 sends (answer.Ticked (ticked.Chunk at)) = Some at
 sends _ = None

@@ -2,11 +2,12 @@
 -- Origin: this project's profile.
 use Rattle.std.specs.Prelude.{ℕ, ◌≡◌, ◌≤◌, true, List, [], Some, length, slice_get}
 use Rattle.wire_message.specs.Content.{Content}
-use Rattle.base_lists.specs.Numbered.{numbered}
+use Rattle.base_lists.specs.Numbered.{element_at}
 use Rattle.spec_node.specs.Record.{Request, Node}
 use Rattle.part_transfers.specs.declared.operation.Next.{Next}
 use Rattle.part_transfers.specs.declared.operation.Transfer.{Transfer}
-use Rattle.part_transfers.specs.Operation.{Operation, Sent, target, size, chunks, chunk_start, chunk_size, is_complete}
+use Rattle.part_transfers.specs.Operation.{Operation, SentChunk, target, size, chunks, chunk_start, chunk_size}
+use Rattle.part_transfers.specs.Operation.{is_complete}
 use Rattle.node_core.specs.Library.{work_content}
 use Rattle.node_rules.specs.EndpointLocal.{EndpointLocal}
 use Rattle.node_rules.specs.EndpointRules.{chunk_work}
@@ -27,16 +28,17 @@ chunk_content version next bytes = record (work_content version [] (chunk_work n
 -- the operation of this number has issued the chunk at this index
 pub record IsIssuedChunk (operations : List Operation) (number index : ℕ) : Type 0 where
   pub operation : Operation
-  pub sent : Sent
-  pub numbered_so : numbered operations number ≡ Some operation
+  pub sent : SentChunk
+  pub numbered_so : element_at operations number ≡ Some operation
   pub issued : slice_get operation.sent index ≡ Some sent
 
 -- the request of the chunk: one that was accepted by its target, in its slot, with what the chunk says; it is back
 -- exactly where the chunk is
-pub record IsRequestOf (version : ℕ) (asked : ℕ → List Request) (number index : ℕ) (operation : Operation) (sent : Sent)
+pub record IsRequestOf (version : ℕ) (asked : ℕ → List Request) (number index : ℕ) (operation : Operation)
+    (sent : SentChunk)
     : Type 0 where
   pub request : Request
-  pub accepted : numbered (asked (target operation.transfer)) sent.number ≡ Some request
+  pub accepted : element_at (asked (target operation.transfer)) sent.number ≡ Some request
   pub slot : request.slot ≡ sent.slot
   pub content : request.content ≡ chunk_content version (chunk_at operation.transfer number index) sent.bytes
   pub back : request.back ≡ sent.back
@@ -52,10 +54,10 @@ pub record Tracks (version : ℕ) (asked : ℕ → List Request) (operations : L
       → chunk.sent.number ≡ second.sent.number
       → (number ≡ other) × (index ≡ place)
   -- no more chunks were issued than there are
-  pub few : (number : ℕ) (operation : Operation) → numbered operations number ≡ Some operation
+  pub few : (number : ℕ) (operation : Operation) → element_at operations number ≡ Some operation
       → length operation.sent ≤ chunks (size operation.transfer)
   -- an operation that was synchronised is complete
-  pub complete : (number : ℕ) (operation : Operation) → numbered operations number ≡ Some operation
+  pub complete : (number : ℕ) (operation : Operation) → element_at operations number ≡ Some operation
       → operation.synced ≡ true → is_complete operation ≡ true
 
 -- so it is of a node

@@ -126,13 +126,13 @@ with_begun (Some register) begun.Done registers = slice_set registers register i
 with_begun _ _ registers = registers
 
 -- those of a list become invalid
-abbrev pub emptied : (which : List ℕ) → List Handle → List Handle
-emptied [] registers = registers
-emptied (register ∷ later) registers = emptied later (slice_set registers register invalid)
+abbrev pub with_invalid : (which : List ℕ) → List Handle → List Handle
+with_invalid [] registers = registers
+with_invalid (register ∷ later) registers = with_invalid later (slice_set registers register invalid)
 
 -- so they do where the answer is Ok
 abbrev pub emptied_by : Synced → (which : List ℕ) → List Handle → List Handle
-emptied_by synced.Ok which registers = emptied which registers
+emptied_by synced.Ok which registers = with_invalid which registers
 emptied_by _ which registers = registers
 
 -- those of a list whose operations are complete
@@ -154,9 +154,9 @@ with_name thread _ regions = regions
 -- ---- regions
 
 -- the end of the region that the thread has begun
-abbrev pub ended : Caller → (register : ℕ) → Option BegunRegion → EndpointLocal → Answer × EndpointLocal
-ended caller register None local = (answers.Region region.NoRegion, local)
-ended caller register (Some was) local =
+abbrev pub after_region : Caller → (register : ℕ) → Option BegunRegion → EndpointLocal → Answer × EndpointLocal
+after_region caller register None local = (answers.Region region.NoRegion, local)
+after_region caller register (Some was) local =
     let regions = slice_set local.regions caller.thread None in
     elim was.name [
       | None ↦ (
@@ -228,4 +228,4 @@ transfer_does caller RegionBegin local =
       record local { regions = slice_set local.regions caller.thread (Some empty_region) },
     )
 transfer_does caller (RegionEnd register) local =
-    ended caller register (region_of local.regions caller.thread) local
+    after_region caller register (region_of local.regions caller.thread) local

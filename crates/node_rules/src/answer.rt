@@ -125,10 +125,11 @@ impl Answer {
                 slot: *slot,
             }),
             Answer::Delivered(
-                Delivered::Ran(at) | Delivered::Noted(at, _) | Delivered::Duplicate(at),
+                Delivered::Ran(at) | Delivered::Notified(at, _) | Delivered::Duplicate(at),
             ) => Some(*at),
-            Answer::Ticked(Ticked::Retransmission(at) | Ticked::Note(at) | Ticked::Chunk(at)) =>
-                Some(*at),
+            Answer::Ticked(
+                Ticked::Retransmission(at) | Ticked::Notification(at) | Ticked::Chunk(at),
+            ) => Some(*at),
             _ => None,
         }
     }

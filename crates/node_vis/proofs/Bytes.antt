@@ -13,8 +13,8 @@ use Rattle.node_vis.specs.declared.shapes.Way.{Way}
 use Rattle.node_vis.specs.declared.shapes.Way.TheVariants.{Put, Get}
 use Rattle.node_vis.specs.declared.shapes.Piece.{Piece}
 use Rattle.node_vis.specs.Pairs.{Pair, pairs_from, bytes_from}
-use Rattle.node_vis.specs.Pieces.{pairs_in, spelled, AreFilled, pieces_of}
-use Rattle.node_vis.specs.Faults.{written, has_twice, cut_fault}
+use Rattle.node_vis.specs.Pieces.{pairs_in, pairs_of_pieces, AreFilled, pieces_of}
+use Rattle.node_vis.specs.Faults.{written_byte, has_twice, cut_fault}
 use Rattle.node_vis.specs.Runs.{ends_behind, meet, pieces_fault, some_meet, written_at}
 use Rattle.node_vis.proofs.Cutting.{pieces_cut}
 use Rattle.node_vis.proofs.Judging.{first_of}
@@ -70,37 +70,37 @@ any_behind segment first len some = same_test (list_any (nat_le segment) (bytes_
 -- ---- all bytes that pieces write
 
 map_run : (way : Way) (len remote local : ℕ)
-    → map (written way) (pairs_from remote local len)
-    ≡ bytes_from (written way (record { remote = remote; local = local })) len
+    → map (written_byte way) (pairs_from remote local len)
+    ≡ bytes_from (written_byte way (record { remote = remote; local = local })) len
 map_run Put zero remote local = refl
 map_run Put (suc len) remote local = ap (λ bs. remote ∷ bs) (map_run Put len (suc remote) (suc local))
 map_run Get zero remote local = refl
 map_run Get (suc len) remote local = ap (λ bs. local ∷ bs) (map_run Get len (suc remote) (suc local))
 
-map_piece : (way : Way) (piece : Piece) → map (written way) (pairs_in piece) ≡ bytes_from (written_at way piece) piece.len
+map_piece : (way : Way) (piece : Piece) → map (written_byte way) (pairs_in piece) ≡ bytes_from (written_at way piece) piece.len
 map_piece Put piece = map_run Put piece.len piece.remote piece.local
 map_piece Get piece = map_run Get piece.len piece.remote piece.local
 
 all_bytes : (way : Way) (piece : Piece) (pieces : List Piece)
-    → map (written way) (spelled (piece ∷ pieces))
-    ≡ bytes_from (written_at way piece) piece.len ++ map (written way) (spelled pieces)
+    → map (written_byte way) (pairs_of_pieces (piece ∷ pieces))
+    ≡ bytes_from (written_at way piece) piece.len ++ map (written_byte way) (pairs_of_pieces pieces)
 all_bytes way piece pieces =
-    map-append (written way) (pairs_in piece) (spelled pieces)
-    ∙ ap (λ bs. bs ++ map (written way) (spelled pieces)) (map_piece way piece)
+    map-append (written_byte way) (pairs_in piece) (pairs_of_pieces pieces)
+    ∙ ap (λ bs. bs ++ map (written_byte way) (pairs_of_pieces pieces)) (map_piece way piece)
 
 any_mapped : (way : Way) (test : ℕ → Bool) (pairs : List Pair)
-    → list_any (λ (pair : Pair). test (written way pair)) pairs ≡ list_any test (map (written way) pairs)
+    → list_any (λ (pair : Pair). test (written_byte way pair)) pairs ≡ list_any test (map (written_byte way) pairs)
 any_mapped way test [] = refl
-any_mapped way test (pair ∷ pairs) = ap (λ b. test (written way pair) || b) (any_mapped way test pairs)
+any_mapped way test (pair ∷ pairs) = ap (λ b. test (written_byte way pair) || b) (any_mapped way test pairs)
 
 -- some byte of the pieces lies behind the segment exactly where some piece ends behind it
 behind_any : (way : Way) (segment : ℕ) (pieces : List Piece) → AreFilled pieces
-    → list_any (nat_le segment) (map (written way) (spelled pieces))
+    → list_any (nat_le segment) (map (written_byte way) (pairs_of_pieces pieces))
     ≡ list_any (λ (piece : Piece). ends_behind segment (written_at way piece) piece.len) pieces
 behind_any way segment [] filled = refl
 behind_any way segment (piece ∷ pieces) filled =
     ap (list_any (nat_le segment)) (all_bytes way piece pieces)
-    ∙ list_any-append (nat_le segment) (bytes_from (written_at way piece) piece.len) (map (written way) (spelled pieces))
+    ∙ list_any-append (nat_le segment) (bytes_from (written_at way piece) piece.len) (map (written_byte way) (pairs_of_pieces pieces))
     ∙ ap₂ (λ a b. a || b) (any_behind segment (written_at way piece) piece.len filled.0)
     (behind_any way segment pieces filled.1)
 
@@ -183,25 +183,25 @@ clash_runs first len other size some more = same_test (clash first len (bytes_fr
     ])
 
 clash_pieces : (way : Way) (piece : Piece) (pieces : List Piece) → 0 < piece.len → AreFilled pieces
-    → clash (written_at way piece) piece.len (map (written way) (spelled pieces)) ≡ list_any (meet way piece) pieces
+    → clash (written_at way piece) piece.len (map (written_byte way) (pairs_of_pieces pieces)) ≡ list_any (meet way piece) pieces
 clash_pieces way piece [] some filled =
     false_from_ne_true (clash (written_at way piece) piece.len []) (λ any.
     true≢false (sym ((any_byte (λ x. list_any (λ o. o == x) []) piece.len (written_at way piece) any).2)))
 clash_pieces way piece (other ∷ pieces) some filled =
     ap (clash (written_at way piece) piece.len) (all_bytes way other pieces)
     ∙ clash-append (written_at way piece) piece.len (bytes_from (written_at way other) other.len)
-    (map (written way) (spelled pieces))
+    (map (written_byte way) (pairs_of_pieces pieces))
     ∙ ap₂ (λ a b. a || b)
     (clash_runs (written_at way piece) piece.len (written_at way other) other.len some filled.0)
     (clash_pieces way piece pieces some filled.1)
 
 -- some byte is written twice exactly where some two pieces meet
 twice_meets : (way : Way) (pieces : List Piece) → AreFilled pieces
-    → has_twice (map (written way) (spelled pieces)) ≡ some_meet way pieces
+    → has_twice (map (written_byte way) (pairs_of_pieces pieces)) ≡ some_meet way pieces
 twice_meets way [] filled = refl
 twice_meets way (piece ∷ pieces) filled =
     ap has_twice (all_bytes way piece pieces)
-    ∙ twice_run piece.len (written_at way piece) (map (written way) (spelled pieces))
+    ∙ twice_run piece.len (written_at way piece) (map (written_byte way) (pairs_of_pieces pieces))
     ∙ ap₂ (λ a b. a || b) (clash_pieces way piece pieces filled.0 filled.1) (twice_meets way pieces filled.1)
 
 -- ---- all of it
@@ -215,17 +215,17 @@ judged settings way pairs =
     let source : list_any (λ (pair : Pair). nat_le settings.segment pair.local) pairs
     ≡ list_any (λ (piece : Piece). ends_behind settings.segment piece.local piece.len) (pieces_of pairs)
     = any_mapped Get (nat_le settings.segment) pairs
-    ∙ ap (λ ps. list_any (nat_le settings.segment) (map (written Get) ps)) (sym cut.spells)
+    ∙ ap (λ ps. list_any (nat_le settings.segment) (map (written_byte Get) ps)) (sym cut.spells)
     ∙ behind_any Get settings.segment (pieces_of pairs) cut.filled in
     let offset : list_any (λ (pair : Pair). nat_le settings.segment pair.remote) pairs
     ≡ list_any (λ (piece : Piece). ends_behind settings.segment piece.remote piece.len) (pieces_of pairs)
     = any_mapped Put (nat_le settings.segment) pairs
-    ∙ ap (λ ps. list_any (nat_le settings.segment) (map (written Put) ps)) (sym cut.spells)
+    ∙ ap (λ ps. list_any (nat_le settings.segment) (map (written_byte Put) ps)) (sym cut.spells)
     ∙ behind_any Put settings.segment (pieces_of pairs) cut.filled in
-    let overlap : has_twice (map (written way) pairs) ≡ some_meet way (pieces_of pairs)
-    = ap (λ ps. has_twice (map (written way) ps)) (sym cut.spells) ∙ twice_meets way (pieces_of pairs) cut.filled in
+    let overlap : has_twice (map (written_byte way) pairs) ≡ some_meet way (pieces_of pairs)
+    = ap (λ ps. has_twice (map (written_byte way) ps)) (sym cut.spells) ∙ twice_meets way (pieces_of pairs) cut.filled in
     ap (λ s. first_of many s (list_any (λ (pair : Pair). nat_le settings.segment pair.remote) pairs)
-    (has_twice (map (written way) pairs))) source
+    (has_twice (map (written_byte way) pairs))) source
     ∙ ap₂ (first_of many
     (list_any (λ (piece : Piece). ends_behind settings.segment piece.local piece.len) (pieces_of pairs)))
     offset overlap

@@ -7,7 +7,7 @@ use Rattle.std.proofs.lemmas.Bool.{cases_Bool, eqb-true, eq-eqb, and_parts}
 use Rattle.std.proofs.lemmas.List.{append-nil}
 use Rattle.node_vis.specs.declared.shapes.Piece.{Piece}
 use Rattle.node_vis.specs.Pairs.{Pair, pair, pairs_from}
-use Rattle.node_vis.specs.Pieces.{piece, pairs_in, spelled, continues, IsApart, IsCut}
+use Rattle.node_vis.specs.Pieces.{piece, pairs_in, pairs_of_pieces, continues, IsApart, IsCut}
 use Rattle.node_vis.specs.Pieces.{begun_by, pieces_of, with_filled, with_run}
 
 -- ---- pairs
@@ -81,7 +81,7 @@ begun_cut first (second ∷ pieces) pairs cut = elim (cases_Bool (continues (pie
       let remote : second.remote ≡ suc first.remote = omega (arith, parts.0) in
       let local : second.local ≡ suc first.local = omega (arith, parts.1) in
       rw on (record {
-        spells = ap₂ (λ r l. first ∷ (pairs_from r l second.len ++ spelled pieces)) (sym remote) (sym local)
+        spells = ap₂ (λ r l. first ∷ (pairs_from r l second.len ++ pairs_of_pieces pieces)) (sym remote) (sym local)
             ∙ ap (λ ps. first ∷ ps) cut.spells;
         filled = (omega arith, cut.filled.1);
         apart = (
@@ -107,7 +107,7 @@ pub one_cut : (pairs : List Pair) (pieces : List Piece) → IsCut pieces pairs �
 one_cut [] [] cut = refl
 one_cut [] (first ∷ pieces) cut = absurd (none first.remote first.local first.len cut.filled.0 cut.spells)
   where
-    none : (remote local len : ℕ) → 0 < len → pairs_from remote local len ++ spelled pieces ≡ [] → ⊥
+    none : (remote local len : ℕ) → 0 < len → pairs_from remote local len ++ pairs_of_pieces pieces ≡ [] → ⊥
     none remote local zero some is = omega arith
     none remote local (suc len) some is = cc
 one_cut (first ∷ pairs) [] cut = absurd (none cut.spells)
@@ -123,12 +123,12 @@ one_cut (first ∷ pairs) (top ∷ pieces) cut =
     peeled remote local zero rest is = absurd (omega (arith, is.filled.0))
     peeled remote local (suc zero) rest is =
         let same : pair remote local ≡ first = cc (is.spells) in
-        let later : spelled pieces ≡ pairs = cc (is.spells) in
+        let later : pairs_of_pieces pieces ≡ pairs = cc (is.spells) in
         let known = rest pieces (record { spells = later; filled = is.filled.1; apart = is.apart.1 }) in
         sym (begun_apart remote local pieces is.apart.0) ∙ ap₂ begun_by same known
     peeled remote local (suc (suc len)) rest is =
         let same : pair remote local ≡ first = cc (is.spells) in
-        let later : pairs_from (suc remote) (suc local) (suc len) ++ spelled pieces ≡ pairs = cc (is.spells) in
+        let later : pairs_from (suc remote) (suc local) (suc len) ++ pairs_of_pieces pieces ≡ pairs = cc (is.spells) in
         let known = rest (piece (suc remote) (suc local) (suc len) ∷ pieces)
         (record {
           spells = later;
@@ -179,11 +179,11 @@ filled_cut (last ∷ []) pairs run some cut =
       })
     ]
 filled_cut (first ∷ second ∷ pieces) pairs run some cut =
-    let later = filled_cut (second ∷ pieces) (spelled (second ∷ pieces)) run some
+    let later = filled_cut (second ∷ pieces) (pairs_of_pieces (second ∷ pieces)) run some
     (record { spells = refl; filled = cut.filled.1; apart = cut.apart.1 }) in
     record {
       spells = ap (λ ps. pairs_in first ++ ps) later.spells
-          ∙ sym (append_assoc (pairs_in first) (spelled (second ∷ pieces)) (pairs_in run))
+          ∙ sym (append_assoc (pairs_in first) (pairs_of_pieces (second ∷ pieces)) (pairs_in run))
           ∙ ap (λ ps. ps ++ pairs_in run) cut.spells;
       filled = (cut.filled.0, later.filled);
       apart = (filled_apart first second pieces run cut.apart.0, later.apart);

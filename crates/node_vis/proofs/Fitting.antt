@@ -9,7 +9,7 @@ use Rattle.node_vis.specs.declared.shapes.Piece.{Piece}
 use Rattle.node_vis.specs.declared.shapes.PlanFault.{PlanFault}
 use Rattle.node_vis.specs.declared.shapes.PlanFault.TheVariants as fault
 use Rattle.node_vis.specs.declared.runs.Run.{Run}
-use Rattle.node_vis.specs.Pieces.{IsCut, spelled}
+use Rattle.node_vis.specs.Pieces.{IsCut, pairs_of_pieces}
 use Rattle.node_vis.specs.Plans.{IsInside, IsPlan}
 use Rattle.node_vis.specs.Runs.{ends_behind, piece_in, pieces_fault}
 
@@ -59,7 +59,7 @@ inside_runs settings runs pieces are all = of_runs (IsInside settings) runs (rw 
 
 -- a cut with which nothing is wrong makes a plan
 pub plan_of : (settings : Parameters) (way : Way) (to : ℕ) (pieces made : List Piece) → made ≡ pieces
-    → to < settings.nodes → IsCut pieces (spelled pieces) → pieces_fault settings way pieces ≡ None
+    → to < settings.nodes → IsCut pieces (pairs_of_pieces pieces) → pieces_fault settings way pieces ≡ None
     → IsPlan (record { settings = settings; way = way; to = to; pieces = made })
 plan_of settings way to pieces made same there cut none =
     let fits = fitting settings way pieces none in

@@ -10,7 +10,7 @@ use Rattle.node_vis.specs.declared.shapes.PlanFault.{PlanFault}
 use Rattle.node_vis.specs.declared.runs.Run.{Run}
 use Rattle.node_vis.specs.Pairs.{Pair, joined_lists, pairs_from, level_pairs}
 use Rattle.node_vis.specs.Pieces.{pieces_of, with_run}
-use Rattle.node_vis.specs.Runs.{Added, Adds, IsFull, piece_in}
+use Rattle.node_vis.specs.Runs.{AddsAll, Adds, IsFull, piece_in}
 use Rattle.node_vis.proofs.Counting.{at_index}
 use Rattle.node_vis.proofs.Cutting.{with_run_is}
 use Rattle.node_vis.proofs.Growing.{full_more}
@@ -41,7 +41,7 @@ full_run old run why full pairs were =
 pub only_run : (result : Result (Unit {0}) PlanFault) (old new : List Piece) (levels : List Level) (run : Run)
     → length levels ≡ 0 → IfOk result (λ _. new ≡ with_run old (piece_in run))
     → IfErr result (IsFull (length (with_run old (piece_in run))))
-    → Added old (level_pairs levels run.remote run.local run.len) result new
+    → AddsAll old (level_pairs levels run.remote run.local run.len) result new
 only_run (Ok done) old new levels run none is full =
     let P : List Level → Type 0 = λ ls. Adds old (level_pairs ls run.remote run.local run.len) new in
     subst P (sym (nil_from_length levels none)) (adds_run old new run is)

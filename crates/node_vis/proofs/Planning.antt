@@ -9,7 +9,7 @@ use Rattle.node_vis.specs.declared.shapes.Level.{Level}
 use Rattle.node_vis.specs.declared.shapes.Piece.{Piece}
 use Rattle.node_vis.specs.declared.shapes.PlanFault.{PlanFault}
 use Rattle.node_vis.specs.Pairs.{Pair, level_pairs, strided_pairs, vectors, total, indexed_pairs}
-use Rattle.node_vis.specs.Pieces.{IsCut, pieces_of, spelled}
+use Rattle.node_vis.specs.Pieces.{IsCut, pieces_of, pairs_of_pieces}
 use Rattle.node_vis.specs.declared.shapes.Strided.{Strided}
 use Rattle.node_vis.specs.declared.shapes.Indexed.{Indexed}
 use Rattle.node_vis.specs.declared.shapes.PlanFault.TheVariants as fault
@@ -20,10 +20,10 @@ use Rattle.node_vis.proofs.Counting.{few_levels, no_pairs}
 use Rattle.node_vis.proofs.Cutting.{pieces_cut}
 use Rattle.node_vis.proofs.Bytes.{judged}
 
-pub cut_of : (pairs : List Pair) (pieces : List Piece) → pieces ≡ pieces_of pairs → IsCut pieces (spelled pieces)
+pub cut_of : (pairs : List Pair) (pieces : List Piece) → pieces ≡ pieces_of pairs → IsCut pieces (pairs_of_pieces pieces)
 cut_of pairs pieces is =
     let cut = pieces_cut pairs in
-    subst (λ ps. IsCut ps (spelled ps)) (sym is)
+    subst (λ ps. IsCut ps (pairs_of_pieces ps)) (sym is)
     (record { spells = refl; filled = cut.filled; apart = cut.apart })
 
 -- by the pieces, or by the pairs

@@ -4,7 +4,7 @@ use Rattle.std.proofs.Common.{ap, ap₂, ◌∙◌, arith, zero-add, add-zero, a
 use Rattle.std.proofs.Math.Nat.{suc-add}
 use Rattle.std.proofs.lemmas.List.{append-nil, nil_from_length}
 use Rattle.node_vis.specs.declared.shapes.Piece.{Piece}
-use Rattle.node_vis.specs.Pairs.{Pair, pair, pairs_from, bytes_from, range_bytes, paired, range_pairs}
+use Rattle.node_vis.specs.Pairs.{Pair, pair, pairs_from, bytes_from, range_bytes, pairs_of, range_pairs}
 use Rattle.node_vis.specs.Pieces.{pieces_of}
 use Rattle.node_vis.specs.declared.shapes.PlanFault.{PlanFault}
 use Rattle.node_vis.specs.Runs.{Adds, IsFull}
@@ -23,13 +23,13 @@ bytes_from-add (suc first) second start =
 
 -- bytes that begin both lists, as many on either side
 pub paired-run : (len remote local : ℕ) (far near : List ℕ)
-    → paired (bytes_from remote len ++ far) (bytes_from local len ++ near)
-    ≡ pairs_from remote local len ++ paired far near
+    → pairs_of (bytes_from remote len ++ far) (bytes_from local len ++ near)
+    ≡ pairs_from remote local len ++ pairs_of far near
 paired-run zero remote local far near = refl
 paired-run (suc len) remote local far near =
     ap (λ ps. pair remote local ∷ ps) (paired-run len (suc remote) (suc local) far near)
 
-pub paired-nil : (far : List ℕ) → paired far [] ≡ []
+pub paired-nil : (far : List ℕ) → pairs_of far [] ≡ []
 paired-nil [] = refl
 paired-nil (byte ∷ far) = refl
 
@@ -41,7 +41,7 @@ pub record Walks (old : List Piece) (all : List Pair) (far far_len : ℕ) (remot
     (locals : List (ℕ × ℕ)) (new : List Piece) : Type 0 where
   pub done : List Pair
   pub adds : Adds old done new
-  pub rest : done ++ paired (bytes_from far far_len ++ range_bytes remotes)
+  pub rest : done ++ pairs_of (bytes_from far far_len ++ range_bytes remotes)
       (bytes_from near near_len ++ range_bytes locals)
       ≡ all
 
@@ -63,10 +63,10 @@ walks_far old all far far_len remotes near near_len locals new first len later r
   adds = walks.adds;
   rest =
       let empty : bytes_from far far_len ≡ [] = ap (bytes_from far) none in
-      ap₂ (λ f l. walks.done ++ paired (bytes_from f l ++ range_bytes later)
+      ap₂ (λ f l. walks.done ++ pairs_of (bytes_from f l ++ range_bytes later)
       (bytes_from near near_len ++ range_bytes locals))
       one two
-      ∙ ap₂ (λ bs rs. walks.done ++ paired (bs ++ range_bytes rs) (bytes_from near near_len ++ range_bytes locals))
+      ∙ ap₂ (λ bs rs. walks.done ++ pairs_of (bs ++ range_bytes rs) (bytes_from near near_len ++ range_bytes locals))
       (sym empty) (sym are)
       ∙ walks.rest;
 }
@@ -81,10 +81,10 @@ walks_near old all far far_len remotes near near_len locals new first len later 
   adds = walks.adds;
   rest =
       let empty : bytes_from near near_len ≡ [] = ap (bytes_from near) none in
-      ap₂ (λ f l. walks.done ++ paired (bytes_from far far_len ++ range_bytes remotes)
+      ap₂ (λ f l. walks.done ++ pairs_of (bytes_from far far_len ++ range_bytes remotes)
       (bytes_from f l ++ range_bytes later))
       one two
-      ∙ ap₂ (λ bs rs. walks.done ++ paired (bytes_from far far_len ++ range_bytes remotes) (bs ++ range_bytes rs))
+      ∙ ap₂ (λ bs rs. walks.done ++ pairs_of (bytes_from far far_len ++ range_bytes remotes) (bs ++ range_bytes rs))
       (sym empty) (sym are)
       ∙ walks.rest;
 }
@@ -95,8 +95,8 @@ whole part all within = omega (arith, within)
 -- what is left of both sides begins with a run
 run_first : (far far_len : ℕ) (remotes : List (ℕ × ℕ)) (near near_len : ℕ) (locals : List (ℕ × ℕ)) (len : ℕ)
     → len ≤ far_len → len ≤ near_len
-    → paired (bytes_from far far_len ++ range_bytes remotes) (bytes_from near near_len ++ range_bytes locals)
-    ≡ pairs_from far near len ++ paired (bytes_from (far + len) (far_len - len) ++ range_bytes remotes)
+    → pairs_of (bytes_from far far_len ++ range_bytes remotes) (bytes_from near near_len ++ range_bytes locals)
+    ≡ pairs_from far near len ++ pairs_of (bytes_from (far + len) (far_len - len) ++ range_bytes remotes)
     (bytes_from (near + len) (near_len - len) ++ range_bytes locals)
 run_first far far_len remotes near near_len locals len less few =
     let far_parts : bytes_from far far_len ≡ bytes_from far len ++ bytes_from (far + len) (far_len - len)
@@ -105,7 +105,7 @@ run_first far far_len remotes near near_len locals len less few =
     = ap (bytes_from near) (sym (whole len near_len few)) ∙ bytes_from-add len (near_len - len) near in
     let far_rest = bytes_from (far + len) (far_len - len) ++ range_bytes remotes in
     let near_rest = bytes_from (near + len) (near_len - len) ++ range_bytes locals in
-    ap₂ paired (ap (λ bs. bs ++ range_bytes remotes) far_parts
+    ap₂ pairs_of (ap (λ bs. bs ++ range_bytes remotes) far_parts
     ∙ append_assoc (bytes_from far len) (bytes_from (far + len) (far_len - len)) (range_bytes remotes))
     (ap (λ bs. bs ++ range_bytes locals) near_parts
     ∙ append_assoc (bytes_from near len) (bytes_from (near + len) (near_len - len)) (range_bytes locals))
@@ -124,7 +124,7 @@ walks_run old all far far_len remotes near near_len locals between new len walks
       ∙ ap pieces_of (append_assoc pairs walks.done (pairs_from far near len));
   rest =
       append_assoc walks.done (pairs_from far near len)
-      (paired (bytes_from (far + len) (far_len - len) ++ range_bytes remotes)
+      (pairs_of (bytes_from (far + len) (far_len - len) ++ range_bytes remotes)
       (bytes_from (near + len) (near_len - len) ++ range_bytes locals))
       ∙ ap (λ ps. walks.done ++ ps) (sym (run_first far far_len remotes near near_len locals len less few))
       ∙ walks.rest;
@@ -139,7 +139,7 @@ pub walks_full : (old : List Piece) (all : List Pair) (far far_len : ℕ) (remot
     → (pairs : List Pair) → old ≡ pieces_of pairs → IsFull (length (pieces_of (pairs ++ all))) why
 walks_full old all far far_len remotes near near_len locals between len why walks less few full pairs were =
     let run = pairs_from far near len in
-    let rest = paired (bytes_from (far + len) (far_len - len) ++ range_bytes remotes)
+    let rest = pairs_of (bytes_from (far + len) (far_len - len) ++ range_bytes remotes)
     (bytes_from (near + len) (near_len - len) ++ range_bytes locals) in
     let all_is : ((pairs ++ walks.done) ++ run) ++ rest ≡ pairs ++ all
     = append_assoc (pairs ++ walks.done) run rest ∙ append_assoc pairs walks.done (run ++ rest)
@@ -157,7 +157,7 @@ walked_far old all far far_len remotes near near_len locals new walks none no_ra
     walks.adds pairs is
     ∙ ap (λ ps. pieces_of (pairs ++ ps)) (sym (append-nil walks.done)
     ∙ sym (ap₂
-    (λ bs rs. walks.done ++ paired (bs ++ range_bytes rs) (bytes_from near near_len ++ range_bytes locals)) empty
+    (λ bs rs. walks.done ++ pairs_of (bs ++ range_bytes rs) (bytes_from near near_len ++ range_bytes locals)) empty
     (nil_from_length remotes no_range)) ∙ walks.rest)
 
 -- nor on the local side
@@ -166,11 +166,11 @@ pub walked_near : (old : List Piece) (all : List Pair) (far far_len : ℕ) (remo
     → near_len ≡ 0 → length locals ≡ 0 → Adds old all new
 walked_near old all far far_len remotes near near_len locals new walks none no_range pairs is =
     let empty : bytes_from near near_len ≡ [] = ap (bytes_from near) none in
-    let front = bytes_from far far_len ++ range_bytes remotes in
+    let prefix = bytes_from far far_len ++ range_bytes remotes in
     walks.adds pairs is
     ∙ ap (λ ps. pieces_of (pairs ++ ps)) (sym (append-nil walks.done)
-    ∙ ap (λ ps. walks.done ++ ps) (sym (paired-nil front))
-    ∙ sym (ap₂ (λ bs rs. walks.done ++ paired front (bs ++ range_bytes rs)) empty
+    ∙ ap (λ ps. walks.done ++ ps) (sym (paired-nil prefix))
+    ∙ sym (ap₂ (λ bs rs. walks.done ++ pairs_of prefix (bs ++ range_bytes rs)) empty
     (nil_from_length locals no_range)) ∙ walks.rest)
 
 -- 1 where something is left

@@ -16,9 +16,9 @@ use Rattle.node_vis.specs.Pieces.{pieces_of}
 use Rattle.node_vis.specs.declared.levels.TheConstants.{MOST_VECTORS}
 
 -- the byte of a pair that is written: of a put the target's, of a get the local one
-abbrev pub written : Way → Pair → ℕ
-written Put pair = pair.remote
-written Get pair = pair.local
+abbrev pub written_byte : Way → Pair → ℕ
+written_byte Put pair = pair.remote
+written_byte Get pair = pair.local
 
 -- a byte stands there twice
 abbrev pub has_twice : List ℕ → Bool
@@ -30,7 +30,7 @@ abbrev pub pairs_fault : Parameters → Way → List Pair → Option PlanFault
 pairs_fault settings way pairs =
     if list_any (λ (pair : Pair). nat_le settings.segment pair.local) pairs then Some fault.Source
     else (if list_any (λ (pair : Pair). nat_le settings.segment pair.remote) pairs then Some fault.Offset
-    else (if has_twice (map (written way) pairs) then Some fault.Overlap else None))
+    else (if has_twice (map (written_byte way) pairs) then Some fault.Overlap else None))
 
 -- before that, more than 1,024 pieces
 abbrev pub cut_fault : Parameters → Way → List Pair → Option PlanFault

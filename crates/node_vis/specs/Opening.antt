@@ -36,15 +36,15 @@ Opens caller old thread (Ok refusal) new =
 Opens caller old thread (Err lacking) new = IsAsBefore caller old new × Never caller old
 
 -- the pieces that were tried, of those from `from` on: up to the one that was refused
-abbrev pub tried : (from : ℕ) → (refused : Option ℕ) → List Piece → List Piece
-tried from None pieces = pieces
-tried from (Some next) pieces = take (next + 1 - from) pieces
+abbrev pub pieces_tried : (from : ℕ) → (refused : Option ℕ) → List Piece → List Piece
+pieces_tried from None pieces = pieces
+pieces_tried from (Some next) pieces = take (next + 1 - from) pieces
 
 -- the pieces were begun, up to the first one that was refused
 abbrev pub TriesPlan : {K : Type 0} → (caller : Ghosts K) → K → PlanState → (thread from : ℕ)
     → Result (Option ℕ) OutOfMemory → K → Type 0
 TriesPlan caller old plan thread from (Ok refused) new =
-    Makes caller old (beginnings plan thread (tried from refused (drop from plan.pieces))) new
+    Makes caller old (beginnings plan thread (pieces_tried from refused (drop from plan.pieces))) new
     × ForItsNode caller old (λ node. refused
     ≡ first_refused (caller.site old) node from (beginnings plan thread (drop from plan.pieces)))
 TriesPlan caller old plan thread from (Err lacking) new = IsAsBefore caller old new × Never caller old

@@ -59,14 +59,14 @@ total [] = 0
 total (range ∷ ranges) = range.1 + total ranges
 
 -- the first with the first, the second with the second, while both lists have one
-abbrev pub paired : (remote local : List ℕ) → List Pair
-paired [] locals = []
-paired (remote ∷ remotes) [] = []
-paired (remote ∷ remotes) (local ∷ locals) = pair remote local ∷ paired remotes locals
+abbrev pub pairs_of : (remote local : List ℕ) → List Pair
+pairs_of [] locals = []
+pairs_of (remote ∷ remotes) [] = []
+pairs_of (remote ∷ remotes) (local ∷ locals) = pair remote local ∷ pairs_of remotes locals
 
 -- the bytes of the remote ranges with those of the local ones
 abbrev pub range_pairs : (remote local : List (ℕ × ℕ)) → List Pair
-range_pairs remote local = paired (range_bytes remote) (range_bytes local)
+range_pairs remote local = pairs_of (range_bytes remote) (range_bytes local)
 
 abbrev pub indexed_pairs : Indexed → List Pair
 indexed_pairs transfer = range_pairs transfer.remote.now transfer.local.now

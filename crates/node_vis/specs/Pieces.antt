@@ -12,9 +12,9 @@ abbrev pub pairs_in : Piece → List Pair
 pairs_in piece = pairs_from piece.remote piece.local piece.len
 
 -- those of pieces, in their order
-abbrev pub spelled : List Piece → List Pair
-spelled [] = []
-spelled (piece ∷ pieces) = pairs_in piece ++ spelled pieces
+abbrev pub pairs_of_pieces : List Piece → List Pair
+pairs_of_pieces [] = []
+pairs_of_pieces (piece ∷ pieces) = pairs_in piece ++ pairs_of_pieces pieces
 
 -- no piece is empty
 abbrev pub AreFilled : List Piece → Type 0
@@ -38,7 +38,7 @@ AreUnjoined (piece ∷ pieces) = IsApart piece pieces × AreUnjoined pieces
 
 -- the pieces have these pairs, in order; none is empty, and none continues the one before it on both sides
 pub record IsCut (pieces : List Piece) (pairs : List Pair) : Type 0 where
-  pub spells : spelled pieces ≡ pairs
+  pub spells : pairs_of_pieces pieces ≡ pairs
   pub filled : AreFilled pieces
   pub apart : AreUnjoined pieces
 

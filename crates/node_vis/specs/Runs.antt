@@ -54,9 +54,9 @@ abbrev pub Adds : (old : List Piece) → List Pair → (new : List Piece) → Ty
 Adds old more new = (pairs : List Pair) → old ≡ pieces_of pairs → new ≡ pieces_of (pairs ++ more)
 
 -- or they would make too many pieces
-abbrev pub Added : (old : List Piece) → List Pair → Result (Unit {0}) PlanFault → (new : List Piece) → Type 0
-Added old more (Ok done) new = Adds old more new
-Added old more (Err why) new =
+abbrev pub AddsAll : (old : List Piece) → List Pair → Result (Unit {0}) PlanFault → (new : List Piece) → Type 0
+AddsAll old more (Ok done) new = Adds old more new
+AddsAll old more (Err why) new =
     (pairs : List Pair) → old ≡ pieces_of pairs → IsFull (length (pieces_of (pairs ++ more))) why
 
 -- the pieces of pairs, or they are too many

@@ -3,7 +3,7 @@
 ghost use Rattle.std.specs.Prelude.{◌≡◌, ◌≤◌, ◌<◌, IfOk, IfSome, MatchOption, length};
 ghost use Rattle.std.specs.List.{list_any};
 ghost use Rattle.node_vis.specs.Pairs.{level_pairs, vectors as vectors_of};
-ghost use Rattle.node_vis.specs.Runs.{Added, AreFew, is_none, IsGathered, IsNear};
+ghost use Rattle.node_vis.specs.Runs.{AddsAll, AreFew, is_none, IsGathered, IsNear};
 
 use crate::runs::{Run, Runs};
 use crate::shapes::{Level, PlanFault};
@@ -51,7 +51,7 @@ pub fn few_vectors(levels: &[Level]) -> Option<u64>
 fn add_levels(runs: &mut Runs, levels: &[Level], first: Run) -> Result<(), PlanFault>
     requires few { AreFew levels.now }
     requires near { IsNear (length levels.now) first }
-    ensures { Added runs.old (level_pairs levels.now first.remote first.local first.len) result
+    ensures { AddsAll runs.old (level_pairs levels.now first.remote first.local first.len) result
         runs.new }
 {
     let Some((level, deeper)) = levels.split_first() else {

@@ -2,7 +2,7 @@
 
 ghost use Rattle.std.specs.Prelude.{Some, ◌≡◌, ◌≤◌, ◌<◌, IfOk, length, slice_get};
 ghost use Rattle.node_vis.specs.Pairs.{strided_pairs, indexed_pairs};
-ghost use Rattle.node_vis.specs.Pieces.{IsCut, spelled};
+ghost use Rattle.node_vis.specs.Pieces.{IsCut, pairs_of_pieces};
 ghost use Rattle.node_vis.specs.Faults.{strided_fault, indexed_fault};
 ghost use Rattle.node_vis.specs.Plans.{IsPlanned, strided_plan, indexed_plan};
 ghost use Rattle.node_vis.specs.Beginning.{transfer_of};
@@ -156,7 +156,7 @@ fn planned(
     runs: &Runs,
 ) -> Result<Plan, PlanFault>
     requires there { to < settings.now.nodes }
-    requires pieces { IsCut runs.now (spelled runs.now) }
+    requires pieces { IsCut runs.now (pairs_of_pieces runs.now) }
     ensures { IsPlanned (pieces_fault settings.now way runs.now) (record {
       settings = settings.now;
       way = way;

@@ -2,7 +2,7 @@
 
 ghost use Rattle.std.specs.Prelude.{◌≡◌, ◌≤◌, length};
 ghost use Rattle.node_vis.specs.Pairs.{range_pairs, total};
-ghost use Rattle.node_vis.specs.Runs.{Added, IsGathered};
+ghost use Rattle.node_vis.specs.Runs.{AddsAll, IsGathered};
 
 use crate::runs::{Run, Runs};
 use crate::shapes::PlanFault;
@@ -29,7 +29,7 @@ struct Rest {
 
 /// Adds the pairs of the ranges.
 fn add_ranges(runs: &mut Runs, remote: &[(u64, u64)], local: &[(u64, u64)]) -> Result<(), PlanFault>
-    ensures { Added runs.old (range_pairs remote.now local.now) result runs.new }
+    ensures { AddsAll runs.old (range_pairs remote.now local.now) result runs.new }
 {
     let (mut remotes, mut locals) = (remote, local);
     let mut far = Rest { first: 0, len: 0 };

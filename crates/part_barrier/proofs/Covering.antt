@@ -5,12 +5,12 @@ use Rattle.std.specs.Prelude.{slice_get}
 use Rattle.std.proofs.lemmas.Bool.Decides.{nat_tests}
 use Rattle.std.proofs.lemmas.Bool.{cases_Bool, cases_eq, or_cases, and_parts}
 use Rattle.std.proofs.lemmas.Nat.Bits.{bit_at-zero, bit_at-pow_same, bit_at-pow_other}
-use Rattle.wire_message.specs.declared.note.BarrierNote.{BarrierNote}
+use Rattle.wire_message.specs.declared.notification.BarrierNotification.{BarrierNotification}
 use Rattle.part_barrier.specs.declared.known.Combination.{Combination}
 use Rattle.part_barrier.specs.declared.known.Notify.{Notify}
 use Rattle.part_barrier.specs.Masks.{has, has_all}
 use Rattle.part_barrier.specs.Combinations.{Notifies, no_notify, notified_by, all_of, among}
-use Rattle.part_barrier.specs.Record.{PhasePart, no_part, join, part_of, own_part, heard_part, note_of}
+use Rattle.part_barrier.specs.Record.{PhasePart, no_part, join, part_of, own_part, heard_part, notification_of}
 use Rattle.part_barrier.specs.World.{Covers}
 use Rattle.part_barrier.proofs.Combining.{combine_none, none_combine, one_written, has_or, all_of-same, all_of-or}
 use Rattle.part_barrier.proofs.Words.{words_number}
@@ -95,21 +95,21 @@ covers_grows nodes notifies newer part grows whole = record {
         notify.1.1 ∙ sym (grows node notify.1.0 notify.1.1))
     same node (inr found) = rw found refl
 
-pub covers_heard : (nodes phase : ℕ) (notifies : ℕ → Notifies) (notes : List BarrierNote)
-    → ((place : ℕ) (note : BarrierNote) → slice_get notes place ≡ Some note
-    → Covers nodes (notifies note.phase) (part_of note)) → Covers nodes (notifies phase) (heard_part phase notes)
+pub covers_heard : (nodes phase : ℕ) (notifies : ℕ → Notifies) (notifications : List BarrierNotification)
+    → ((place : ℕ) (notification : BarrierNotification) → slice_get notifications place ≡ Some notification
+    → Covers nodes (notifies notification.phase) (part_of notification)) → Covers nodes (notifies phase) (heard_part phase notifications)
 covers_heard nodes phase notifies [] all = covers_none nodes (notifies phase)
-covers_heard nodes phase notifies (note ∷ notes) all =
-    one_more (covers_heard nodes phase notifies notes (λ place newer equal. all (suc place) newer equal))
-    (cases_eq note.phase phase)
+covers_heard nodes phase notifies (notification ∷ notifications) all =
+    one_more (covers_heard nodes phase notifies notifications (λ place newer equal. all (suc place) newer equal))
+    (cases_eq notification.phase phase)
   where
-    one_more : Covers nodes (notifies phase) (heard_part phase notes) → (note.phase ≡ phase) ⊎ (note.phase ≢ phase)
-        → Covers nodes (notifies phase) (heard_part phase (note ∷ notes))
+    one_more : Covers nodes (notifies phase) (heard_part phase notifications) → (notification.phase ≡ phase) ⊎ (notification.phase ≢ phase)
+        → Covers nodes (notifies phase) (heard_part phase (notification ∷ notifications))
     one_more later (inl equal) =
-        let test : eqb note.phase phase ≡ true = grind (arith, nat_tests) in
-        rw test (covers_both nodes (notifies phase) (part_of note) (heard_part phase notes)
-        (subst (λ number. Covers nodes (notifies number) (part_of note)) equal (all 0 note refl)) later)
-    one_more later (inr equal) = let test : eqb note.phase phase ≡ false = grind (arith, nat_tests) in rw test later
+        let test : eqb notification.phase phase ≡ true = grind (arith, nat_tests) in
+        rw test (covers_both nodes (notifies phase) (part_of notification) (heard_part phase notifications)
+        (subst (λ number. Covers nodes (notifies number) (part_of notification)) equal (all 0 notification refl)) later)
+    one_more later (inr equal) = let test : eqb notification.phase phase ≡ false = grind (arith, nat_tests) in rw test later
 
 abbrev made : ℕ → Combination → PhasePart
 made mask combined = record { mask = mask; combined = combined }
@@ -119,14 +119,14 @@ pub same_part : {first second : PhasePart} → first.mask ≡ second.mask → fi
 same_part {first = first} {second = second} masks combinations =
     ap (λ mask. made mask first.combined) masks ∙ ap (made second.mask) combinations
 
--- what is written as a note is read as it was
-pub note_tells : (phase : ℕ) (part : PhasePart) → part_of (note_of phase part) ≡ part
-note_tells phase part = same_part (words_number part.mask) (one_written part.combined)
+-- what is written as a notification is read as it was
+pub notification_tells : (phase : ℕ) (part : PhasePart) → part_of (notification_of phase part) ≡ part
+notification_tells phase part = same_part (words_number part.mask) (one_written part.combined)
 
--- a part that is written as a note is covered as it was
-pub covers_note : (nodes phase : ℕ) (notifies : Notifies) (part : PhasePart) → Covers nodes notifies part
-    → Covers nodes notifies (part_of (note_of phase part))
-covers_note nodes phase notifies part whole = subst (Covers nodes notifies) (sym (note_tells phase part)) whole
+-- a part that is written as a notification is covered as it was
+pub covers_notification : (nodes phase : ℕ) (notifies : Notifies) (part : PhasePart) → Covers nodes notifies part
+    → Covers nodes notifies (part_of (notification_of phase part))
+covers_notification nodes phase notifies part whole = subst (Covers nodes notifies) (sym (notification_tells phase part)) whole
 
 -- where all are in the mask, all have notified, and the rest is the outcome
 pub has_all-each : (mask nodes node : ℕ) → has_all mask nodes ≡ true → node < nodes → has mask node ≡ true

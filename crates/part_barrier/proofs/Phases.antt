@@ -3,20 +3,20 @@ use Rattle.std.proofs.Common.{◌≡◌, ◌≢◌, ◌⊎◌, inl, inr, ℕ, su
 use Rattle.std.proofs.Common.{refl, sym, ap, ◌∙◌, subst, arith, eqb}
 use Rattle.std.specs.List.{AllByRecursion, slice_get}
 use Rattle.std.proofs.lemmas.Bool.{cases_Bool, cases_eq}
-use Rattle.wire_message.specs.declared.note.BarrierNote.{BarrierNote}
+use Rattle.wire_message.specs.declared.notification.BarrierNotification.{BarrierNotification}
 use Rattle.part_barrier.specs.declared.known.Notify.{Notify}
 use Rattle.part_barrier.specs.declared.answer.Notified.{Notified}
 use Rattle.part_barrier.specs.declared.answer.Notified.TheVariants as told
 use Rattle.part_barrier.specs.declared.answer.BarrierAnswer.{BarrierAnswer}
 use Rattle.part_barrier.specs.declared.answer.BarrierAnswer.TheVariants as tried
-use Rattle.part_barrier.specs.Record.{BarrierRecord, SentNote, own, notify_answer, notify_after, try_answer}
-use Rattle.part_barrier.specs.Record.{try_after, hear, note_to, send}
+use Rattle.part_barrier.specs.Record.{BarrierRecord, SentNotification, own, notify_answer, notify_after, try_answer}
+use Rattle.part_barrier.specs.Record.{try_after, hear, notification_to, send}
 use Rattle.part_barrier.specs.World.{Barriers, BarrierEvent, Notifying, Trying, Sending, Hearing, put_record}
 use Rattle.part_barrier.specs.World.{hear_sent}
 use Rattle.part_barrier.specs.World.{happens, barriers_after, all_opened}
 use Rattle.part_barrier.specs.World.{IsAmong, InEveryRun, AreCovered, AllNotified, EndedByAll}
 use Rattle.part_barrier.proofs.Runs.{put_same, put_other, keeps_notify, keeps_try, keeps_send, keeps_hear_sent}
-use Rattle.part_barrier.proofs.Runs.{note_to_routed, routed_covered, happens_keeps, opens, inv_tells}
+use Rattle.part_barrier.proofs.Runs.{notification_to_routed, routed_covered, happens_keeps, opens, inv_tells}
 
 -- node i goes from barriers i to q, and ends at most a phase that all have notified
 put_ended : (nodes : ℕ) (barriers : Barriers) (node : ℕ) (newer : BarrierRecord) → EndedByAll nodes barriers
@@ -61,17 +61,17 @@ notify_ended kept id flags told.BadFlags = refl
 notify_ended kept id flags told.Twice = refl
 notify_ended kept id flags told.Exhausted = refl
 
-pub send_ended : (kept : BarrierRecord) (to : ℕ) (maybe : Option BarrierNote) → (send kept to maybe).ended ≡ kept.ended
+pub send_ended : (kept : BarrierRecord) (to : ℕ) (maybe : Option BarrierNotification) → (send kept to maybe).ended ≡ kept.ended
 send_ended kept to None = refl
-send_ended kept to (Some note) = refl
+send_ended kept to (Some notification) = refl
 
-pub hear_ended : (kept : BarrierRecord) (note : BarrierNote) → (hear kept note).ended ≡ kept.ended
-hear_ended kept note = elim (cases_Bool (eqb note.phase kept.ended || eqb note.phase
-    (suc kept.ended))) [ inl sent_note ↦ rw sent_note refl | inr f ↦ rw f refl ]
+pub hear_ended : (kept : BarrierRecord) (notification : BarrierNotification) → (hear kept notification).ended ≡ kept.ended
+hear_ended kept notification = elim (cases_Bool (eqb notification.phase kept.ended || eqb notification.phase
+    (suc kept.ended))) [ inl sent_notification ↦ rw sent_notification refl | inr f ↦ rw f refl ]
 
-hear_sent_ended : (kept : BarrierRecord) (maybe : Option SentNote) → (hear_sent kept maybe).ended ≡ kept.ended
+hear_sent_ended : (kept : BarrierRecord) (maybe : Option SentNotification) → (hear_sent kept maybe).ended ≡ kept.ended
 hear_sent_ended kept None = refl
-hear_sent_ended kept (Some sent_note) = hear_ended kept sent_note.note
+hear_sent_ended kept (Some sent_notification) = hear_ended kept sent_notification.notification
 
 try_ended : (nodes : ℕ) (barriers : Barriers) (kept : BarrierRecord) (answer : BarrierAnswer)
     → ((answer ≡ tried.Ok) ⊎ (answer ≡ tried.Mismatch) → AllNotified nodes barriers kept.ended) → (phase : ℕ)
@@ -110,13 +110,13 @@ happens_ended nodes barriers (Trying node try) there covered whole =
     let answer = try_answer nodes node (barriers node) try in
     put_ended nodes barriers node _ whole (keeps_try nodes barriers (barriers node) answer).own
     (try_ended nodes barriers (barriers node) answer
-    (λ note. (inv_tells nodes barriers covered node try there note).0)) there
+    (λ notification. (inv_tells nodes barriers covered node try there notification).0)) there
 happens_ended nodes barriers (Sending node to) there covered whole = put_ended nodes barriers node _ whole
-    (keeps_send nodes barriers (barriers node) to (note_to nodes node (barriers node) to)
-    (λ note e. let found = note_to_routed nodes node (barriers node) to note e in
-    routed_covered nodes barriers node found.0 to note covered there found.1)).own
-    (same_ended nodes barriers (barriers node) (send (barriers node) to (note_to nodes node (barriers node) to))
-    (send_ended (barriers node) to (note_to nodes node (barriers node) to))) there
+    (keeps_send nodes barriers (barriers node) to (notification_to nodes node (barriers node) to)
+    (λ notification e. let found = notification_to_routed nodes node (barriers node) to notification e in
+    routed_covered nodes barriers node found.0 to notification covered there found.1)).own
+    (same_ended nodes barriers (barriers node) (send (barriers node) to (notification_to nodes node (barriers node) to))
+    (send_ended (barriers node) to (notification_to nodes node (barriers node) to))) there
 happens_ended nodes barriers (Hearing node other index) there covered whole =
     put_ended nodes barriers node _ whole (keeps_hear_sent nodes barriers (barriers node)
     (slice_get (barriers other).sent index) (λ s e. covered.sent other index s e)).own

@@ -102,7 +102,7 @@ known_all nodes me mask many is low =
 
 -- ---- a round more
 
--- a round that sends puts its node into the mask of those that get a note
+-- a round that sends puts its node into the mask of those that get a notification
 pub round_more : (nodes me mask far round goes to : ℕ) → 2 ^ round < nodes → has_back nodes me mask (2 ^ round) ≡ true
     → far ≡ (me + 2 ^ round) % nodes → has goes to ≡ any_round nodes me mask to round
     → has (bit_or goes (2 ^ far)) to ≡ any_round nodes me mask to (suc round)

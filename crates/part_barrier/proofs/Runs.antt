@@ -1,4 +1,4 @@
--- Every run: notes tell what was notified, and a try tells the outcome.
+-- Every run: notifications tell what was notified, and a try tells the outcome.
 use Rattle.std.proofs.Common.{◌≡◌, ◌≢◌, ◌⊎◌, inl, inr, ℕ, zero, suc, ◌<◌, ℤ, true, true≢false, Bool, false, cond}
 use Rattle.std.proofs.Common.{◌||◌, Option, Some, None, List, [], ◌∷◌, ◌++◌, refl, sym, ap, ◌∙◌, subst, arith, eqb, ◌↔◌}
 use Rattle.std.specs.Prelude.{slice_get, nat_lt}
@@ -6,7 +6,7 @@ use Rattle.std.specs.List.{AllByRecursion}
 use Rattle.std.proofs.lemmas.Bool.Decides.{nat_tests}
 use Rattle.std.proofs.lemmas.Bool.{cases_Bool, cases_eq}
 use Rattle.std.proofs.lemmas.Option.{same_Some}
-use Rattle.wire_message.specs.declared.note.BarrierNote.{BarrierNote}
+use Rattle.wire_message.specs.declared.notification.BarrierNotification.{BarrierNotification}
 use Rattle.part_barrier.specs.declared.known.Notify.{Notify}
 use Rattle.part_barrier.specs.declared.answer.Notified.{Notified}
 use Rattle.part_barrier.specs.declared.answer.Notified.TheVariants as told
@@ -14,17 +14,17 @@ use Rattle.part_barrier.specs.declared.answer.BarrierAnswer.{BarrierAnswer}
 use Rattle.part_barrier.specs.declared.answer.BarrierAnswer.TheVariants as tried
 use Rattle.part_barrier.specs.Masks.{has_all}
 use Rattle.part_barrier.specs.Combinations.{all_of}
-use Rattle.part_barrier.specs.Record.{BarrierRecord, SentNote, PhasePart, own, own_part, part_of, heard_part, known}
-use Rattle.part_barrier.specs.Record.{Stage, Try, stage, note_of, routed}
+use Rattle.part_barrier.specs.Record.{BarrierRecord, SentNotification, PhasePart, own, own_part, part_of, heard_part, known_part}
+use Rattle.part_barrier.specs.Record.{Stage, Try, stage, notification_of, notification_on_route}
 use Rattle.part_barrier.specs.Record.{notify_answer, notify_after, try_answer, try_after, own_try, unready}
-use Rattle.part_barrier.specs.Record.{is_other_try, hear, due, due_before, or_else, note_to, was_sent, send}
+use Rattle.part_barrier.specs.Record.{is_other_try, hear, due, due_before, or_else, notification_to, was_sent, send}
 use Rattle.part_barrier.specs.Route.{goes_to}
 use Rattle.part_barrier.specs.World.{Barriers, BarrierEvent, Notifying, Trying, Sending, Hearing, put_record}
 use Rattle.part_barrier.specs.World.{hear_sent}
 use Rattle.part_barrier.specs.World.{happens, barriers_after, all_opened}
 use Rattle.part_barrier.specs.World.{IsAmong, Covers, IsCovered, AreCovered, Keeps, TryTells, InEveryRun}
-use Rattle.part_barrier.specs.World.{is_mismatch, notified}
-use Rattle.part_barrier.proofs.Covering.{covers_both, covers_own, covers_grows, covers_heard, covers_note}
+use Rattle.part_barrier.specs.World.{is_mismatch, notifies_of}
+use Rattle.part_barrier.proofs.Covering.{covers_both, covers_own, covers_grows, covers_heard, covers_notification}
 use Rattle.part_barrier.proofs.Covering.{covers_all, has_all-each}
 use Rattle.base_lists.proofs.Places.{slice_get_kept}
 
@@ -42,7 +42,7 @@ slice_get_push (first ∷ items) last (suc place) item e = slice_get_push items 
 pub keeps_same : (nodes : ℕ) (barriers : Barriers) (kept : BarrierRecord) → Keeps nodes barriers kept kept
 keeps_same nodes barriers kept = record {
   own = λ phase notify e. e;
-  heard = λ place note e. inl e;
+  heard = λ place notification e. inl e;
   sent =
       λ place s e. inl e;
 }
@@ -57,36 +57,36 @@ put_other barriers node other kept nodes = grind (arith, nat_tests)
 pub keeps_inv : (nodes : ℕ) (barriers : Barriers) (node : ℕ) (newer : BarrierRecord) → AreCovered nodes barriers
     → Keeps nodes barriers (barriers node) newer → AreCovered nodes (put_record barriers node newer)
 keeps_inv nodes barriers node newer covered keeps = record {
-  heard = λ other place note e. elim (cases_eq other node) [
-    | inl same ↦ elim (keeps.heard place note
-        (at_i other (λ any. slice_get any.heard place ≡ Some note) same e)) [
-          | inl was ↦ grown note
-              (covered.heard node place note was)
-          | inr new ↦ grown note new
+  heard = λ other place notification e. elim (cases_eq other node) [
+    | inl same ↦ elim (keeps.heard place notification
+        (at_i other (λ any. slice_get any.heard place ≡ Some notification) same e)) [
+          | inl was ↦ grown notification
+              (covered.heard node place notification was)
+          | inr new ↦ grown notification new
         ]
-    | inr unlike ↦ grown note (covered.heard other place note
-        (off_i other (λ any. slice_get any.heard place ≡ Some note) unlike e))
+    | inr unlike ↦ grown notification (covered.heard other place notification
+        (off_i other (λ any. slice_get any.heard place ≡ Some notification) unlike e))
   ];
-  sent = λ other place sent_note e. elim (cases_eq other node) [
-    | inl same ↦ elim (keeps.sent place sent_note
-        (at_i other (λ any. slice_get any.sent place ≡ Some sent_note) same e)) [
-          | inl was ↦ grown sent_note.note
-              (covered.sent node place sent_note was)
-          | inr new ↦ grown sent_note.note new
+  sent = λ other place sent_notification e. elim (cases_eq other node) [
+    | inl same ↦ elim (keeps.sent place sent_notification
+        (at_i other (λ any. slice_get any.sent place ≡ Some sent_notification) same e)) [
+          | inl was ↦ grown sent_notification.notification
+              (covered.sent node place sent_notification was)
+          | inr new ↦ grown sent_notification.notification new
         ]
-    | inr unlike ↦ grown sent_note.note (covered.sent other place sent_note
-        (off_i other (λ any. slice_get any.sent place ≡ Some sent_note) unlike e))
+    | inr unlike ↦ grown sent_notification.notification (covered.sent other place sent_notification
+        (off_i other (λ any. slice_get any.sent place ≡ Some sent_notification) unlike e))
   ];
 }
   where
     at_i : (other : ℕ) (Holds : BarrierRecord → Type 0) → other ≡ node → Holds (put_record barriers node newer other)
         → Holds newer
-    at_i other Holds same note =
-        subst Holds (ap (put_record barriers node newer) same ∙ put_same barriers node newer) note
+    at_i other Holds same notification =
+        subst Holds (ap (put_record barriers node newer) same ∙ put_same barriers node newer) notification
 
     off_i : (other : ℕ) (Holds : BarrierRecord → Type 0) → other ≢ node → Holds (put_record barriers node newer other)
         → Holds (barriers other)
-    off_i other Holds unlike note = subst Holds (put_other barriers node other newer unlike) note
+    off_i other Holds unlike notification = subst Holds (put_other barriers node other newer unlike) notification
 
     grows : (phase other : ℕ) (notify : Notify) → own (barriers other) phase ≡ Some notify
         → own (put_record barriers node newer other) phase ≡ Some notify
@@ -97,10 +97,10 @@ keeps_inv nodes barriers node newer covered keeps = record {
       | inr unlike ↦ subst (λ any. own any phase ≡ Some notify) (sym (put_other barriers node other newer unlike)) e
     ]
 
-    grown : (note : BarrierNote) → IsCovered nodes barriers note → IsCovered nodes (put_record barriers node newer) note
-    grown note told =
-        covers_grows nodes (notified barriers note.phase) (notified (put_record barriers node newer) note.phase)
-        (part_of note) (grows note.phase) told
+    grown : (notification : BarrierNotification) → IsCovered nodes barriers notification → IsCovered nodes (put_record barriers node newer) notification
+    grown notification told =
+        covers_grows nodes (notifies_of barriers notification.phase) (notifies_of (put_record barriers node newer) notification.phase)
+        (part_of notification) (grows notification.phase) told
 
 -- ---- each event
 
@@ -108,7 +108,7 @@ pub keeps_notify : (nodes : ℕ) (barriers : Barriers) (kept : BarrierRecord) (i
     → Keeps nodes barriers kept (notify_after kept id flags answer)
 keeps_notify nodes barriers kept id flags told.Ok = record {
   own = λ phase notify e. slice_get_kept kept.notifies _ phase notify e;
-  heard = λ place note e. inl e;
+  heard = λ place notification e. inl e;
   sent = λ place s e. inl e;
 }
 keeps_notify nodes barriers kept id flags told.BadFlags = keeps_same nodes barriers kept
@@ -119,24 +119,24 @@ pub keeps_try : (nodes : ℕ) (barriers : Barriers) (kept : BarrierRecord) (answ
     → Keeps nodes barriers kept (try_after kept answer)
 keeps_try nodes barriers kept tried.Ok = record {
   own = λ phase notify e. e;
-  heard = λ node note e. inl e;
+  heard = λ node notification e. inl e;
   sent =
       λ node s e. inl e;
 }
 keeps_try nodes barriers kept tried.Mismatch =
-    record { own = λ phase notify e. e; heard = λ node note e. inl e; sent = λ node s e. inl e }
+    record { own = λ phase notify e. e; heard = λ node notification e. inl e; sent = λ node s e. inl e }
 keeps_try nodes barriers kept tried.NotReady = keeps_same nodes barriers kept
 keeps_try nodes barriers kept tried.NoNotify = keeps_same nodes barriers kept
 keeps_try nodes barriers kept tried.BadFlags = keeps_same nodes barriers kept
 keeps_try nodes barriers kept (tried.Exhausted node) = keeps_same nodes barriers kept
 
-pub keeps_hear : (nodes : ℕ) (barriers : Barriers) (kept : BarrierRecord) (note : BarrierNote)
-    → IsCovered nodes barriers note → Keeps nodes barriers kept (hear kept note)
-keeps_hear nodes barriers kept note told =
-    elim (cases_Bool (eqb note.phase kept.ended || eqb note.phase (suc kept.ended))) [
-      | inl sent_note ↦ rw sent_note (record {
+pub keeps_hear : (nodes : ℕ) (barriers : Barriers) (kept : BarrierRecord) (notification : BarrierNotification)
+    → IsCovered nodes barriers notification → Keeps nodes barriers kept (hear kept notification)
+keeps_hear nodes barriers kept notification told =
+    elim (cases_Bool (eqb notification.phase kept.ended || eqb notification.phase (suc kept.ended))) [
+      | inl sent_notification ↦ rw sent_notification (record {
         own = λ phase notify e. e;
-        heard = λ place one e. elim (slice_get_push kept.heard note place one e) [
+        heard = λ place one e. elim (slice_get_push kept.heard notification place one e) [
           | inl was ↦ inl was
           | inr new ↦ inr
               (subst (IsCovered nodes barriers) new told)
@@ -148,36 +148,36 @@ keeps_hear nodes barriers kept note told =
 
 -- what a node knows of a phase is covered
 pub known_covered : (nodes : ℕ) (barriers : Barriers) (node phase : ℕ) → AreCovered nodes barriers → node < nodes
-    → Covers nodes (notified barriers phase) (known node (barriers node) phase)
+    → Covers nodes (notifies_of barriers phase) (known_part node (barriers node) phase)
 known_covered nodes barriers node phase covered there =
-    covers_both nodes (notified barriers phase) (own_part node (own (barriers node) phase))
+    covers_both nodes (notifies_of barriers phase) (own_part node (own (barriers node) phase))
     (heard_part phase (barriers node).heard)
-    (covers_own nodes (notified barriers phase) node (own (barriers node) phase) there refl)
-    (covers_heard nodes phase (notified barriers) (barriers node).heard (covered.heard node))
+    (covers_own nodes (notifies_of barriers phase) node (own (barriers node) phase) there refl)
+    (covers_heard nodes phase (notifies_of barriers) (barriers node).heard (covered.heard node))
 
 if_some : {Item : Type 0} (test : Bool) (item other : Item) → cond test (Some item) None ≡ Some other → other ≡ item
 if_some true item other e = same_Some _ _ (sym e)
 if_some false item other e = absurd (cc)
 
 -- what is sent is what is known
-pub routed_note : (nodes me : ℕ) (now : Stage) (to : ℕ) (note : BarrierNote)
-    → routed nodes me now to ≡ Some note → note ≡ note_of now.phase now.part
-routed_note nodes me now to note e =
-    if_some (goes_to nodes me now.notified now.part.mask to) (note_of now.phase now.part) note e
+pub routed_notification : (nodes me : ℕ) (now : Stage) (to : ℕ) (notification : BarrierNotification)
+    → notification_on_route nodes me now to ≡ Some notification → notification ≡ notification_of now.phase now.part
+routed_notification nodes me now to notification e =
+    if_some (goes_to nodes me now.notified now.part.mask to) (notification_of now.phase now.part) notification e
 
-pub routed_covered : (nodes : ℕ) (barriers : Barriers) (node phase to : ℕ) (note : BarrierNote)
+pub routed_covered : (nodes : ℕ) (barriers : Barriers) (node phase to : ℕ) (notification : BarrierNotification)
     → AreCovered nodes barriers → node < nodes
-    → routed nodes node (stage node (barriers node) phase) to ≡ Some note → IsCovered nodes barriers note
-routed_covered nodes barriers node phase to note covered there e =
-    subst (IsCovered nodes barriers) (sym (routed_note nodes node (stage node (barriers node) phase) to note e))
-    (covers_note nodes phase (notified barriers phase) (known node (barriers node) phase)
+    → notification_on_route nodes node (stage node (barriers node) phase) to ≡ Some notification → IsCovered nodes barriers notification
+routed_covered nodes barriers node phase to notification covered there e =
+    subst (IsCovered nodes barriers) (sym (routed_notification nodes node (stage node (barriers node) phase) to notification e))
+    (covers_notification nodes phase (notifies_of barriers phase) (known_part node (barriers node) phase)
     (known_covered nodes barriers node phase covered there))
 
-due_routed : (nodes me : ℕ) (kept : BarrierRecord) (phase to : ℕ) (note : BarrierNote)
-    → due nodes me kept phase to ≡ Some note
-    → routed nodes me (stage me kept phase) to ≡ Some note
-due_routed nodes me kept phase to note e = elim (cases_Bool (was_sent kept phase to)) [
-  | inl sent_note ↦ (let none : None ≡ Some note = sym (rw sent_note refl) ∙ e in absurd cc)
+due_routed : (nodes me : ℕ) (kept : BarrierRecord) (phase to : ℕ) (notification : BarrierNotification)
+    → due nodes me kept phase to ≡ Some notification
+    → notification_on_route nodes me (stage me kept phase) to ≡ Some notification
+due_routed nodes me kept phase to notification e = elim (cases_Bool (was_sent kept phase to)) [
+  | inl sent_notification ↦ (let none : None ≡ Some notification = sym (rw sent_notification refl) ∙ e in absurd cc)
   | inr f ↦ sym (rw f refl) ∙ e
 ]
 
@@ -186,40 +186,40 @@ pub or_else_is : {Item : Type 0} (first second : Option Item) (item : Item) → 
 or_else_is None second item e = inr e
 or_else_is (Some other) second item e = inl e
 
-before_routed : (nodes me : ℕ) (kept : BarrierRecord) (phase to : ℕ) (note : BarrierNote)
-    → due_before nodes me kept phase to ≡ Some note
-    → (number : ℕ) × (routed nodes me (stage me kept number) to ≡ Some note)
-before_routed nodes me kept zero to note e = absurd (cc)
-before_routed nodes me kept (suc phase) to note e = (phase, due_routed nodes me kept phase to note e)
+before_routed : (nodes me : ℕ) (kept : BarrierRecord) (phase to : ℕ) (notification : BarrierNotification)
+    → due_before nodes me kept phase to ≡ Some notification
+    → (number : ℕ) × (notification_on_route nodes me (stage me kept number) to ≡ Some notification)
+before_routed nodes me kept zero to notification e = absurd (cc)
+before_routed nodes me kept (suc phase) to notification e = (phase, due_routed nodes me kept phase to notification e)
 
-pub note_to_routed : (nodes me : ℕ) (kept : BarrierRecord) (to : ℕ) (note : BarrierNote)
-    → note_to nodes me kept to ≡ Some note
-    → (number : ℕ) × (routed nodes me (stage me kept number) to ≡ Some note)
-note_to_routed nodes me kept to note e = elim (or_else_is _ _ note e) [
-  | inl before ↦ before_routed nodes me kept kept.ended to note before
-  | inr now ↦ (kept.ended, due_routed nodes me kept kept.ended to note now)
+pub notification_to_routed : (nodes me : ℕ) (kept : BarrierRecord) (to : ℕ) (notification : BarrierNotification)
+    → notification_to nodes me kept to ≡ Some notification
+    → (number : ℕ) × (notification_on_route nodes me (stage me kept number) to ≡ Some notification)
+notification_to_routed nodes me kept to notification e = elim (or_else_is _ _ notification e) [
+  | inl before ↦ before_routed nodes me kept kept.ended to notification before
+  | inr now ↦ (kept.ended, due_routed nodes me kept kept.ended to notification now)
 ]
 
-pub keeps_send : (nodes : ℕ) (barriers : Barriers) (kept : BarrierRecord) (to : ℕ) (maybe : Option BarrierNote)
-    → ((note : BarrierNote) → maybe ≡ Some note → IsCovered nodes barriers note)
+pub keeps_send : (nodes : ℕ) (barriers : Barriers) (kept : BarrierRecord) (to : ℕ) (maybe : Option BarrierNotification)
+    → ((notification : BarrierNotification) → maybe ≡ Some notification → IsCovered nodes barriers notification)
     → Keeps nodes barriers kept (send kept to maybe)
 keeps_send nodes barriers kept to None told = keeps_same nodes barriers kept
-keeps_send nodes barriers kept to (Some note) told = record {
+keeps_send nodes barriers kept to (Some notification) told = record {
   own = λ phase notify e. e;
   heard = λ place one e. inl e;
-  sent = λ place sent_note e. elim (slice_get_push kept.sent _ place sent_note e) [
+  sent = λ place sent_notification e. elim (slice_get_push kept.sent _ place sent_notification e) [
     | inl was ↦ inl was
     | inr new ↦ inr
-        (subst (λ (one_more : SentNote). IsCovered nodes barriers one_more.note) new (told note refl))
+        (subst (λ (one_more : SentNotification). IsCovered nodes barriers one_more.notification) new (told notification refl))
   ];
 }
 
-pub keeps_hear_sent : (nodes : ℕ) (barriers : Barriers) (kept : BarrierRecord) (maybe : Option SentNote)
-    → ((sent_note : SentNote) → maybe ≡ Some sent_note → IsCovered nodes barriers sent_note.note)
+pub keeps_hear_sent : (nodes : ℕ) (barriers : Barriers) (kept : BarrierRecord) (maybe : Option SentNotification)
+    → ((sent_notification : SentNotification) → maybe ≡ Some sent_notification → IsCovered nodes barriers sent_notification.notification)
     → Keeps nodes barriers kept (hear_sent kept maybe)
 keeps_hear_sent nodes barriers kept None told = keeps_same nodes barriers kept
-keeps_hear_sent nodes barriers kept (Some sent_note) told =
-    keeps_hear nodes barriers kept sent_note.note (told sent_note refl)
+keeps_hear_sent nodes barriers kept (Some sent_notification) told =
+    keeps_hear nodes barriers kept sent_notification.notification (told sent_notification refl)
 
 pub happens_keeps : (nodes : ℕ) (barriers : Barriers) (event : BarrierEvent) → IsAmong nodes event
     → AreCovered nodes barriers
@@ -232,9 +232,9 @@ happens_keeps nodes barriers (Trying node try) there covered =
     (keeps_try nodes barriers (barriers node) (try_answer nodes node (barriers node) try))
 happens_keeps nodes barriers (Sending node to) there covered =
     keeps_inv nodes barriers node _ covered
-    (keeps_send nodes barriers (barriers node) to (note_to nodes node (barriers node) to)
-    (λ note e. let found = note_to_routed nodes node (barriers node) to note e in
-    routed_covered nodes barriers node found.0 to note covered there found.1))
+    (keeps_send nodes barriers (barriers node) to (notification_to nodes node (barriers node) to)
+    (λ notification e. let found = notification_to_routed nodes node (barriers node) to notification e in
+    routed_covered nodes barriers node found.0 to notification covered there found.1))
 happens_keeps nodes barriers (Hearing node other index) there covered =
     keeps_inv nodes barriers node _ covered
     (keeps_hear_sent nodes barriers (barriers node) (slice_get (barriers other).sent index)
@@ -247,7 +247,7 @@ run_keeps nodes (e ∷ events) barriers all covered =
     run_keeps nodes events (happens nodes barriers e) all.1 (happens_keeps nodes barriers e all.0 covered)
 
 pub opens : (nodes : ℕ) → AreCovered nodes all_opened
-opens nodes = record { heard = λ node place note e. absurd (cc); sent = λ node place s e. absurd (cc) }
+opens nodes = record { heard = λ node place notification e. absurd (cc); sent = λ node place s e. absurd (cc) }
 
 -- ---- the laws
 
@@ -268,13 +268,13 @@ Passes nodes part try own answer = (notify : Notify) × (own ≡ Some notify) ×
 own_passes : (nodes : ℕ) (part : PhasePart) (try : Try) (maybe : Option Notify)
     → (own_try nodes part try maybe ≡ tried.Ok) ⊎ (own_try nodes part try maybe ≡ tried.Mismatch)
     → Passes nodes part try maybe (own_try nodes part try maybe)
-own_passes nodes part try None note = absurd (elim note [ inl e ↦ cc | inr e ↦ cc ])
-own_passes nodes part try (Some notify) note = elim (cases_Bool (has_all part.mask nodes)) [
-  | inl sent_note ↦ (
+own_passes nodes part try None notification = absurd (elim notification [ inl e ↦ cc | inr e ↦ cc ])
+own_passes nodes part try (Some notify) notification = elim (cases_Bool (has_all part.mask nodes)) [
+  | inl sent_notification ↦ (
     notify,
     refl,
-    sent_note,
-    rw sent_note (elim (cases_Bool part.combined.mismatch) [
+    sent_notification,
+    rw sent_notification (elim (cases_Bool part.combined.mismatch) [
       | inl mismatch ↦ rw mismatch (λ e. inl refl, λ e. refl)
       | inr mismatch ↦ rw mismatch (elim (cases_Bool (is_other_try notify try.id try.flags)) [
         | inl d ↦ rw d (λ e. inr refl, λ e. refl)
@@ -289,29 +289,29 @@ own_passes nodes part try (Some notify) note = elim (cases_Bool (has_all part.ma
       ])
     ]),
   )
-  | inr f ↦ absurd (not_unready try.exhausted (rw f at note))
+  | inr f ↦ absurd (not_unready try.exhausted (rw f at notification))
 ]
 
 pub passes : (nodes me : ℕ) (kept : BarrierRecord) (try : Try)
     → (try_answer nodes me kept try ≡ tried.Ok) ⊎ (try_answer nodes me kept try ≡ tried.Mismatch)
-    → Passes nodes (known me kept kept.ended) try (own kept kept.ended) (try_answer nodes me kept try)
-passes nodes me kept try note = elim (cases_Bool (nat_lt 3 try.flags)) [
-  | inl sent_note ↦ absurd (let found = rw sent_note at note in elim found [ inl e ↦ cc | inr e ↦ cc ])
-  | inr f ↦ rw f (own_passes nodes (known me kept kept.ended) try (own kept kept.ended) (rw f at note))
+    → Passes nodes (known_part me kept kept.ended) try (own kept kept.ended) (try_answer nodes me kept try)
+passes nodes me kept try notification = elim (cases_Bool (nat_lt 3 try.flags)) [
+  | inl sent_notification ↦ absurd (let found = rw sent_notification at notification in elim found [ inl e ↦ cc | inr e ↦ cc ])
+  | inr f ↦ rw f (own_passes nodes (known_part me kept kept.ended) try (own kept kept.ended) (rw f at notification))
 ]
 
 pub inv_tells : (nodes : ℕ) (barriers : Barriers) → AreCovered nodes barriers → TryTells nodes barriers
-inv_tells nodes barriers covered node try there note =
-    let passed = passes nodes node (barriers node) try note in
+inv_tells nodes barriers covered node try there notification =
+    let passed = passes nodes node (barriers node) try notification in
     let whole = known_covered nodes barriers node (barriers node).ended covered there in
-    let all : (known node (barriers node) (barriers node).ended).combined ≡ all_of
-    (notified barriers (barriers node).ended) nodes =
-    covers_all nodes (notified barriers (barriers node).ended)
-    (known node (barriers node) (barriers node).ended) whole passed.2 in
-    let same : (known node (barriers node) (barriers node).ended).combined.mismatch ≡ is_mismatch nodes barriers
+    let all : (known_part node (barriers node) (barriers node).ended).combined ≡ all_of
+    (notifies_of barriers (barriers node).ended) nodes =
+    covers_all nodes (notifies_of barriers (barriers node).ended)
+    (known_part node (barriers node) (barriers node).ended) whole passed.2 in
+    let same : (known_part node (barriers node) (barriers node).ended).combined.mismatch ≡ is_mismatch nodes barriers
     (barriers node).ended = ap (λ other. other.mismatch) all in (
       λ other below. (whole.there other (has_all-each
-          (known node (barriers node) (barriers node).ended).mask nodes other passed.2 below)).1,
+          (known_part node (barriers node) (barriers node).ended).mask nodes other passed.2 below)).1,
       (
         λ e. elim (passed.3.0 e) [
           | inl mismatch ↦ inl (sym same ∙ mismatch)

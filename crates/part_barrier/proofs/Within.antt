@@ -1,4 +1,4 @@
--- The notes that go are in their ranges.
+-- The notifications that go are in their ranges.
 use Rattle.std.proofs.Common.{◌≡◌, ◌≢◌, ◌⊎◌, inl, inr, ℕ, zero, suc, ◌-◌, ◌^◌, ◌<◌, ◌≤◌, ℤ}
 use Rattle.std.proofs.Common.{Bool, true, false, true≢false, cond, Option, Some, None, List, [], ◌∷◌, ◌++◌, length}
 use Rattle.std.proofs.Common.{refl, sym, ap, ◌∙◌, subst, arith, rules, eqb, int_lt, length-append, ◌||◌}
@@ -11,8 +11,8 @@ use Rattle.std.proofs.lemmas.Nat.{or_lt, pow_pos}
 use Rattle.std.proofs.lemmas.Bool.Decides.{nat_tests}
 use Rattle.std.proofs.lemmas.Bool.{cases_Bool, and_parts}
 use Rattle.std.proofs.lemmas.Option.{same_Some}
-use Rattle.wire_message.specs.declared.note.BarrierNote.{BarrierNote}
-use Rattle.wire_message.specs.Notes.{IsNote, IsMask}
+use Rattle.wire_message.specs.declared.notification.BarrierNotification.{BarrierNotification}
+use Rattle.wire_message.specs.Notifications.{IsNotification, IsMask}
 use Rattle.wire_message.proofs.Masks.{are_words}
 use Rattle.part_barrier.specs.declared.known.Combination.{Combination}
 use Rattle.part_barrier.specs.declared.known.Notify.{Notify}
@@ -22,15 +22,15 @@ use Rattle.part_barrier.specs.declared.answer.BarrierAnswer.TheVariants as tried
 use Rattle.part_barrier.specs.Masks.{mask_words, low_word, higher}
 use Rattle.part_barrier.specs.Combinations.{one_notify, is_anonymous, least, combined_id, combined_flags}
 use Rattle.part_barrier.specs.Record.{BarrierRecord, PhasePart, own, no_part, join, part_of, own_part, heard_part}
-use Rattle.part_barrier.specs.Record.{known, note_of}
-use Rattle.part_barrier.specs.Record.{stage, routed, was_sent, due, due_before, notify_answer, notify_after}
+use Rattle.part_barrier.specs.Record.{known_part, notification_of}
+use Rattle.part_barrier.specs.Record.{stage, notification_on_route, was_sent, due, due_before, notify_answer, notify_after}
 use Rattle.part_barrier.specs.Record.{try_answer}
 use Rattle.part_barrier.specs.Record.{try_after, hear, send}
 use Rattle.part_barrier.specs.Route.{goes_to, any_round}
-use Rattle.part_barrier.specs.Within.{IsNotedWithin, NotesFit, StepsWithin, StaysWithin}
+use Rattle.part_barrier.specs.Within.{IsNotedWithin, NotificationsFit, StepsWithin, StaysWithin}
 use Rattle.part_barrier.proofs.Words.{words_number}
 use Rattle.part_barrier.proofs.RoundLaws.{pow_up}
-use Rattle.part_barrier.proofs.Runs.{routed_note, or_else_is, passes, slice_get_push}
+use Rattle.part_barrier.proofs.Runs.{routed_notification, or_else_is, passes, slice_get_push}
 use Rattle.base_lists.proofs.Places.{slice_get_short}
 
 -- an identifier that is named is one of 32 bits
@@ -73,25 +73,25 @@ own_fits nodes me (Some notify) there fits = record {
   id = one_fits notify.id notify.flags (fits notify refl);
 }
 
-note_fits : (nodes : ℕ) (note : BarrierNote) → IsNote nodes note → PartFits nodes (part_of note)
-note_fits nodes note is = record { mask = is.mask.there; id = one_fits note.id note.flags is.id }
+notification_fits : (nodes : ℕ) (notification : BarrierNotification) → IsNotification nodes notification → PartFits nodes (part_of notification)
+notification_fits nodes notification is = record { mask = is.mask.there; id = one_fits notification.id notification.flags is.id }
 
-heard_fits : (nodes phase : ℕ) (notes : List BarrierNote)
-    → ((place : ℕ) (note : BarrierNote) → slice_get notes place ≡ Some note → IsNote nodes note)
-    → PartFits nodes (heard_part phase notes)
+heard_fits : (nodes phase : ℕ) (notifications : List BarrierNotification)
+    → ((place : ℕ) (notification : BarrierNotification) → slice_get notifications place ≡ Some notification → IsNotification nodes notification)
+    → PartFits nodes (heard_part phase notifications)
 heard_fits nodes phase [] are = none_fits nodes
-heard_fits nodes phase (note ∷ notes) are =
-    let rest = heard_fits nodes phase notes (λ place one is. are (suc place) one is) in
-    elim (cases_Bool (eqb note.phase phase)) [
+heard_fits nodes phase (notification ∷ notifications) are =
+    let rest = heard_fits nodes phase notifications (λ place one is. are (suc place) one is) in
+    elim (cases_Bool (eqb notification.phase phase)) [
       | inl holds ↦ (
           rw holds
-          (join_fits nodes (part_of note) (heard_part phase notes) (note_fits nodes note (are 0 note refl)) rest)
+          (join_fits nodes (part_of notification) (heard_part phase notifications) (notification_fits nodes notification (are 0 notification refl)) rest)
           )
       | inr fails ↦ rw fails rest
     ]
 
 known_fits : (nodes me : ℕ) (kept : BarrierRecord) (phase : ℕ) → me < nodes → IsNotedWithin nodes kept
-    → PartFits nodes (known me kept phase)
+    → PartFits nodes (known_part me kept phase)
 known_fits nodes me kept phase there within =
     join_fits nodes (own_part me (own kept phase)) (heard_part phase kept.heard)
     (own_fits nodes me (own kept phase) there (within.own phase)) (heard_fits nodes phase kept.heard within.heard)
@@ -127,9 +127,9 @@ flags_fit true (Some id) = omega arith
 flags_fit false None = omega arith
 flags_fit false (Some id) = omega arith
 
-part_note : (nodes phase : ℕ) (part : PhasePart) → nodes ≤ 256 → phase < 2 ^ 64 → PartFits nodes part
-    → IsNote nodes (note_of phase part)
-part_note nodes phase part few low fits = record {
+part_notification : (nodes phase : ℕ) (part : PhasePart) → nodes ≤ 256 → phase < 2 ^ 64 → PartFits nodes part
+    → IsNotification nodes (notification_of phase part)
+part_notification nodes phase part few low fits = record {
   phase = low;
   mask = words_fit nodes part.mask few fits.mask;
   id = id_fits part.combined fits.id;
@@ -144,40 +144,40 @@ slice_get_in [] place is = absurd (true≢false (sym is))
 slice_get_in (first ∷ items) zero is = omega arith
 slice_get_in (first ∷ items) (suc place) is = omega (arith, slice_get_in items place is)
 
-routed_fits : (nodes me : ℕ) (kept : BarrierRecord) (phase to : ℕ) (note : BarrierNote) → nodes ≤ 256 → me < nodes
-    → IsNotedWithin nodes kept → routed nodes me (stage me kept phase) to ≡ Some note
-    → IsNote nodes note
-routed_fits nodes me kept phase to note few there within is =
-    subst (IsNote nodes) (sym (routed_note nodes me (stage me kept phase) to note is))
-    (part_note nodes phase (known me kept phase) few (omega (arith, within.count, notified))
+routed_fits : (nodes me : ℕ) (kept : BarrierRecord) (phase to : ℕ) (notification : BarrierNotification) → nodes ≤ 256 → me < nodes
+    → IsNotedWithin nodes kept → notification_on_route nodes me (stage me kept phase) to ≡ Some notification
+    → IsNotification nodes notification
+routed_fits nodes me kept phase to notification few there within is =
+    subst (IsNotification nodes) (sym (routed_notification nodes me (stage me kept phase) to notification is))
+    (part_notification nodes phase (known_part me kept phase) few (omega (arith, within.count, notified))
     (known_fits nodes me kept phase there within))
   where
-    goes : (test : Bool) → cond test (Some (note_of phase (known me kept phase))) None ≡ Some note → test ≡ true
+    goes : (test : Bool) → cond test (Some (notification_of phase (known_part me kept phase))) None ≡ Some notification → test ≡ true
     goes true same = refl
     goes false same = absurd (cc)
 
     notified : phase < length kept.notifies
     notified = slice_get_in kept.notifies phase
-        (and_parts (is_some (own kept phase)) (any_round nodes me (known me kept phase).mask to nodes)
-        (goes (goes_to nodes me (is_some (own kept phase)) (known me kept phase).mask to) is)).0
+        (and_parts (is_some (own kept phase)) (any_round nodes me (known_part me kept phase).mask to nodes)
+        (goes (goes_to nodes me (is_some (own kept phase)) (known_part me kept phase).mask to) is)).0
 
-due_fits : (nodes me : ℕ) (kept : BarrierRecord) (phase to : ℕ) (note : BarrierNote) → nodes ≤ 256 → me < nodes
-    → IsNotedWithin nodes kept → due nodes me kept phase to ≡ Some note → IsNote nodes note
-due_fits nodes me kept phase to note few there within is = elim (cases_Bool (was_sent kept phase to)) [
-  | inl holds ↦ (let none : None ≡ Some note = rw holds at is in absurd cc)
-  | inr fails ↦ routed_fits nodes me kept phase to note few there within (rw fails at is)
+due_fits : (nodes me : ℕ) (kept : BarrierRecord) (phase to : ℕ) (notification : BarrierNotification) → nodes ≤ 256 → me < nodes
+    → IsNotedWithin nodes kept → due nodes me kept phase to ≡ Some notification → IsNotification nodes notification
+due_fits nodes me kept phase to notification few there within is = elim (cases_Bool (was_sent kept phase to)) [
+  | inl holds ↦ (let none : None ≡ Some notification = rw holds at is in absurd cc)
+  | inr fails ↦ routed_fits nodes me kept phase to notification few there within (rw fails at is)
 ]
 
-before_fits : (nodes me : ℕ) (kept : BarrierRecord) (ended to : ℕ) (note : BarrierNote) → nodes ≤ 256 → me < nodes
-    → IsNotedWithin nodes kept → due_before nodes me kept ended to ≡ Some note → IsNote nodes note
-before_fits nodes me kept zero to note few there within is = absurd (cc)
-before_fits nodes me kept (suc phase) to note few there within is =
-    due_fits nodes me kept phase to note few there within is
+before_fits : (nodes me : ℕ) (kept : BarrierRecord) (ended to : ℕ) (notification : BarrierNotification) → nodes ≤ 256 → me < nodes
+    → IsNotedWithin nodes kept → due_before nodes me kept ended to ≡ Some notification → IsNotification nodes notification
+before_fits nodes me kept zero to notification few there within is = absurd (cc)
+before_fits nodes me kept (suc phase) to notification few there within is =
+    due_fits nodes me kept phase to notification few there within is
 
-pub notes_fit : NotesFit
-notes_fit nodes me kept to note few there within is = elim (or_else_is _ _ note is) [
-  | inl last ↦ before_fits nodes me kept kept.ended to note few there within last
-  | inr now ↦ due_fits nodes me kept kept.ended to note few there within now
+pub notifications_fit : NotificationsFit
+notifications_fit nodes me kept to notification few there within is = elim (or_else_is _ _ notification is) [
+  | inl last ↦ before_fits nodes me kept kept.ended to notification few there within last
+  | inr now ↦ due_fits nodes me kept kept.ended to notification few there within now
 ]
 
 -- ---- each step
@@ -237,26 +237,26 @@ within_try nodes kept tried.NoNotify given within = within
 within_try nodes kept tried.BadFlags given within = within
 within_try nodes kept (tried.Exhausted node) given within = within
 
-within_hear : (nodes : ℕ) (kept : BarrierRecord) (note : BarrierNote) → IsNotedWithin nodes kept → IsNote nodes note
-    → IsNotedWithin nodes (hear kept note)
-within_hear nodes kept note within is =
-    elim (cases_Bool (eqb note.phase kept.ended || eqb note.phase (suc kept.ended))) [
+within_hear : (nodes : ℕ) (kept : BarrierRecord) (notification : BarrierNotification) → IsNotedWithin nodes kept → IsNotification nodes notification
+    → IsNotedWithin nodes (hear kept notification)
+within_hear nodes kept notification within is =
+    elim (cases_Bool (eqb notification.phase kept.ended || eqb notification.phase (suc kept.ended))) [
       | inl holds ↦ rw holds (record {
         low = within.low;
         count = within.count;
         own = within.own;
-        heard = λ place any there. elim (slice_get_push kept.heard note place any there) [
+        heard = λ place any there. elim (slice_get_push kept.heard notification place any there) [
           | inl was ↦ within.heard place any was
-          | inr new ↦ subst (IsNote nodes) new is
+          | inr new ↦ subst (IsNotification nodes) new is
         ];
       })
       | inr fails ↦ rw fails within
     ]
 
-within_send : (nodes : ℕ) (kept : BarrierRecord) (to : ℕ) (note : Option BarrierNote) → IsNotedWithin nodes kept
-    → IsNotedWithin nodes (send kept to note)
+within_send : (nodes : ℕ) (kept : BarrierRecord) (to : ℕ) (notification : Option BarrierNotification) → IsNotedWithin nodes kept
+    → IsNotedWithin nodes (send kept to notification)
 within_send nodes kept to None within = within
-within_send nodes kept to (Some note) within =
+within_send nodes kept to (Some notification) within =
     record { low = within.low; count = within.count; own = within.own; heard = within.heard }
 
 steps_within : (nodes : ℕ) (kept : BarrierRecord) → IsNotedWithin nodes kept → StepsWithin nodes kept
@@ -264,8 +264,8 @@ steps_within nodes kept within = record {
   notify = λ id flags fits. within_notify nodes kept id flags within fits;
   tried = λ me try. within_try nodes kept (try_answer nodes me kept try)
       (λ ends. let passed = passes nodes me kept try ends in ap is_some passed.1) within;
-  hear = λ note is. within_hear nodes kept note within is;
-  send = λ to note. within_send nodes kept to note within;
+  hear = λ notification is. within_hear nodes kept notification within is;
+  send = λ to notification. within_send nodes kept to notification within;
 }
 
 pub stays_within : StaysWithin
@@ -274,7 +274,7 @@ stays_within = (
     low = omega arith;
     count = omega arith;
     own = λ phase notify is. absurd (cc);
-    heard = λ place note is. absurd (cc);
+    heard = λ place notification is. absurd (cc);
   },
   steps_within,
 )

@@ -7,7 +7,7 @@ use Rattle.std.proofs.lemmas.Nat.{or_block, pow-add}
 use Rattle.std.proofs.lemmas.Nat.Bits.{bit_at_cat_low, bit_at_cat_high, bit_at_and, bit_at_not, bit_at-lt}
 use Rattle.std.specs.Int.Bits.{or_zero_r}
 use Rattle.std.proofs.Math.Pow.{pow-lt}
-use Rattle.wire_message.specs.Notes.{mask_number}
+use Rattle.wire_message.specs.Notifications.{mask_number}
 use Rattle.wire_message.proofs.Masks.{four}
 use Rattle.part_barrier.specs.Masks.{has, mask_words, low_word, higher}
 

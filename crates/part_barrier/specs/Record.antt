@@ -3,8 +3,8 @@ use Rattle.std.specs.Prelude.{ℕ, zero, suc, ◌-◌, ◌^◌, ℤ, Bool, not, 
 use Rattle.std.specs.Prelude.{List, [], ◌∷◌, ◌++◌, is_some, if◌then◌else◌, ◌==◌, length, nat_lt, bit_or, slice_get}
 use Rattle.std.specs.Ordering.{int_eq}
 use Rattle.std.specs.List.{list_any}
-use Rattle.wire_message.specs.declared.note.BarrierNote.{BarrierNote}
-use Rattle.wire_message.specs.Notes.{mask_number}
+use Rattle.wire_message.specs.declared.notification.BarrierNotification.{BarrierNotification}
+use Rattle.wire_message.specs.Notifications.{mask_number}
 use Rattle.part_barrier.specs.declared.known.Combination.{Combination}
 use Rattle.part_barrier.specs.declared.known.Notify.{Notify}
 use Rattle.part_barrier.specs.declared.answer.Notified.{Notified}
@@ -15,16 +15,16 @@ use Rattle.part_barrier.specs.Masks.{has_all, mask_words}
 use Rattle.part_barrier.specs.Combinations.{is_anonymous, one_notify, no_notify, combine, combined_id, combined_flags}
 use Rattle.part_barrier.specs.Route.{goes_to}
 
--- a note, and the node that it was sent to
-pub record SentNote : Type 0 where
+-- a notification, and the node that it was sent to
+pub record SentNotification : Type 0 where
   pub to : ℕ
-  pub note : BarrierNote
+  pub notification : BarrierNotification
 
 pub record BarrierRecord : Type 0 where
   pub notifies : List Notify  -- of phase 0, of phase 1, and so on
   pub ended : ℕ  -- how many phases it has ended, so also the number of the present one
-  pub heard : List BarrierNote  -- those whose phase was then the present or the next one
-  pub sent : List SentNote
+  pub heard : List BarrierNotification  -- those whose phase was then the present or the next one
+  pub sent : List SentNotification
 
 -- at the start
 abbrev pub opened_record : BarrierRecord
@@ -55,24 +55,27 @@ join first second =
       combined = combine first.combined second.combined;
     }
 
--- of a note, which is read as one notify
-abbrev pub part_of : BarrierNote → PhasePart
-part_of note = record { mask = mask_number note.mask; combined = one_notify note.id note.flags }
+-- of a notification, which is read as one notify
+abbrev pub part_of : BarrierNotification → PhasePart
+part_of notification =
+    record { mask = mask_number notification.mask; combined = one_notify notification.id notification.flags }
 
 -- of the node's own notify
 abbrev pub own_part : (me : ℕ) → Option Notify → PhasePart
 own_part me None = no_part
 own_part me (Some notify) = record { mask = 2 ^ me; combined = one_notify notify.id notify.flags }
 
--- of the notes of the phase among these
-abbrev pub heard_part : (phase : ℕ) → List BarrierNote → PhasePart
+-- of the notifications of the phase among these
+abbrev pub heard_part : (phase : ℕ) → List BarrierNotification → PhasePart
 heard_part phase [] = no_part
-heard_part phase (note ∷ notes) =
-    if note.phase == phase then join (part_of note) (heard_part phase notes) else heard_part phase notes
+heard_part phase (notification ∷ notifications) =
+    if notification.phase == phase then join (part_of notification) (heard_part phase notifications)
+    else heard_part phase notifications
 
--- the nodes that it knows, and what is seen of their notifies: its own one, and those of the notes that it heard
-abbrev pub known : (me : ℕ) → BarrierRecord → (phase : ℕ) → PhasePart
-known me kept phase = join (own_part me (own kept phase)) (heard_part phase kept.heard)
+-- the nodes that it knows, and what is seen of their notifies: its own one, and those of the notifications that it
+-- heard
+abbrev pub known_part : (me : ℕ) → BarrierRecord → (phase : ℕ) → PhasePart
+known_part me kept phase = join (own_part me (own kept phase)) (heard_part phase kept.heard)
 
 -- ---- notify
 
@@ -93,7 +96,8 @@ notify_after kept id flags _ = kept
 pub record Try : Type 0 where
   pub id : ℤ
   pub flags : ℕ
-  pub exhausted : Option ℕ  -- a node that a note of the phase must go to still, for which the numbers are exhausted
+  -- a node that a notification of the phase must go to still, for which the numbers are exhausted
+  pub exhausted : Option ℕ
 
 -- the try's flags, or its identifier where it is named, aren't those of the notify
 abbrev pub is_other_try : Notify → (id : ℤ) → (flags : ℕ) → Bool
@@ -116,7 +120,7 @@ own_try nodes part try (Some notify) =
 abbrev pub try_answer : (nodes me : ℕ) → BarrierRecord → Try → BarrierAnswer
 try_answer nodes me kept try =
     if nat_lt 3 try.flags then tried.BadFlags
-    else own_try nodes (known me kept kept.ended) try (own kept kept.ended)
+    else own_try nodes (known_part me kept kept.ended) try (own kept kept.ended)
 
 -- a phase ends by the try that tells its outcome
 abbrev pub try_after : BarrierRecord → BarrierAnswer → BarrierRecord
@@ -124,19 +128,19 @@ try_after kept tried.Ok = record kept { ended = suc kept.ended }
 try_after kept tried.Mismatch = record kept { ended = suc kept.ended }
 try_after kept _ = kept
 
--- ---- a note comes
+-- ---- a notification comes
 
-abbrev pub hear : BarrierRecord → BarrierNote → BarrierRecord
-hear kept note =
-    if (note.phase == kept.ended) || (note.phase == suc kept.ended)
-    then record kept { heard = kept.heard ++ note ∷ [] }
+abbrev pub hear : BarrierRecord → BarrierNotification → BarrierRecord
+hear kept notification =
+    if (notification.phase == kept.ended) || (notification.phase == suc kept.ended)
+    then record kept { heard = kept.heard ++ notification ∷ [] }
     else kept
 
--- ---- a note goes
+-- ---- a notification goes
 
--- what is known, as a note of the phase
-abbrev pub note_of : (phase : ℕ) → PhasePart → BarrierNote
-note_of phase part =
+-- what is known, as a notification of the phase
+abbrev pub notification_of : (phase : ℕ) → PhasePart → BarrierNotification
+notification_of phase part =
     record {
       phase = phase;
       mask = mask_words part.mask;
@@ -152,25 +156,25 @@ pub record Stage : Type 0 where
 
 abbrev pub stage : (me : ℕ) → BarrierRecord → (phase : ℕ) → Stage
 stage me kept phase =
-    record { phase = phase; notified = is_some (own kept phase); part = known me kept phase }
+    record { phase = phase; notified = is_some (own kept phase); part = known_part me kept phase }
 
--- the note of the phase that the route sends to a node
-abbrev pub routed : (nodes me : ℕ) → Stage → (to : ℕ) → Option BarrierNote
-routed nodes me now to =
-    if goes_to nodes me now.notified now.part.mask to then Some (note_of now.phase now.part) else None
+-- the notification of the phase that the route sends to a node
+abbrev pub notification_on_route : (nodes me : ℕ) → Stage → (to : ℕ) → Option BarrierNotification
+notification_on_route nodes me now to =
+    if goes_to nodes me now.notified now.part.mask to then Some (notification_of now.phase now.part) else None
 
--- the note of the phase was sent to the node
+-- the notification of the phase was sent to the node
 abbrev pub was_sent : BarrierRecord → (phase to : ℕ) → Bool
-was_sent kept phase to = list_any (λ sent. (sent.to == to) && (sent.note.phase == phase)) kept.sent
+was_sent kept phase to = list_any (λ sent. (sent.to == to) && (sent.notification.phase == phase)) kept.sent
 
--- the note of the phase that must go to the node still
-abbrev pub due : (nodes me : ℕ) → BarrierRecord → (phase to : ℕ) → Option BarrierNote
+-- the notification of the phase that must go to the node still
+abbrev pub due : (nodes me : ℕ) → BarrierRecord → (phase to : ℕ) → Option BarrierNotification
 due nodes me kept phase to =
     if was_sent kept phase to then None
-    else routed nodes me (stage me kept phase) to
+    else notification_on_route nodes me (stage me kept phase) to
 
 -- of the phase before this one
-abbrev pub due_before : (nodes me : ℕ) → BarrierRecord → (phase to : ℕ) → Option BarrierNote
+abbrev pub due_before : (nodes me : ℕ) → BarrierRecord → (phase to : ℕ) → Option BarrierNotification
 due_before nodes me kept zero to = None
 due_before nodes me kept (suc phase) to = due nodes me kept phase to
 
@@ -178,15 +182,16 @@ abbrev pub or_else : {Item : Type 0} → (first second : Option Item) → Option
 or_else None second = second
 or_else (Some item) second = Some item
 
--- the note that goes to the node: of the phase that ended last, else of the present one
-abbrev pub note_to : (nodes me : ℕ) → BarrierRecord → (to : ℕ) → Option BarrierNote
-note_to nodes me kept to =
+-- the notification that goes to the node: of the phase that ended last, else of the present one
+abbrev pub notification_to : (nodes me : ℕ) → BarrierRecord → (to : ℕ) → Option BarrierNotification
+notification_to nodes me kept to =
     or_else (due_before nodes me kept kept.ended to) (due nodes me kept kept.ended to)
 
--- a note of the present phase must go to the node
+-- a notification of the present phase must go to the node
 abbrev pub owes : (nodes me : ℕ) → BarrierRecord → (to : ℕ) → Bool
 owes nodes me kept to = is_some (due nodes me kept kept.ended to)
 
-abbrev pub send : BarrierRecord → (to : ℕ) → Option BarrierNote → BarrierRecord
+abbrev pub send : BarrierRecord → (to : ℕ) → Option BarrierNotification → BarrierRecord
 send kept to None = kept
-send kept to (Some note) = record kept { sent = kept.sent ++ record { to = to; note = note } ∷ [] }
+send kept to (Some notification) =
+    record kept { sent = kept.sent ++ record { to = to; notification = notification } ∷ [] }

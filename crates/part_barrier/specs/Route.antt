@@ -1,4 +1,4 @@
--- The route of notes, in rounds: the number of rounds is the least one whose power of two is at least n.
+-- The route of notifications, in rounds: the number of rounds is the least one whose power of two is at least n.
 use Rattle.std.specs.Prelude.{ℕ, zero, suc, ◌+◌, ◌-◌, ◌^◌, ◌%◌, Bool, true, false, ◌&&◌, ◌||◌, ◌==◌, nat_lt}
 use Rattle.part_barrier.specs.Masks.{has}
 
@@ -7,7 +7,8 @@ abbrev pub has_back : (nodes me mask many : ℕ) → Bool
 has_back nodes me mask zero = true
 has_back nodes me mask (suc many) = has_back nodes me mask many && has mask ((me + nodes - many) % nodes)
 
--- in this round, the note goes to the node that is 2 ^ round further, once the 2 ^ round nodes up to me are known
+-- in this round, the notification goes to the node that is 2 ^ round further, once the 2 ^ round nodes up to me are
+-- known
 abbrev pub is_round : (nodes me mask to round : ℕ) → Bool
 is_round nodes me mask to round =
     nat_lt (2 ^ round) nodes

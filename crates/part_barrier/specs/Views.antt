@@ -1,6 +1,6 @@
 -- A barrier's fields as its state.
 use Rattle.std.specs.Prelude.{◌≡◌, ℕ, ◌+◌, ◌^◌, ◌<◌, ◌≤◌, true, is_some}
-use Rattle.wire_message.specs.Notes.{mask_number}
+use Rattle.wire_message.specs.Notifications.{mask_number}
 use Rattle.part_barrier.specs.declared.barrier.Barrier.TheInside.{Inside}
 use Rattle.part_barrier.specs.declared.known.Known.{Known}
 use Rattle.part_barrier.specs.Masks.{has}
@@ -31,7 +31,7 @@ pub record IsBarrier (inside : Inside) : Type 0 where
   pub in_range : inside.me < inside.nodes
   -- the last phase is never notified
   pub left : is_some inside.own ≡ true → inside.phase + 1 < 2 ^ 64
-  -- the nodes to which the route sends the note of the present phase, and of the one that ended last
+  -- the nodes to which the route sends the notification of the present phase, and of the one that ended last
   pub now : (to : ℕ) → has (mask_number inside.goes_now) to
       ≡ goes_to inside.nodes inside.me (is_some inside.own) (mask_number inside.present.mask) to
   pub last : (inside.phase ≡ 0 → ⊥) → (to : ℕ) → has (mask_number inside.goes_last) to

@@ -27,7 +27,7 @@ pub enum BarrierAnswer {
     NoNotify,
     /// The flags are above 3.
     BadFlags,
-    /// The phase isn't complete, and the numbers of messages for this node, to which a note must go, are exhausted
-    /// (profile).
+    /// The phase isn't complete, and the numbers of messages for this node, to which a notification must go, are
+    /// exhausted (profile).
     Exhausted(u16),
 }

@@ -2,11 +2,11 @@
 
 ghost use Rattle.std.specs.Prelude.{◌≡◌, ◌<◌, ◌≤◌};
 ghost use Rattle.part_barrier.specs.Combinations.{one_notify, combine};
-ghost use Rattle.part_barrier.specs.Record.{join, part_of, own_part, no_part, note_of, is_other_try};
+ghost use Rattle.part_barrier.specs.Record.{join, part_of, own_part, no_part, notification_of, is_other_try};
 ghost use Rattle.part_barrier.specs.Views.{part};
 
 use crate::mask::{put_in, union, words};
-use wire_message::BarrierNote;
+use wire_message::BarrierNotification;
 
 /// What a node notifies of a phase.
 #[derive(Clone, Copy, Drop)]
@@ -86,13 +86,13 @@ pub(crate) fn join(first: &Known, second: &Known) -> Known
     }
 }
 
-/// What a note tells.
-pub(crate) fn part_of(note: &BarrierNote) -> Known
-    ensures { part result ≡ part_of note.now }
+/// What a notification tells.
+pub(crate) fn part_of(notification: &BarrierNotification) -> Known
+    ensures { part result ≡ part_of notification.now }
 {
     Known {
-        mask: note.mask,
-        combined: one_notify(note.id, note.flags),
+        mask: notification.mask,
+        combined: one_notify(notification.id, notification.flags),
     }
 }
 
@@ -109,13 +109,13 @@ pub(crate) fn own_part(me: u16, own: Notify) -> Known
     }
 }
 
-/// What is known, as a note of the phase.
-pub(crate) fn note_of(phase: u64, known: &Known) -> BarrierNote
-    ensures { result ≡ note_of phase (part known.now) }
+/// What is known, as a notification of the phase.
+pub(crate) fn notification_of(phase: u64, known: &Known) -> BarrierNotification
+    ensures { result ≡ notification_of phase (part known.now) }
 {
     let anonymous = if known.combined.id.is_none() { 1 } else { 0 };
     let mismatch = if known.combined.mismatch { 2 } else { 0 };
-    BarrierNote {
+    BarrierNotification {
         phase,
         mask: words(&known.mask),
         id: known.combined.id.unwrap_or(0),

@@ -1,7 +1,7 @@
 //! Masks of up to 256 nodes in four words, the lowest first.
 
 ghost use Rattle.std.specs.Prelude.{◌≡◌, ◌<◌, ◌≤◌, ◌^◌, ℕ, true, bit_or};
-ghost use Rattle.wire_message.specs.Notes.{mask_number};
+ghost use Rattle.wire_message.specs.Notifications.{mask_number};
 ghost use Rattle.part_barrier.specs.Masks.{has, has_all, mask_words};
 
 /// The words of the mask.

@@ -1,7 +1,7 @@
-//! The route of notes, in rounds.
+//! The route of notifications, in rounds.
 
 ghost use Rattle.std.specs.Prelude.{◌≡◌, ◌<◌, ◌≤◌, ◌+◌, ◌-◌, ◌%◌, ℕ, true, not, nat_lt};
-ghost use Rattle.wire_message.specs.Notes.{mask_number};
+ghost use Rattle.wire_message.specs.Notifications.{mask_number};
 ghost use Rattle.part_barrier.specs.Masks.{has};
 ghost use Rattle.part_barrier.specs.Route.{has_back, goes_to};
 
@@ -58,7 +58,8 @@ fn known_back(at: Place, mask: &[u64; 4]) -> u16
     at.nodes
 }
 
-/// The nodes to which the route sends a note, from one that knows the nodes in the mask: none before it has notified.
+/// The nodes to which the route sends a notification, from one that knows the nodes in the mask: none before it has
+/// notified.
 pub(crate) fn targets(at: Place, notified: bool, mask: &[u64; 4]) -> [u64; 4]
     requires few { at.nodes ≤ 256 }
     requires in_range { at.me < at.nodes }

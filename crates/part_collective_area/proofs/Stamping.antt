@@ -7,30 +7,30 @@ use Rattle.std.proofs.lemmas.Bool.{eq-eqb, le-leb, leb-true, and_parts}
 use Rattle.part_segment.specs.Image.{Write, FitsIn, AllFit, written_by}
 use Rattle.part_segment.proofs.Images.{written_by-append, all_fit_none, all_fit-append, all_fit_one}
 use Rattle.std.proofs.lemmas.List.Elements.{All-cons}
-use Rattle.part_handlers.specs.declared.desk.Desk.{Desk}
-use Rattle.part_handlers.specs.Desks.{At, Stage, arrival_at, frame_of, stage, start_of}
+use Rattle.part_handlers.specs.declared.token.Token.{Token}
+use Rattle.part_handlers.specs.Tokens.{At, Stage, arrival_at, frame_of, stage, start_of}
 use Rattle.part_handlers.specs.Runs.{Frame, Start, Outcome, IsLawfulRun}
-use Rattle.part_collective_area.specs.Served.{header_at, header_behind, header_for, number_at, stamped}
+use Rattle.part_collective_area.specs.Served.{header_at, header_behind, header_for, number_at, outcome_of_piece}
 
 -- the segment after the header of the message
-pub stamped_at : (opening : Stage) (outcome : Outcome) (segment later : List ℕ) (cells : List ℤ) (desk : Desk)
-    → At opening outcome (stage segment cells desk)
-    → later ≡ written_by segment (header_for (length segment) (arrival_at desk).args (arrival_at desk).place)
+pub stamped_at : (opening : Stage) (outcome : Outcome) (segment later : List ℕ) (cells : List ℤ) (token : Token)
+    → At opening outcome (stage segment cells token)
+    → later ≡ written_by segment (header_for (length segment) (arrival_at token).args (arrival_at token).place)
     → length later ≡ length segment
-    → At opening (stamped (frame_of opening.desk) (start_of opening) outcome) (stage later cells desk)
-stamped_at opening outcome segment later cells desk at written same =
-    let header = λ (len : ℕ) (now : Desk). header_for len (arrival_at now).args (arrival_at now).place in
+    → At opening (outcome_of_piece (frame_of opening.token) (start_of opening) outcome) (stage later cells token)
+stamped_at opening outcome segment later cells token at written same =
+    let header = λ (len : ℕ) (now : Token). header_for len (arrival_at now).args (arrival_at now).place in
     record {
       segment_is = written
-          ∙ (ap (λ (bytes : List ℕ). written_by bytes (header (length segment) desk)) at.segment_is
-          ∙ (sym (written_by-append opening.segment outcome.writes (header (length segment) desk))
-          ∙ (ap (λ (now : Desk). written_by opening.segment (outcome.writes ++ header (length segment) now))
-          at.desk_is
-          ∙ ap (λ (len : ℕ). written_by opening.segment (outcome.writes ++ header len opening.desk))
+          ∙ (ap (λ (bytes : List ℕ). written_by bytes (header (length segment) token)) at.segment_is
+          ∙ (sym (written_by-append opening.segment outcome.writes (header (length segment) token))
+          ∙ (ap (λ (now : Token). written_by opening.segment (outcome.writes ++ header (length segment) now))
+          at.token_is
+          ∙ ap (λ (len : ℕ). written_by opening.segment (outcome.writes ++ header len opening.token))
           at.same_length)));
       same_length = same ∙ at.same_length;
       cells_are = at.cells_are;
-      desk_is = at.desk_is;
+      token_is = at.token_is;
       spelled = at.spelled;
     }
 
@@ -72,7 +72,7 @@ header_fits segment args (Some place) =
 
 -- what the handler does keeps a run lawful: for whoever proves the law of the trait of handlers
 pub lawful-stamped : (frame : Frame) (start : Start) (outcome : Outcome) → IsLawfulRun frame start outcome
-    → IsLawfulRun frame start (stamped frame start outcome)
+    → IsLawfulRun frame start (outcome_of_piece frame start outcome)
 lawful-stamped frame start outcome lawful = record {
   reply = lawful.reply;
   writes = all_fit-append (length start.segment) outcome.writes _ lawful.writes

@@ -23,12 +23,12 @@ abbrev pub sum_of : (one other : ℕ) → ℕ
 sum_of one other = (one + other) % 2 ^ 64
 
 -- how a reduction takes two words together
-abbrev pub combined : CollectiveKind → (one other : ℕ) → ℕ
-combined kind.Min one other = min one other
-combined kind.AllMin one other = min one other
-combined kind.Max one other = max one other
-combined kind.AllMax one other = max one other
-combined other_kind one other = sum_of one other
+abbrev pub combination : CollectiveKind → (one other : ℕ) → ℕ
+combination kind.Min one other = min one other
+combination kind.AllMin one other = min one other
+combination kind.Max one other = max one other
+combination kind.AllMax one other = max one other
+combination other_kind one other = sum_of one other
 
 -- the word at a place of bytes, little-endian
 abbrev pub word_at_place : (place : ℕ) → List ℕ → ℕ

@@ -4,11 +4,11 @@ use Rattle.std.specs.Prelude.{true, Option, None, Some}
 use Rattle.std.specs.Int.{w64, to_le_bytes}
 use Rattle.part_segment.specs.Image.{Write}
 use Rattle.wire_message.specs.Content.{Content, long_request}
-use Rattle.wire_message.specs.Notes.{high_half, low_half, joined_halves, argument}
+use Rattle.wire_message.specs.Notifications.{high_half, low_half, joined_halves, argument}
 use Rattle.part_handlers.specs.declared.table.Entry.{Entry}
 use Rattle.part_handlers.specs.Registered.{entry_at, is_for_requests}
-use Rattle.part_handlers.specs.Runs.{Frame, Start, Outcome, Meaning, untouched}
-use Rattle.part_handlers.specs.Desks.{At, Stage, frame_of, start_of}
+use Rattle.part_handlers.specs.Runs.{Frame, Start, Outcome, Meaning, nothing_done}
+use Rattle.part_handlers.specs.Tokens.{At, Stage, frame_of, start_of}
 
 -- the handler's index
 abbrev pub collective_handler : ℕ
@@ -50,8 +50,8 @@ header_for segment args None = []
 header_for segment args (Some place) = header_behind segment args place.0
 
 -- what the handler does, whatever came before it in the run
-abbrev pub stamped : Frame → Start → Outcome → Outcome
-stamped frame start outcome = record outcome {
+abbrev pub outcome_of_piece : Frame → Start → Outcome → Outcome
+outcome_of_piece frame start outcome = record outcome {
   writes = outcome.writes ++ header_for (length start.segment) frame.arrival.args frame.arrival.place;
 }
 
@@ -59,7 +59,7 @@ stamped frame start outcome = record outcome {
 abbrev pub AtStamped : (old new : Stage) → Type 0
 AtStamped old new =
     (opening : Stage) (outcome : Outcome) → At opening outcome old
-    → At opening (stamped (frame_of opening.desk) (start_of opening) outcome) new
+    → At opening (outcome_of_piece (frame_of opening.token) (start_of opening) outcome) new
 
 -- ---- a job that has collectives
 
@@ -70,4 +70,5 @@ HasCollectives table = is_for_requests (entry_at table collective_handler) ≡ t
 -- the handlers run it so, and do nothing else there
 abbrev pub ServesCollectives : Meaning → Type 0
 ServesCollectives meaning =
-    (frame : Frame) (start : Start) → meaning collective_handler frame start ≡ stamped frame start (untouched start)
+    (frame : Frame) (start : Start) → meaning collective_handler frame start
+    ≡ outcome_of_piece frame start (nothing_done start)

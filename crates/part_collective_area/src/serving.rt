@@ -4,11 +4,11 @@ ghost use Rattle.std.specs.Prelude.{◌≡◌, ◌+◌, ◌≤◌, ◌==◌, ◌
 ghost use Rattle.std.specs.Int.{w64, to_le_bytes};
 ghost use Rattle.part_segment.specs.Bytes.{with_part};
 ghost use Rattle.part_segment.specs.Image.{written_by};
-ghost use Rattle.part_handlers.specs.Desks.{stage};
+ghost use Rattle.part_handlers.specs.Tokens.{stage};
 ghost use Rattle.part_handlers.specs.declared.serves.Serves.TheVariants as served;
 ghost use Rattle.part_collective_area.specs.Served.{AtStamped, header_at, number_at};
 
-use part_handlers::{Desk, Entry, Serves};
+use part_handlers::{Entry, Serves, Token};
 use part_segment::{Offset, Segment};
 use wire_message::joined;
 
@@ -65,23 +65,23 @@ fn has_header(args: usize, offset: u64, segment: u64) -> bool
     args == 4 && offset >= 16 && offset % 8 == 0 && offset <= segment
 }
 
-/// Runs the handler of collectives at a desk: writes what its message says, a stamp and a shape, in the 16 bytes before
-/// the message's place. It takes no memory, and replies nothing.
+/// Runs the handler of collectives at a token: writes what its message says, a stamp and a shape, in the 16 bytes
+/// before the message's place. It takes no memory, and replies nothing.
 ///
 /// Where the message has no place, its place isn't at a multiple of 8 or is below 16, or there aren't four arguments,
 /// nothing happens.
-pub fn serve(segment: &mut Segment, desk: &mut Desk<'_>)
-    ensures served { (cells : List ℤ) → AtStamped (stage segment.old cells desk.old)
-        (stage segment.new cells desk.new) }
-    ensures desk { desk.new ≡ desk.old }
+pub fn serve(segment: &mut Segment, token: &mut Token<'_>)
+    ensures served { (cells : List ℤ) → AtStamped (stage segment.old cells token.old)
+        (stage segment.new cells token.new) }
+    ensures token { token.new ≡ token.old }
 {
-    let Some((offset, _)) = desk.place() else {
+    let Some((offset, _)) = token.place() else {
         return;
     };
-    if !has_header(desk.args().len(), offset, segment.len()) {
+    if !has_header(token.args().len(), offset, segment.len()) {
         return;
     }
-    let stamp = number_at(desk.args(), 0);
-    let shape = number_at(desk.args(), 2);
+    let stamp = number_at(token.args(), 0);
+    let shape = number_at(token.args(), 2);
     write_header(segment, offset, stamp, shape);
 }

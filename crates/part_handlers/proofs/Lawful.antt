@@ -10,12 +10,12 @@ use Rattle.part_handlers.specs.declared.rules.CallKind.{CallKind}
 use Rattle.part_handlers.specs.declared.message.Replied.{Replied}
 use Rattle.part_handlers.specs.declared.message.Replied.TheVariants as replied
 use Rattle.part_handlers.specs.Runs.{Frame, Start, Outcome, IsGood, IsLawful, IsLawfulRun, IsReplyContent, after_answer}
-use Rattle.part_handlers.specs.Runs.{answer, attempted, gave_lock, replying, took_lock, untouched, writing}
+use Rattle.part_handlers.specs.Runs.{answer, after_attempt, gave_lock, replying, took_lock, nothing_done, writing}
 use Rattle.part_handlers.proofs.Laws.{locks-replying, writes-replying}
 use Rattle.part_handlers.proofs.Sent.{was_sent}
 
 -- a run that did nothing so far
-pub lawful-untouched : (frame : Frame) (start : Start) → IsLawfulRun frame start (untouched start)
+pub lawful-untouched : (frame : Frame) (start : Start) → IsLawfulRun frame start (nothing_done start)
 lawful-untouched frame start = record { reply = tt; writes = All-nil (FitsIn (length start.segment)); locks = refl }
 
 -- other cells
@@ -29,7 +29,7 @@ lawful-cells frame start outcome cells lawful = record {
 
 -- a call that is judged alone
 pub lawful-attempted : (frame : Frame) (start : Start) (outcome : Outcome) (kind : CallKind)
-    → IsLawfulRun frame start outcome → IsLawfulRun frame start (attempted frame kind outcome)
+    → IsLawfulRun frame start outcome → IsLawfulRun frame start (after_attempt frame kind outcome)
 lawful-attempted frame start outcome kind lawful = record {
   reply = lawful.reply;
   writes = lawful.writes;

@@ -18,7 +18,7 @@ use Rattle.part_handlers.specs.declared.lock_answer.LockAnswer.TheVariants as lo
 use Rattle.part_handlers.specs.declared.lock_answer.LockFault.{LockFault}
 use Rattle.part_handlers.specs.Locks.{is_owner, is_thread, is_listed, is_of, is_blocking, holder, holds, without}
 use Rattle.part_handlers.specs.Locks.{without_lock}
-use Rattle.part_handlers.specs.Locks.{blocked, lock_answer, answer_by_owner, after_lock, unlock_fault, unlock_answer}
+use Rattle.part_handlers.specs.Locks.{blocking_lock, lock_answer, answer_by_owner, after_lock, unlock_fault, unlock_answer}
 use Rattle.part_handlers.specs.Locks.{after_unlock}
 use Rattle.std.proofs.lemmas.Bool.{or_parts}
 
@@ -101,7 +101,7 @@ without_after_unlock held owner lock = by_fault (unlock_fault held owner lock) r
 -- ---- when listed locks are free
 
 -- no thread holds a lock that is listed
-pub unblocked_each : (held : List Held) (listed : ℕ) → blocked held listed ≡ None
+pub unblocked_each : (held : List Held) (listed : ℕ) → blocking_lock held listed ≡ None
     → list_any (is_blocking listed) held ≡ false
 unblocked_each [] listed free = refl
 unblocked_each (one ∷ held) listed free = elim (cases_Bool (is_blocking listed one)) [
@@ -111,7 +111,7 @@ unblocked_each (one ∷ held) listed free = elim (cases_Bool (is_blocking listed
 
 -- and the way back
 pub unblocked_by : (held : List Held) (listed : ℕ) → list_any (is_blocking listed) held ≡ false
-    → blocked held listed ≡ None
+    → blocking_lock held listed ≡ None
 unblocked_by [] listed free = refl
 unblocked_by (one ∷ held) listed free = elim (cases_Bool (is_blocking listed one)) [
   | inl blocks ↦ let some : true ≡ false = rw blocks at free in absurd (true≢false some)
@@ -119,7 +119,7 @@ unblocked_by (one ∷ held) listed free = elim (cases_Bool (is_blocking listed o
 ]
 
 -- a handler finds no lock that it lists with a thread
-pub never_held : (held : List Held) (lock listed : ℕ) → blocked held listed ≡ None
+pub never_held : (held : List Held) (lock listed : ℕ) → blocking_lock held listed ≡ None
     → lock_answer held Handler lock listed ≢ lock_answers.Held
 never_held held lock listed free = elim (cases_Bool (nat_lt lock 64)) [
   | inl there ↦ elim (cases_Bool (is_listed listed lock)) [
@@ -146,7 +146,7 @@ never_held held lock listed free = elim (cases_Bool (nat_lt lock 64)) [
       ]
 
 -- what handlers hold blocks no handler
-pub blocked_without : (held : List Held) (listed : ℕ) → blocked (without Handler held) listed ≡ blocked held listed
+pub blocked_without : (held : List Held) (listed : ℕ) → blocking_lock (without Handler held) listed ≡ blocking_lock held listed
 blocked_without held listed =
     ap (λ (blocking : List Held). reduce min (map (λ (one : Held). one.lock) blocking))
     (filter_within (is_blocking listed) (λ one. not (is_of Handler one))
@@ -185,8 +185,8 @@ unblocked_less (one ∷ held) less more within free =
     ]
 
 -- of locks that are listed in two ways
-pub unblocked_parts : (held : List Held) (first second : ℕ) → blocked held (bit_or first second) ≡ None
-    → (blocked held first ≡ None) × (blocked held second ≡ None)
+pub unblocked_parts : (held : List Held) (first second : ℕ) → blocking_lock held (bit_or first second) ≡ None
+    → (blocking_lock held first ≡ None) × (blocking_lock held second ≡ None)
 unblocked_parts held first second free =
     let none = unblocked_each held (bit_or first second) free in (
       unblocked_by held first (unblocked_less held first (bit_or first second) (listed_first first second) none),

@@ -4,7 +4,7 @@ use Rattle.std.proofs.Common.{append_assoc, refl}
 use Rattle.std.proofs.lemmas.List.{length-append, append-nil}
 use Rattle.std.proofs.lemmas.Grind.{common_steps}
 use Rattle.part_handlers.specs.declared.rules.Violation.{Violation}
-use Rattle.part_handlers.specs.LogState.{Logged, keep_last, log_of, noted, notes}
+use Rattle.part_handlers.specs.LogState.{LogRecord, keep_last, log_of, with_violation, notes}
 
 -- only the newest decide which are the newest after one more
 keep_last-keep_last : {X : Type 0} (n : ℕ) (xs : List X) (x : X)
@@ -16,7 +16,7 @@ count-noted n = omega arith
 
 -- the log of some violations, after one more, is the log of all of them
 pub noted-log_of : (before : List Violation) (violation : Violation)
-    → noted (log_of before) violation ≡ log_of (before ++ violation ∷ [])
+    → with_violation (log_of before) violation ≡ log_of (before ++ violation ∷ [])
 noted-log_of before violation =
     ap (λ (n : ℕ). record { count = n; newest = keep_last 64 (keep_last 64 before ++ violation ∷ []) })
     (count-noted (length before) ∙ ap (λ (n : ℕ). min n (2 ^ 64 - 1)) (sym (length-append before (violation ∷ []))))
@@ -27,11 +27,11 @@ noted-log_of before violation =
 pub notes-log_of : (before after : List Violation) → notes (log_of before) after ≡ log_of (before ++ after)
 notes-log_of before [] = ap log_of (sym (append-nil before))
 notes-log_of before (v ∷ rest) =
-    ap (λ (log : Logged). notes log rest) (noted-log_of before v) ∙ notes-log_of (before ++ v ∷ []) rest
+    ap (λ (log : LogRecord). notes log rest) (noted-log_of before v) ∙ notes-log_of (before ++ v ∷ []) rest
     ∙ ap log_of (append_assoc before (v ∷ []) rest)
 
 -- violations noted one list after another are those of both
-pub notes-append : (log : Logged) (first second : List Violation)
+pub notes-append : (log : LogRecord) (first second : List Violation)
     → notes log (first ++ second) ≡ notes (notes log first) second
 notes-append log [] second = refl
-notes-append log (v ∷ rest) second = notes-append (noted log v) rest second
+notes-append log (v ∷ rest) second = notes-append (with_violation log v) rest second

@@ -76,8 +76,8 @@ abbrev pub is_blocking : (listed : ℕ) → Held → Bool
 is_blocking listed one = is_thread one.owner && is_listed listed one.lock
 
 -- the smallest of the listed locks that a thread holds
-abbrev pub blocked : List Held → (listed : ℕ) → Option ℕ
-blocked held listed = reduce min (map (λ one. one.lock) (filter (is_blocking listed) held))
+abbrev pub blocking_lock : List Held → (listed : ℕ) → Option ℕ
+blocking_lock held listed = reduce min (map (λ one. one.lock) (filter (is_blocking listed) held))
 
 -- ---- taking a lock
 

@@ -8,26 +8,26 @@ abbrev pub keep_last : {Item : Type 0} → ℕ → List Item → List Item
 keep_last n items = drop (length items - n) items
 
 -- how many violations were noted, at most the greatest u64, and the newest of them, oldest first
-pub record Logged : Type 0 where
+pub record LogRecord : Type 0 where
   pub count : ℕ
   pub newest : List Violation
 
 -- the log of all these violations, oldest first: their count, and the last 64
-abbrev pub log_of : List Violation → Logged
+abbrev pub log_of : List Violation → LogRecord
 log_of violations = record { count = min (length violations) (2 ^ 64 - 1); newest = keep_last 64 violations }
 
 -- the log after one more violation
-abbrev pub noted : Logged → Violation → Logged
-noted log violation = record {
+abbrev pub with_violation : LogRecord → Violation → LogRecord
+with_violation log violation = record {
   count = min (log.count + 1) (2 ^ 64 - 1);
   newest = keep_last 64
       (log.newest ++ violation ∷ []);
 }
 
 -- the log after more violations, in order
-abbrev pub notes : Logged → List Violation → Logged
+abbrev pub notes : LogRecord → List Violation → LogRecord
 notes log [] = log
-notes log (violation ∷ rest) = notes (noted log violation) rest
+notes log (violation ∷ rest) = notes (with_violation log violation) rest
 
 -- the i-th of a list from its end, from 0
 abbrev pub from_end : List Violation → ℕ → Option Violation

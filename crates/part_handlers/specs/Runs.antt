@@ -5,7 +5,8 @@
 use Rattle.std.specs.Prelude.{ℕ, ℤ, ◌≡◌, ◌≢◌, ◌≤◌, ◌+◌, ◌==◌, ◌&&◌, List, [], ◌∷◌, ◌++◌, Option, Some, None, Result, Ok}
 use Rattle.std.specs.Prelude.{Err, Bool, true, false, not, nat_lt, length, if◌then◌else◌, is_some}
 use Rattle.part_segment.specs.Image.{Write, AllFit}
-use Rattle.part_handlers.specs.Locks.{lock_answer, after_lock, unlock_answer, after_unlock, blocked, without, holds}
+use Rattle.part_handlers.specs.Locks.{lock_answer, after_lock, unlock_answer, after_unlock, blocking_lock, without}
+use Rattle.part_handlers.specs.Locks.{holds}
 use Rattle.part_handlers.specs.declared.lock_answer.Held.{Held}
 use Rattle.part_handlers.specs.declared.lock_answer.Owner.TheVariants as owner
 use Rattle.part_handlers.specs.declared.lock_answer.LockAnswer.{LockAnswer}
@@ -15,7 +16,7 @@ use Rattle.part_handlers.specs.declared.lock_answer.UnlockAnswer.TheVariants as 
 use Rattle.wire_message.specs.declared.kind.Kind.{Kind}
 use Rattle.wire_message.specs.declared.kind.Kind.TheVariants as kind
 use Rattle.wire_message.specs.Message.{Message, IsMessage, spelling, code, is_long, is_bare}
-use Rattle.wire_message.specs.Content.{Content, addressed}
+use Rattle.wire_message.specs.Content.{Content, message_at_address}
 use Rattle.wire_message.specs.declared.content.Address.{Address}
 use Rattle.wire_message.specs.Parameters.{Parameters}
 use Rattle.part_handlers.specs.declared.table.Entry.{Entry}
@@ -71,8 +72,8 @@ pub record Outcome : Type 0 where
   pub refused : List Fault
 
 -- a run that did nothing so far
-abbrev pub untouched : Start → Outcome
-untouched start = record { cells = start.cells; writes = []; locks = start.locks; reply = None; refused = [] }
+abbrev pub nothing_done : Start → Outcome
+nothing_done start = record { cells = start.cells; writes = []; locks = start.locks; reply = None; refused = [] }
 
 -- what is noted of a fault of a handler with this role
 abbrev pub violation : Role → Fault → Violation
@@ -84,18 +85,19 @@ refusal (Ok allowed) = []
 refusal (Err forbidden) = fault.Rule forbidden ∷ []
 
 -- how the rule table judges a call of the handler
-abbrev pub judged : Frame → CallKind → Outcome → Result (Unit {0}) Forbidden
-judged frame kind outcome =
+abbrev pub judgement : Frame → CallKind → Outcome → Result (Unit {0}) Forbidden
+judgement frame kind outcome =
     rule (context_of frame.arrival.role) (holds owner.Handler outcome.locks) (is_some outcome.reply) kind
 
 -- after a call that does nothing but be judged
-abbrev pub attempted : Frame → CallKind → Outcome → Outcome
-attempted frame kind outcome = record outcome { refused = outcome.refused ++ refusal (judged frame kind outcome) }
+abbrev pub after_attempt : Frame → CallKind → Outcome → Outcome
+after_attempt frame kind outcome =
+    record outcome { refused = outcome.refused ++ refusal (judgement frame kind outcome) }
 
 -- after the handler: its return is judged, and its locks are freed
-abbrev pub closed : Frame → Outcome → Outcome
-closed frame outcome =
-    record (attempted frame call.Return outcome) { locks = without owner.Handler outcome.locks }
+abbrev pub after_return : Frame → Outcome → Outcome
+after_return frame outcome =
+    record (after_attempt frame call.Return outcome) { locks = without owner.Handler outcome.locks }
 
 -- after this was written into the segment
 abbrev pub writing : Write → Outcome → Outcome
@@ -157,7 +159,7 @@ answer_by (Ok allowed) faults = first_fault faults
 -- the answer to a reply that the handler asks for
 abbrev pub answer : Frame → Content → Outcome → Replied
 answer frame content outcome =
-    answer_by (judged frame call.Reply outcome) (reply_faults frame.settings frame.table content)
+    answer_by (judgement frame call.Reply outcome) (reply_faults frame.settings frame.table content)
 
 -- what the answer to a reply leaves: it is sent, or its refusal is kept, or nothing happened
 abbrev pub after_answer : Replied → Content → Outcome → Outcome
@@ -222,7 +224,7 @@ reply_address settings arrival = record {
 
 -- the reply on its way
 abbrev pub outgoing_reply : Parameters → Arrival → Content → Message
-outgoing_reply settings arrival content = addressed (reply_address settings arrival) content
+outgoing_reply settings arrival content = message_at_address (reply_address settings arrival) content
 
 -- the bytes of a reply: its datagram; where the message came from the local node, its payload alone
 abbrev pub reply_bytes : Parameters → Arrival → Content → List ℕ
@@ -244,7 +246,7 @@ pub record IsReady (arrival : Arrival) (buffer : List ℕ) : Type 0 where
 
 -- no thread holds a lock that the handler may take, and the handler holds none
 pub record AreFree (listed : ℕ) (locks : List Held) : Type 0 where
-  pub unblocked : blocked locks listed ≡ None
+  pub unblocked : blocking_lock locks listed ≡ None
   pub unheld : holds owner.Handler locks ≡ false
 
 -- the place of a Long's payload lies inside a segment of this length; other messages have none

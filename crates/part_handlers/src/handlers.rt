@@ -1,7 +1,7 @@
-//! What runs at a desk.
+//! What runs at a token.
 
 use crate::cells::Cells;
-use crate::desk::Desk;
+use crate::token::Token;
 use part_segment::Segment;
 
 /// The client's handlers (GASNet 1.8.1, core API, active messages).
@@ -11,23 +11,23 @@ use part_segment::Segment;
 pub trait Handlers {
     ghost use Rattle.std.specs.Prelude.{ℕ};
     ghost use Rattle.part_handlers.specs.Runs.{Frame, Start, Outcome, IsLawfulRun};
-    ghost use Rattle.part_handlers.specs.Desks.{At, IsFresh, IsSegment, frame_of, stage};
-    ghost use Rattle.part_handlers.specs.Desks.{start_of};
+    ghost use Rattle.part_handlers.specs.Tokens.{At, IsFresh, IsSegment, frame_of, stage};
+    ghost use Rattle.part_handlers.specs.Tokens.{start_of};
 
     /// What the run of a handler gives: the cells that it leaves, what it wrote into the segment, the locks that are
     /// held then, its reply, and the calls that were refused.
     ghost meaning: { Self → ℕ → Frame → Start → Outcome };
 
-    /// Runs the handler of this index at a desk as `Desk::new` made it. It takes no memory.
+    /// Runs the handler of this index at a token as `Token::new` made it. It takes no memory.
     ///
-    /// The segment has the length of the desk's settings, and the place of a Long's payload lies inside it. Segment,
-    /// cells and desk are then what the meaning says; the segment has the same length.
-    fn run(&self, handler: u8, segment: &mut Segment, cells: &mut Cells, desk: &mut Desk<'_>)
-        requires fresh { IsFresh desk.old }
-        requires segment { IsSegment desk.old segment.old }
-        ensures { let opening = stage segment.old cells.old desk.old in
-            At opening (meaning self.now handler (frame_of desk.old) (start_of opening))
-            (stage segment.new cells.new desk.new) };
+    /// The segment has the length of the token's settings, and the place of a Long's payload lies inside it. Segment,
+    /// cells and token are then what the meaning says; the segment has the same length.
+    fn run(&self, handler: u8, segment: &mut Segment, cells: &mut Cells, token: &mut Token<'_>)
+        requires fresh { IsFresh token.old }
+        requires segment { IsSegment token.old segment.old }
+        ensures { let opening = stage segment.old cells.old token.old in
+            At opening (meaning self.now handler (frame_of token.old) (start_of opening))
+            (stage segment.new cells.new token.new) };
 
     // A reply is one that the rule table and its parts let through; what is written lies inside the segment; the
     // threads' locks stay theirs.

@@ -2,7 +2,7 @@
 
 ghost use Rattle.std.specs.Prelude.{◌≡◌, []};
 ghost use Rattle.part_handlers.specs.Locks.{lock_answer, after_lock, unlock_answer, unlock_fault};
-ghost use Rattle.part_handlers.specs.Locks.{after_unlock, held_by, holds, blocked, without, holder};
+ghost use Rattle.part_handlers.specs.Locks.{after_unlock, held_by, holds, blocking_lock, without, holder};
 ghost use Rattle.part_handlers.specs.Locks.{latest, is_listed};
 
 use crate::lock_answer::{Held, LockAnswer, LockFault, Owner, UnlockAnswer};
@@ -107,7 +107,7 @@ impl Locks {
     /// The smallest lock that is listed and that a thread holds: while there is one, the message of a handler that
     /// lists these locks waits (profile). None exactly where no thread holds a listed lock.
     pub fn blocked(&self, listed: u64) -> Option<u8>
-        ensures { result ≡ blocked self.now listed }
+        ensures { result ≡ blocking_lock self.now listed }
     {
         self.held
             .iter()

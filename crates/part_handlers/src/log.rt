@@ -1,7 +1,7 @@
 //! The log of violations.
 
 ghost use Rattle.std.specs.Prelude.{◌≡◌, IfOk, []};
-ghost use Rattle.part_handlers.specs.LogState.{noted, log_of, from_end};
+ghost use Rattle.part_handlers.specs.LogState.{with_violation, log_of, from_end};
 
 use crate::rules::Violation;
 use circular_buffer::HeapCircularBuffer;
@@ -20,9 +20,9 @@ pub struct Log {
 
 impl Model for Log {
     ghost use Rattle.std.specs.Prelude.{◌≡◌};
-    ghost use Rattle.part_handlers.specs.LogState.{Logged};
+    ghost use Rattle.part_handlers.specs.LogState.{LogRecord};
 
-    ghost Value = { Logged };
+    ghost Value = { LogRecord };
 
     ghost view = { λ l. record { count = l.noted; newest = l.newest.items } };
 
@@ -43,8 +43,8 @@ impl Log {
     }
 
     /// Notes a violation; where 64 are kept, the oldest of them is dropped. It takes no memory.
-    pub fn note(&mut self, violation: Violation)
-        ensures { self.new ≡ noted self.old violation }
+    pub fn log_violation(&mut self, violation: Violation)
+        ensures { self.new ≡ with_violation self.old violation }
     {
         self.noted = self.noted.saturating_add(1);
         self.newest.push_back(violation);

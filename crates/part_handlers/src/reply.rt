@@ -3,7 +3,7 @@
 ghost use Rattle.std.specs.Prelude.{◌≡◌, ◌≤◌, length};
 ghost use Rattle.wire_message.specs.Message.{IsWellFormed};
 ghost use Rattle.wire_message.specs.Reading.{outgoing_message};
-ghost use Rattle.wire_message.specs.Content.{Content, IsWellAddressed, addressed};
+ghost use Rattle.wire_message.specs.Content.{Content, IsWellAddressed, message_at_address};
 ghost use Rattle.part_handlers.specs.Runs.{passes_end};
 ghost use Rattle.part_handlers.specs.Asked.{IsSmall, asked_content};
 
@@ -76,7 +76,7 @@ impl<'a> AskedReply<'a> {
     pub fn outgoing(&self, address: Address) -> Outgoing<'a>
         requires address { IsWellAddressed address }
         requires small { IsSmall (asked_content self.now) }
-        ensures value { outgoing_message result ≡ addressed address (asked_content self.now) }
+        ensures value { outgoing_message result ≡ message_at_address address (asked_content self.now) }
         ensures formed { IsWellFormed (outgoing_message result) }
     {
         match self.load {

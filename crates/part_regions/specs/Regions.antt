@@ -21,8 +21,8 @@ abbrev pub empty_region : Region
 empty_region = record { name = None }
 
 -- a region that bears this number
-abbrev pub named : (serial : ℕ) → Region
-named serial = record { name = Some serial }
+abbrev pub region_of_serial : (serial : ℕ) → Region
+region_of_serial serial = record { name = Some serial }
 
 -- after an operation of the thread with this number: the number is the name of the region that the thread has begun,
 -- where that is empty
@@ -30,7 +30,7 @@ abbrev pub after_operation : List (Option Region) → (thread serial : ℕ) → 
 after_operation regions thread serial = elim (region_of regions thread) [
   | None ↦ regions
   | Some region ↦ elim region.name [
-    | None ↦ slice_set regions thread (Some (named serial))
+    | None ↦ slice_set regions thread (Some (region_of_serial serial))
     | Some first ↦ regions
   ]
 ]

@@ -122,7 +122,7 @@ impl Regions {
 
     /// An operation of the thread has this number: its region gets it as a name, where it has begun one that is empty.
     /// Else nothing changes.
-    pub fn note(&mut self, thread: u16, serial: u64)
+    pub fn add(&mut self, thread: u16, serial: u64)
         requires { thread < length self.old }
         ensures { self.new ≡ after_operation self.old thread serial }
     {

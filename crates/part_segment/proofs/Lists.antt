@@ -2,7 +2,7 @@
 use Rattle.std.proofs.Common.{◌≡◌, ℕ, ◌+◌, ◌≤◌, List, ◌++◌, length, take, drop, sym, ap, ◌∙◌, arith, length-append}
 use Rattle.std.proofs.Common.{length-drop}
 use Rattle.std.proofs.lemmas.List.{take-append-drop, drop-drop, take_at, length-take-le}
-use Rattle.part_segment.specs.Bytes.{part, with_part, refilled, with_lent}
+use Rattle.part_segment.specs.Bytes.{part, with_part, refill, with_lent}
 
 pub three : (xs : List ℕ) (i n : ℕ) → xs ≡ take i xs ++ (part xs i n ++ drop (i + n) xs)
 three xs i n = sym (take-append-drop i xs)
@@ -12,7 +12,7 @@ three xs i n = sym (take-append-drop i xs)
 pub part_long : (xs : List ℕ) (i n : ℕ) → i + n ≤ length xs → length (part xs i n) ≡ n
 part_long xs i n inside = length-take-le n (drop i xs) (omega (arith, length-drop i xs))
 
-pub refilled_is : (xs ys : List ℕ) → length ys ≡ length xs → refilled xs ys ≡ ys
+pub refilled_is : (xs ys : List ℕ) → length ys ≡ length xs → refill xs ys ≡ ys
 refilled_is xs ys l = take_at ys (drop (length ys) xs) (length xs) l
 
 pub with_lent_is : (xs : List ℕ) (i n : ℕ) (ws : List ℕ) → i + n ≤ length xs → length ws ≡ length (part xs i n)

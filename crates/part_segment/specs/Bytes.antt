@@ -23,9 +23,9 @@ abbrev pub with_two : List ℕ → (offset other_offset : ℕ) → List ℕ → 
 with_two bytes offset other_offset first second = with_part (with_part bytes offset first) other_offset second
 
 -- what a part becomes that was lent: a part keeps its length, and then this is `written`
-abbrev pub refilled : List ℕ → List ℕ → List ℕ
-refilled old written = take (length old) (written ++ drop (length written) old)
+abbrev pub refill : List ℕ → List ℕ → List ℕ
+refill old written = take (length old) (written ++ drop (length written) old)
 
 -- what the bytes become where a part of them was lent
 abbrev pub with_lent : List ℕ → (offset len : ℕ) → List ℕ → List ℕ
-with_lent bytes offset len written = with_part bytes offset (refilled (part bytes offset len) written)
+with_lent bytes offset len written = with_part bytes offset (refill (part bytes offset len) written)

@@ -125,7 +125,7 @@ impl Segment {
     ghost use Rattle.std.specs.Prelude.{◌⊎◌, ℕ, ◌%◌, ◌<◌, length, replicate, IfOk, IfErr, IfSome};
     ghost use Rattle.std.specs.Prelude.{IfNone, OnErr, OnOk};
     ghost use Rattle.std.specs.Borrow.{sem, Lends, Array, u8 as byte};
-    ghost use Rattle.part_segment.specs.Bytes.{IsInside, part, with_part, refilled, with_lent};
+    ghost use Rattle.part_segment.specs.Bytes.{IsInside, part, with_part, refill, with_lent};
     ghost use Rattle.part_segment.specs.Faults.{RefusesTyped};
     ghost use Rattle.part_segment.specs.Parts.{AreGood, RefusesParts};
     ghost use Rattle.part_segment.specs.Lending.{segment_row};
@@ -220,7 +220,7 @@ impl Segment {
     #[tactic(auto, using(crate::proofs::Lengths::length_with_lent, crate::proofs::Lengths::with_lent_whole))]
     pub fn bytes_mut(&mut self) -> &mut [u8]
         ensures* writes_back { sem 𝓛 (Lends segment_row (Array byte 0) self.entry result
-            (refilled self.old)) }
+            (refill self.old)) }
         ensures value { result.now ≡ self.old }
         ensures len { length result.now ≡ length self.old }
     {

@@ -64,10 +64,10 @@ there_is table operations to slot waiting S at blank =
     apart : (there : OperationRecord) → ◌≡◌ {A = Option (Option OperationRecord)} (Some None) (Some (Some there)) → ⊥
     apart there is = cc
 
-pub unreturned : (table : Transfers) (operations : List Operation) (to slot : ℕ) (waiting : Waiting) (there : OperationRecord)
+pub outstanding : (table : Transfers) (operations : List Operation) (to slot : ℕ) (waiting : Waiting) (there : OperationRecord)
     → Stands table operations → entry_at table.slots to slot ≡ Some waiting
     → slice_get table.table waiting.place ≡ Some (Some there) → there.returned < there.issued
-unreturned table operations to slot waiting there S entry at =
+outstanding table operations to slot waiting there S entry at =
     let it = said table operations to slot waiting S entry in
     let out : Out = record { operation = it.0.number; request = waiting.request } in
     let one = one_out to slot 1 operations out it.2 in

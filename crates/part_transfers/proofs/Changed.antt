@@ -5,18 +5,18 @@ use Rattle.std.specs.List.{slice_get}
 use Rattle.std.proofs.lemmas.Bool.{cases_Bool, cases_eq}
 use Rattle.std.proofs.lemmas.List.{length-set, length-append, length-map}
 use Rattle.std.proofs.lemmas.Option.{same_Some, slice_get_within}
-use Rattle.base_lists.specs.Numbered.{numbered, change}
+use Rattle.base_lists.specs.Numbered.{element_at, change}
 use Rattle.base_lists.specs.Update.{update}
 use Rattle.base_lists.proofs.Indexes.{get-set_same, get-set_other}
 use Rattle.base_lists.proofs.Numbered.{numbered-change, numbered-changed, numbered-change_here, length-change, numbered_at}
 use Rattle.part_transfers.specs.declared.table.OperationRecord.{OperationRecord}
 use Rattle.part_transfers.specs.declared.slots.Waiting.{Waiting}
 use Rattle.part_transfers.specs.declared.transfers.Transfers.{Transfers}
-use Rattle.part_transfers.specs.Operation.{Operation, Sent, target, returned_of, is_complete, with_sent, as_back, with_back}
+use Rattle.part_transfers.specs.Operation.{Operation, SentChunk, target, returned_of, is_complete, with_sent, as_back, with_back}
 use Rattle.part_transfers.specs.Operation.{come_back, IsFreeSlot}
 use Rattle.part_transfers.specs.SlotsState.{SlotsState, entry_at, HasSet}
 use Rattle.part_transfers.specs.Outs.{Out, requests_of, outs}
-use Rattle.part_transfers.specs.Stands.{kept, Keeps, Says, Stands}
+use Rattle.part_transfers.specs.Stands.{record_of, Keeps, Says, Stands}
 use Rattle.part_transfers.proofs.Tests.{get_set}
 use Rattle.part_transfers.proofs.Counts.{count_from, number_at}
 use Rattle.part_transfers.proofs.Issued.{with_back_keeps}
@@ -25,8 +25,8 @@ use Rattle.part_transfers.proofs.Outs.{issued_elsewhere}
 use Rattle.part_transfers.proofs.Said.{said, says_rewritten}
 
 numbered_other : (f : Operation → Operation) (operations : List Operation) (number other : ℕ) (operation : Operation)
-    → other ≢ number → numbered operations other ≡ Some operation
-    → numbered (change f operations number) other ≡ Some operation
+    → other ≢ number → element_at operations other ≡ Some operation
+    → element_at (change f operations number) other ≡ Some operation
 numbered_other f operations number other operation apart at =
     let now = numbered-changed f operations number other operation at in
     let was = numbered-change f operations number other now.0 now.1 in
@@ -38,9 +38,9 @@ numbered_other f operations number other operation apart at =
 pub keeps_changed : (f : Operation → Operation) (places : List (Option OperationRecord)) (operations : List Operation)
     (place : ℕ) (there : OperationRecord) (operation : Operation)
     → Keeps places operations
-    → slice_get places place ≡ Some (Some there) → numbered operations there.number ≡ Some operation
+    → slice_get places place ≡ Some (Some there) → element_at operations there.number ≡ Some operation
     → operation.synced ≡ false → (f operation).synced ≡ false
-    → Keeps (set places place (Some (kept there.number (f operation)))) (change f operations there.number)
+    → Keeps (set places place (Some (record_of there.number (f operation)))) (change f operations there.number)
 keeps_changed f places operations place there operation K at is stands stays =
     record {
       many = length-set places place (Some new) ∙ K.many;
@@ -51,25 +51,25 @@ keeps_changed f places operations place there operation K at is stands stays =
     }
   where
     new : OperationRecord
-    new = kept there.number (f operation)
+    new = record_of there.number (f operation)
 
     own : (other : ℕ) (second : OperationRecord) → slice_get places other ≡ Some (Some second) → second.number ≡ there.number
         → other ≡ place
     own other second also same = K.once other place second there also at same
 
     each : (other : ℕ) (second : OperationRecord) → slice_get (set places place (Some new)) other ≡ Some (Some second)
-        → (o : Operation) × (numbered (change f operations there.number) second.number ≡ Some o) × (o.synced ≡ false)
-        × (second ≡ kept second.number o)
+        → (o : Operation) × (element_at (change f operations there.number) second.number ≡ Some o) × (o.synced ≡ false)
+        × (second ≡ record_of second.number o)
     each other second also = elim (get_set places place (Some new) other (Some second) also) [
       | inl here ↦ (
           let same : new ≡ second = same_Some _ _ here.1 in
           let number : there.number ≡ second.number = ap (λ (z : OperationRecord). z.number) same in (
             f operation,
-            ap (numbered (change f operations there.number)) (sym number)
+            ap (element_at (change f operations there.number)) (sym number)
                 ∙ numbered-change_here f operations there.number operation is,
             stays,
             sym same
-                ∙ ap (λ n. kept n (f operation)) number,
+                ∙ ap (λ n. record_of n (f operation)) number,
           ))
       | inr apart ↦ (
           let was = K.each other second apart.1 in (
@@ -81,8 +81,8 @@ keeps_changed f places operations place there operation K at is stands stays =
           ))
     ]
 
-    all : (number : ℕ) (o : Operation) → numbered (change f operations there.number) number ≡ Some o → o.synced ≡ false
-        → (other : ℕ) × (slice_get (set places place (Some new)) other ≡ Some (Some (kept number o)))
+    all : (number : ℕ) (o : Operation) → element_at (change f operations there.number) number ≡ Some o → o.synced ≡ false
+        → (other : ℕ) × (slice_get (set places place (Some new)) other ≡ Some (Some (record_of number o)))
     all number o now open_now =
         let was = numbered-change f operations there.number number o now in
         elim was.2 [
@@ -91,17 +91,17 @@ keeps_changed f places operations place there operation K at is stands stays =
               let numbers : found.0 ≢ place =
               λ same. it.0
               (ap (λ (y : OperationRecord). y.number)
-              (same_Some (kept number was.0) there
-              (same_Some (Some (kept number was.0)) (Some there) (sym found.1 ∙ (ap (slice_get places) same ∙ at))))) in (
+              (same_Some (record_of number was.0) there
+              (same_Some (Some (record_of number was.0)) (Some there) (sym found.1 ∙ (ap (slice_get places) same ∙ at))))) in (
                 found.0,
                 get-set_other places place (Some new) found.0 numbers
-                    ∙ (found.1 ∙ ap (λ (y : Operation). Some (Some (kept number y))) (sym it.1)),
+                    ∙ (found.1 ∙ ap (λ (y : Operation). Some (Some (record_of number y))) (sym it.1)),
               ))
           | inr it ↦ (
-              let same : was.0 ≡ operation = same_Some _ _ (sym was.1 ∙ (ap (numbered operations) it.0 ∙ is)) in (
+              let same : was.0 ≡ operation = same_Some _ _ (sym was.1 ∙ (ap (element_at operations) it.0 ∙ is)) in (
                 place,
                 get-set_same places place (Some new) (slice_get_within places place (Some there) at)
-                    ∙ ap (λ (y : OperationRecord). Some (Some y)) (ap₂ kept (sym it.0) (ap f (sym same) ∙ sym it.1)),
+                    ∙ ap (λ (y : OperationRecord). Some (Some y)) (ap₂ record_of (sym it.0) (ap f (sym same) ∙ sym it.1)),
               ))
         ]
 
@@ -128,8 +128,8 @@ pub stands_changed : (f : Operation → Operation) (table : Transfers) (operatio
     (there new : OperationRecord) (slots : SlotsState)
     → Stands table operations → slice_get table.table place ≡ Some (Some there)
     → ((o : Operation) → (f o).synced ≡ o.synced)
-    → ((o : Operation) → numbered operations there.number ≡ Some o → there ≡ kept there.number o
-    → kept there.number (f o) ≡ new)
+    → ((o : Operation) → element_at operations there.number ≡ Some o → there ≡ record_of there.number o
+    → record_of there.number (f o) ≡ new)
     → ((to slot : ℕ)
     → Says (set table.table place (Some new)) (entry_at slots to slot)
     (outs to slot 1 (change f operations there.number)))
@@ -153,22 +153,22 @@ stands_changed f table operations place there new slots S at stays is says =
                 ∙ (ap (λ (z : Operation). z.synced) it.1
                 ∙ (stays was.0
                 ∙ (ap (λ (z : Operation). z.synced)
-                (same_Some was.0 o.0 (sym was.1 ∙ (ap (numbered operations) it.0 ∙ o.1))) ∙ o.2)))))
+                (same_Some was.0 o.0 (sym was.1 ∙ (ap (element_at operations) it.0 ∙ o.1))) ∙ o.2)))))
           ]);
     }
 
 -- ---- a chunk is issued
 
-returned_push : (sent : List Sent) (new : Sent) → new.back ≡ false → returned_of (sent ++ new ∷ []) ≡ returned_of sent
+returned_push : (sent : List SentChunk) (new : SentChunk) → new.back ≡ false → returned_of (sent ++ new ∷ []) ≡ returned_of sent
 returned_push [] new waits = rw waits refl
 returned_push (first ∷ sent) new waits = ap (λ n. (if first.back then 1 else 0) + n) (returned_push sent new waits)
 
 kept_noted : (number slot request : ℕ) (bytes : List ℕ) (operation : Operation)
-    → kept number (with_sent slot request bytes operation)
-    ≡ record (kept number operation) { issued = length operation.sent + 1 }
+    → record_of number (with_sent slot request bytes operation)
+    ≡ record (record_of number operation) { issued = length operation.sent + 1 }
 kept_noted number slot request bytes operation =
     let new : Sent = record { slot = slot; number = request; bytes = bytes; back = false } in
-    ap₂ (λ issued returned. record (kept number operation) {
+    ap₂ (λ issued returned. record (record_of number operation) {
       issued = issued;
       returned = returned;
     }) (length-append operation.sent (new ∷ [])) (returned_push operation.sent new refl)
@@ -247,12 +247,12 @@ stands_noted table operations place there to slot request bytes slots S at is fr
 -- ---- a chunk comes back
 
 kept_returned : (number to slot request : ℕ) (operation : Operation) → requests_of to slot operation ≡ request ∷ []
-    → kept number (with_back to slot request operation)
-    ≡ record (kept number operation) { returned = returned_of operation.sent + 1 }
+    → record_of number (with_back to slot request operation)
+    ≡ record (record_of number operation) { returned = returned_of operation.sent + 1 }
 kept_returned number to slot request operation one =
     let it = (one_operation to slot request operation one).1 in
     elim (cases_Bool (target operation.transfer == to)) [
-      | inl here ↦ rw here (ap₂ (λ issued returned. record (kept number operation) {
+      | inl here ↦ rw here (ap₂ (λ issued returned. record (record_of number operation) {
         issued = issued;
         returned = returned;
       }) (length-map operation.sent (as_back slot request)) (rw here at it))
@@ -303,7 +303,7 @@ stands_returned table operations there to slot waiting slots S entry at H =
     one : IsOne to slot 1 operations out
     one = one_out to slot 1 operations out outs_are
 
-    here_is : numbered operations there.number ≡ Some one.operation
+    here_is : element_at operations there.number ≡ Some one.operation
     here_is = numbered_at operations there.number one.place one.operation one.here one.numbered_so
 
     back_is : come_back to slot waiting.request operations ≡ change f operations there.number

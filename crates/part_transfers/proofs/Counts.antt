@@ -6,11 +6,11 @@ use Rattle.std.specs.List.{slice_get, list_any, IsDistinct, AllByRecursion}
 use Rattle.std.proofs.lemmas.Bool.{cases_Bool, cases_eq, eqb-true}
 use Rattle.std.proofs.lemmas.Map.Made.{length-from_same_keys}
 use Rattle.std.proofs.lemmas.Option.{same_Some}
-use Rattle.base_lists.specs.Numbered.{numbered}
+use Rattle.base_lists.specs.Numbered.{element_at}
 use Rattle.part_transfers.specs.declared.table.OperationRecord.{OperationRecord}
-use Rattle.part_transfers.specs.Operation.{Operation, unsynced}
-use Rattle.part_transfers.specs.Table.{taken}
-use Rattle.part_transfers.specs.Stands.{kept}
+use Rattle.part_transfers.specs.Operation.{Operation, unsynced_count}
+use Rattle.part_transfers.specs.Table.{taken_count}
+use Rattle.part_transfers.specs.Stands.{record_of}
 use Rattle.part_transfers.proofs.Tests.{same_test}
 
 abbrev serials : List (Option OperationRecord) → List ℕ
@@ -22,12 +22,12 @@ abbrev numbers : ℕ → List Operation → List ℕ
 numbers k [] = []
 numbers k (o ∷ operations) = if o.synced then numbers (suc k) operations else k ∷ numbers (suc k) operations
 
-length-serials : (places : List (Option OperationRecord)) → length (serials places) ≡ taken places
+length-serials : (places : List (Option OperationRecord)) → length (serials places) ≡ taken_count places
 length-serials [] = refl
 length-serials (None ∷ places) = length-serials places
 length-serials (Some r ∷ places) = ap suc (length-serials places)
 
-length-numbers : (k : ℕ) (operations : List Operation) → length (numbers k operations) ≡ unsynced operations
+length-numbers : (k : ℕ) (operations : List Operation) → length (numbers k operations) ≡ unsynced_count operations
 length-numbers k [] = refl
 length-numbers k (o ∷ operations) = let ih = length-numbers (suc k) operations in
     elim (cases_Bool o.synced) [ inl t ↦ rw t ih | inr f ↦ rw f (ap suc ih) ]
@@ -130,7 +130,7 @@ eqb_laws = record {
   congr = λ x y z e. ap (λ q. eqb q z) (eqb-true x y e);
 }
 
-pub number_at : (operations : List Operation) (h : ℕ) (o : Operation) → numbered operations h ≡ Some o
+pub number_at : (operations : List Operation) (h : ℕ) (o : Operation) → element_at operations h ≡ Some o
     → (a : ℕ) × (h ≡ 1 + a) × (slice_get operations a ≡ Some o)
 number_at operations zero o e = absurd (cc)
 number_at operations (suc a) o e = (a, omega arith, e)
@@ -138,12 +138,12 @@ number_at operations (suc a) o e = (a, omega arith, e)
 -- the count follows from the rest
 pub count_from : (places : List (Option OperationRecord)) (operations : List Operation)
     → ((p : ℕ) (r : OperationRecord) → slice_get places p ≡ Some (Some r)
-    → (o : Operation) × (numbered operations r.number ≡ Some o) × (o.synced ≡ false) × (r ≡ kept r.number o))
-    → ((h : ℕ) (o : Operation) → numbered operations h ≡ Some o → o.synced ≡ false
-    → (p : ℕ) × (slice_get places p ≡ Some (Some (kept h o))))
+    → (o : Operation) × (element_at operations r.number ≡ Some o) × (o.synced ≡ false) × (r ≡ record_of r.number o))
+    → ((h : ℕ) (o : Operation) → element_at operations h ≡ Some o → o.synced ≡ false
+    → (p : ℕ) × (slice_get places p ≡ Some (Some (record_of h o))))
     → ((p q : ℕ) (r v : OperationRecord) → slice_get places p ≡ Some (Some r) → slice_get places q ≡ Some (Some v)
     → r.number ≡ v.number → p ≡ q)
-    → taken places ≡ unsynced operations
+    → taken_count places ≡ unsynced_count operations
 count_from places operations each all once =
     sym (length-serials places)
     ∙ (length-from_same_keys eqb_laws (serials places) (numbers 1 operations) (distinct_serials places once)
@@ -163,4 +163,4 @@ count_from places operations each all once =
         let h = numbers_at 1 operations q e in
         let one : q ≡ suc h.0 = omega (arith, h.4) in
         let p = all (suc h.0) h.1 h.2 h.3 in
-        ap (λ n. list_any (eqb n) (serials places)) one ∙ serials_from places p.0 (kept (suc h.0) h.1) p.1
+        ap (λ n. list_any (eqb n) (serials places)) one ∙ serials_from places p.0 (record_of (suc h.0) h.1) p.1

@@ -10,7 +10,7 @@ use Rattle.base_lists.proofs.Indexes.{get-set_same, get-set_other}
 use Rattle.slab.specs.Slab.{Slab}
 use Rattle.part_transfers.specs.declared.table.OperationRecord.{OperationRecord}
 use Rattle.part_transfers.specs.declared.queue.Queued.{Queued}
-use Rattle.part_transfers.specs.Table.{dropped, AreDropped}
+use Rattle.part_transfers.specs.Table.{unless_picked, AreDropped}
 use Rattle.part_transfers.specs.Places.{record_places, IsIndexed}
 use Rattle.part_transfers.proofs.Tests.{get_set}
 use Rattle.part_transfers.proofs.Edits.{removed_was}
@@ -178,7 +178,7 @@ dropped_all goes test old records queue standing many from end D past same_test 
     places = record_places records
 
     by : (place : ℕ) (there : Option OperationRecord) → slice_get old place ≡ Some there
-        → slice_get places place ≡ Some there → slice_get places place ≡ Some (dropped test there)
+        → slice_get places place ≡ Some there → slice_get places place ≡ Some (unless_picked test there)
     by place None at still = still
     by place (Some there) at still =
         let found = entry_of places standing place there D.indexed.listed still in
@@ -191,11 +191,11 @@ dropped_all goes test old records queue standing many from end D past same_test 
         rw stays still
 
     each : (place : ℕ) (there : Option OperationRecord) → slice_get old place ≡ Some there
-        → slice_get places place ≡ Some (dropped test there)
+        → slice_get places place ≡ Some (unless_picked test there)
     each place there at = elim (D.some place there at) [
       | inl still ↦ by place there at still
       | inr it ↦ (
           let goes_so : test it.0 ≡ true = sym (same_test place it.0 (at ∙ ap Some it.1)) ∙ it.2 in
-          let blank : dropped test (Some it.0) ≡ None = rw goes_so refl in
-          it.3 ∙ ap Some (sym (ap (dropped test) it.1 ∙ blank)))
+          let blank : unless_picked test (Some it.0) ≡ None = rw goes_so refl in
+          it.3 ∙ ap Some (sym (ap (unless_picked test) it.1 ∙ blank)))
     ]

@@ -4,19 +4,19 @@ use Rattle.std.proofs.Common.{Option, None, Some, length, refl, sym, ap, ap₂, 
 use Rattle.std.specs.List.{slice_get, list_all}
 use Rattle.std.proofs.lemmas.Bool.{cases_Bool, and_parts}
 use Rattle.std.proofs.lemmas.Option.{same_Some, slice_get_within}
-use Rattle.base_lists.specs.Numbered.{numbered}
+use Rattle.base_lists.specs.Numbered.{element_at}
 use Rattle.base_lists.proofs.Places.{slice_get_there}
 use Rattle.part_transfers.specs.declared.table.OperationRecord.{OperationRecord}
 use Rattle.part_transfers.specs.declared.transfers.Transfers.{Transfers}
 use Rattle.part_transfers.specs.Operation.{Operation, is_complete}
 use Rattle.part_transfers.specs.Syncs.{Choice, go, chosen}
-use Rattle.part_transfers.specs.Table.{dropped, AreDropped}
+use Rattle.part_transfers.specs.Table.{unless_picked, AreDropped}
 use Rattle.part_transfers.specs.SlotsState.{entry_at}
 use Rattle.part_transfers.specs.Outs.{requests_of, outs}
 use Rattle.part_transfers.proofs.Outs.{one_out, outs_gone, complete_none}
 use Rattle.part_transfers.proofs.Said.{says_dropped}
 use Rattle.base_lists.proofs.Numbered.{numbered_at}
-use Rattle.part_transfers.specs.Stands.{Says, kept, Keeps, Stands, Agrees}
+use Rattle.part_transfers.specs.Stands.{Says, record_of, Keeps, Stands, Agrees}
 use Rattle.part_transfers.proofs.Counts.{count_from, number_at}
 
 length-go : (choice : Choice) (number : ℕ) (operations : List Operation)
@@ -84,7 +84,7 @@ chosen_complete choice number (first ∷ operations) (suc place) operation all a
           (ap (λ n. choice n operation) (omega arith) ∙ is)
     ]
 
-not_dropped : (test : OperationRecord → Bool) (place : Option OperationRecord) (there : OperationRecord) → dropped test place ≡ Some there
+not_dropped : (test : OperationRecord → Bool) (place : Option OperationRecord) (there : OperationRecord) → unless_picked test place ≡ Some there
     → (place ≡ Some there) × (test there ≡ false)
 not_dropped test None there is = absurd (cc)
 not_dropped test (Some was) there is = elim (cases_Bool (test was)) [
@@ -117,8 +117,8 @@ keeps_gone old new operations choice test A D K =
         (o.1 ∙ ap Some stays.0, stays.1)
 
     each : (place : ℕ) (there : OperationRecord) → slice_get new place ≡ Some (Some there)
-        → (o : Operation) × (numbered (go choice 1 operations) there.number ≡ Some o) × (o.synced ≡ false)
-        × (there ≡ kept there.number o)
+        → (o : Operation) × (element_at (go choice 1 operations) there.number ≡ Some o) × (o.synced ≡ false)
+        × (there ≡ record_of there.number o)
     each place there at =
         let h = was place there at in
         let o = K.each place there h.0 in
@@ -126,10 +126,10 @@ keeps_gone old new operations choice test A D K =
         let one : there.number ≡ suc a.0 = omega (arith, a.1) in
         let free : choice (1 + a.0) o.0 ≡ false = ap (λ n. choice n o.0) (sym a.1)
         ∙ (A.chosen there.number o.0 o.2 ∙ (ap test (sym o.3) ∙ h.1)) in
-        (o.0, ap (numbered (go choice 1 operations)) one ∙ go_other choice 1 operations a.0 o.0 a.2 free, o.2, o.3)
+        (o.0, ap (element_at (go choice 1 operations)) one ∙ go_other choice 1 operations a.0 o.0 a.2 free, o.2, o.3)
 
-    all : (number : ℕ) (now : Operation) → numbered (go choice 1 operations) number ≡ Some now → now.synced ≡ false
-        → (place : ℕ) × (slice_get new place ≡ Some (Some (kept number now)))
+    all : (number : ℕ) (now : Operation) → element_at (go choice 1 operations) number ≡ Some now → now.synced ≡ false
+        → (place : ℕ) × (slice_get new place ≡ Some (Some (record_of number now)))
     all number now at stands =
         let a = number_at (go choice 1 operations) number now at in
         let o = go_was choice 1 operations a.0 now a.2 in
@@ -138,11 +138,11 @@ keeps_gone old new operations choice test A D K =
               let one : number ≡ suc a.0 = omega (arith, a.1) in
               let open_now : o.0.synced ≡ false = ap (λ (y : Operation). y.synced) (sym it.1) ∙ stands in
               let p = K.all (suc a.0) o.0 o.1 open_now in
-              let free : test (kept (suc a.0) o.0) ≡ false = sym (A.chosen (suc a.0) o.0 open_now)
+              let free : test (record_of (suc a.0) o.0) ≡ false = sym (A.chosen (suc a.0) o.0 open_now)
               ∙ (ap (λ m. choice m o.0) (sym one ∙ a.1) ∙ it.0) in (
                 p.0,
-                D.each p.0 (Some (kept (suc a.0) o.0)) p.1
-                    ∙ rw free (ap (λ (y : OperationRecord). Some (Some y)) (ap₂ kept (sym one) (sym it.1))),
+                D.each p.0 (Some (record_of (suc a.0) o.0)) p.1
+                    ∙ rw free (ap (λ (y : OperationRecord). Some (Some y)) (ap₂ record_of (sym one) (sym it.1))),
               ))
           | inr it ↦ absurd (true≢false (sym (ap (λ (y : Operation). y.synced) it.1) ∙ stands))
         ]

@@ -4,7 +4,7 @@ use Rattle.std.proofs.Common.{[], ◌∷◌, Some, length, refl, sym, ap, ◌∙
 use Rattle.std.specs.List.{slice_get}
 use Rattle.std.proofs.lemmas.Bool.{cases_Bool, and_parts, and_from, eqb-true}
 use Rattle.std.proofs.lemmas.Option.{same_Some}
-use Rattle.base_lists.specs.Numbered.{numbered, change}
+use Rattle.base_lists.specs.Numbered.{element_at, change}
 use Rattle.base_lists.specs.Update.{update}
 use Rattle.base_lists.proofs.Numbered.{numbered_mapped}
 use Rattle.base_lists.proofs.Update.{update-on}
@@ -67,7 +67,7 @@ next_is_first can operations next is =
     let to : target next.transfer ≡ target it.1.transfer = ap (λ (n : Next). target n.transfer) it.3 in
     record {
       operation = it.1;
-      here = ap (numbered operations) number ∙ it.2;
+      here = ap (element_at operations) number ∙ it.2;
       chunk = it.3 ∙ ap (λ n. chunk_of n it.1) (one ∙ sym number);
       has = it.4;
       open_to = ap can to ∙ it.5;
@@ -169,7 +169,7 @@ with_back_keeps from slot request operation = elim (cases_Bool (target operation
 
 -- what has a number afterwards had it
 pub come_back_was : (from slot request : ℕ) (operations : List Operation) (number : ℕ) (now : Operation)
-    → numbered (come_back from slot request operations) number ≡ Some now
-    → (was : Operation) × (numbered operations number ≡ Some was) × (with_back from slot request was ≡ now)
+    → element_at (come_back from slot request operations) number ≡ Some now
+    → (was : Operation) × (element_at operations number ≡ Some was) × (with_back from slot request was ≡ now)
 come_back_was from slot request operations number now at =
     numbered_mapped (with_back from slot request) operations number now at

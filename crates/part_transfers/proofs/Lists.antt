@@ -13,7 +13,7 @@ use Rattle.part_transfers.specs.declared.operation.Synced.{Synced}
 use Rattle.part_transfers.specs.declared.operation.Synced.TheVariants as synced
 use Rattle.part_transfers.specs.declared.transfers.Transfers.{Transfers}
 use Rattle.part_transfers.specs.Syncs.{Choice, chosen, is_empty, is_other, members, members_of, fault_of, fault_here, left_by}
-use Rattle.part_transfers.specs.Stands.{kept, Keeps, Stands, Agrees, member_of_any}
+use Rattle.part_transfers.specs.Stands.{record_of, Keeps, Stands, Agrees, member_of_any}
 use Rattle.part_transfers.proofs.Members.{members_agree}
 
 any_next : {X : Type 0} (test : X → Bool) (xs : List X) (index : ℕ) (x : X) → slice_get xs index ≡ Some x
@@ -41,7 +41,7 @@ pub any_agrees : (places : List (Option OperationRecord)) (operations : List Ope
 any_agrees places operations handles K = record { chosen = chosen_so handles; open_only = open_so handles }
   where
     chosen_so : (hs : List Handle) (number : ℕ) (operation : Operation) → operation.synced ≡ false
-        → members_of hs operations number operation ≡ member_of_any places hs (kept number operation)
+        → members_of hs operations number operation ≡ member_of_any places hs (record_of number operation)
     chosen_so [] number operation stands = refl
     chosen_so (handle ∷ hs) number operation stands =
         ap₂ (λ here later. (not (handle.serial == 0) && here) || later)

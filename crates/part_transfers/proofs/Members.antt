@@ -11,11 +11,11 @@ use Rattle.part_transfers.specs.declared.table.Check.{Check}
 use Rattle.part_transfers.specs.declared.table.Check.TheVariants.{Any, Others, Unissued, UnissuedTo, Unfinished, Open}
 use Rattle.part_transfers.specs.declared.operation.ImplicitKinds.{ImplicitKinds}
 use Rattle.part_transfers.specs.declared.operation.Synced.TheVariants.{Ok}
-use Rattle.part_transfers.specs.Operation.{Operation, Sent, returned_of, has_next, is_complete, target}
+use Rattle.part_transfers.specs.Operation.{Operation, SentChunk, returned_of, has_next, is_complete, target}
 use Rattle.part_transfers.specs.Syncs.{Choice, chosen, members, in_region, is_name, is_empty, is_other, implicit_of}
 use Rattle.part_transfers.specs.Syncs.{members_answer}
-use Rattle.part_transfers.specs.Table.{on_place, picked, passes, has_passing}
-use Rattle.part_transfers.specs.Stands.{kept, Keeps, Agrees, member_in}
+use Rattle.part_transfers.specs.Table.{on_place, fits_pick, passes, has_passing}
+use Rattle.part_transfers.specs.Stands.{record_of, Keeps, Agrees, member_in}
 use Rattle.part_transfers.proofs.Tests.{same_test, any_at, any_from}
 use Rattle.part_transfers.proofs.Counts.{number_at}
 
@@ -61,7 +61,7 @@ chosen_from choice test number (first ∷ operations) (suc place) operation at i
 pub any_is : (places : List (Option OperationRecord)) (operations : List Operation) (choice : Choice) (pick : OperationRecord → Bool)
     (test : Operation → Bool) (check : OperationRecord → Bool)
     → Keeps places operations → Agrees choice pick
-    → ((number : ℕ) (operation : Operation) → test operation ≡ check (kept number operation))
+    → ((number : ℕ) (operation : Operation) → test operation ≡ check (record_of number operation))
     → list_any (on_place (λ there. pick there && check there)) places ≡ list_any test (chosen choice 1 operations)
 any_is places operations choice pick test check K A alike = same_test _ _ forth back
   where
@@ -89,12 +89,12 @@ any_is places operations choice pick test check K A alike = same_test _ _ forth 
         let goes : choice (suc o.0) o.1 ≡ true = ap (λ n. choice n o.1) (sym one) ∙ o.3 in
         let open_now = A.open_only (suc o.0) o.1 goes in
         let p = K.all (suc o.0) o.1 o.2 open_now in
-        any_from (on_place (λ r. pick r && check r)) places p.0 (Some (kept (suc o.0) o.1)) p.1
+        any_from (on_place (λ r. pick r && check r)) places p.0 (Some (record_of (suc o.0) o.1)) p.1
         (and_from _ _ (sym (A.chosen (suc o.0) o.1 open_now) ∙ goes) (sym (alike (suc o.0) o.1) ∙ o.4))
 
 -- ---- which records are picked
 
-region_agrees : (handle : ℕ) → Agrees (in_region handle) (picked (pick.Region handle))
+region_agrees : (handle : ℕ) → Agrees (in_region handle) (fits_pick (pick.Region handle))
 region_agrees handle = record {
   chosen = λ number operation stands. rw stands refl;
   open_only = λ number operation is. not-true operation.synced
@@ -131,10 +131,10 @@ any_plain test (Some there ∷ places) =
     ap₂ (λ first later. first || later) (and_true (test there)) (any_plain test places)
 
 region_is : (places : List (Option OperationRecord)) (operations : List Operation) (handle : ℕ) → Keeps places operations
-    → list_any (on_place (picked (pick.Region handle))) places ≡ not (is_empty (chosen (in_region handle) 1 operations))
+    → list_any (on_place (fits_pick (pick.Region handle))) places ≡ not (is_empty (chosen (in_region handle) 1 operations))
 region_is places operations handle K =
-    sym (any_plain (picked (pick.Region handle)) places)
-    ∙ any_there places operations (in_region handle) (picked (pick.Region handle)) K (region_agrees handle)
+    sym (any_plain (fits_pick (pick.Region handle)) places)
+    ∙ any_there places operations (in_region handle) (fits_pick (pick.Region handle)) K (region_agrees handle)
 
 pub members_agree : (places : List (Option OperationRecord)) (operations : List Operation) (handle : ℕ)
     → Keeps places operations → Agrees (members handle operations) (member_in places handle)
@@ -154,7 +154,7 @@ members_agree places operations handle K = elim (cases_Bool (is_empty (chosen (i
 pub agrees_by : (choice : Choice) (test other : OperationRecord → Bool)
     → ((there : OperationRecord) → other there ≡ test there) → Agrees choice test → Agrees choice other
 agrees_by choice test other same A = record {
-  chosen = λ number operation stands. A.chosen number operation stands ∙ sym (same (kept number operation));
+  chosen = λ number operation stands. A.chosen number operation stands ∙ sym (same (record_of number operation));
   open_only = A.open_only;
 }
 
@@ -167,7 +167,7 @@ passing_by test other check (Some there ∷ places) same =
     ap₂ (λ holds later. (holds && passes check there) || later) (same there) (passing_by test other check places same)
 
 pub implicit_agree : (thread : ℕ) (which : ImplicitKinds)
-    → Agrees (implicit_of thread which) (picked (pick.Implicit thread which))
+    → Agrees (implicit_of thread which) (fits_pick (pick.Implicit thread which))
 implicit_agree thread which = record {
   chosen = λ number operation stands. rw stands refl;
   open_only = λ number operation goes. not-true operation.synced (and_parts (not operation.synced) _ goes).0;
@@ -212,7 +212,7 @@ none_unfinished test thread places none = none_weaker test Unfinished (Open thre
 
 -- ---- complete
 
-count_le : (sent : List Sent) → returned_of sent ≤ length sent
+count_le : (sent : List SentChunk) → returned_of sent ≤ length sent
 count_le [] = omega arith
 count_le (one ∷ sent) = let later = count_le sent in
     elim (cases_Bool one.back) [ inl is ↦ rw is (omega (arith, later)) | inr isnt ↦ rw isnt (omega (arith, later)) ]
@@ -223,7 +223,7 @@ shifted one other = elim (cases_lt one other) [
   | inr less ↦ le-ltb one other less ∙ sym (le-ltb (1 + one) (suc other) (omega (arith, less)))
 ]
 
-all_back : (sent : List Sent) → not (list_all (λ (one : Sent). one.back) sent) ≡ nat_lt (returned_of sent) (length sent)
+all_back : (sent : List SentChunk) → not (list_all (λ (one : SentChunk). one.back) sent) ≡ nat_lt (returned_of sent) (length sent)
 all_back [] = refl
 all_back (one ∷ sent) = let later = all_back sent in elim (cases_Bool one.back) [
   | inl is ↦ rw is (later ∙ shifted (returned_of sent) (length sent))
@@ -233,7 +233,7 @@ all_back (one ∷ sent) = let later = all_back sent in elim (cases_Bool one.back
 ]
 
 pub unfinished_is : (number : ℕ) (operation : Operation)
-    → not (is_complete operation) ≡ passes Unfinished (kept number operation)
+    → not (is_complete operation) ≡ passes Unfinished (record_of number operation)
 unfinished_is number operation = elim (cases_Bool (has_next operation)) [
   | inl is ↦ rw is refl
   | inr isnt ↦ rw isnt (all_back operation.sent)

@@ -8,11 +8,11 @@ use Rattle.std.proofs.lemmas.Option.{same_Some}
 use Rattle.part_transfers.specs.declared.operation.Next.{Next}
 use Rattle.part_transfers.specs.declared.transfers.Transfers.{Transfers}
 use Rattle.part_transfers.specs.declared.table.OperationRecord.{OperationRecord}
-use Rattle.base_lists.specs.Numbered.{numbered}
+use Rattle.base_lists.specs.Numbered.{element_at}
 use Rattle.part_transfers.specs.declared.table.Check.TheVariants.{Unissued}
-use Rattle.part_transfers.specs.Operation.{Operation, Sent, target, has_next, has_next_in, has_unissued, next_chunk, chunk_of}
+use Rattle.part_transfers.specs.Operation.{Operation, SentChunk, target, has_next, has_next_in, has_unissued, next_chunk, chunk_of}
 use Rattle.part_transfers.specs.Table.{is_unissued, on_place, IsPlaceOf, is_ready, IsLeast}
-use Rattle.part_transfers.specs.Stands.{kept, Stands, next_of, CanNote}
+use Rattle.part_transfers.specs.Stands.{record_of, Stands, next_of, CanMarkSent}
 use Rattle.part_transfers.proofs.Counts.{number_at}
 use Rattle.part_transfers.proofs.Tests.{same_test, any_at, any_from}
 
@@ -44,12 +44,12 @@ first_is can number (first ∷ operations) (suc place) operation at is none =
 stands_ready : (can : ℕ → Bool) (table : Transfers) (operations : List Operation) (place : ℕ) (operation : Operation)
     → Stands table operations → slice_get operations place ≡ Some operation
     → (has_next operation && can (target operation.transfer)) ≡ true
-    → (at : ℕ) × (slice_get table.table at ≡ Some (Some (kept (suc place) operation)))
+    → (at : ℕ) × (slice_get table.table at ≡ Some (Some (record_of (suc place) operation)))
 stands_ready can table operations place operation S at is = elim (cases_Bool operation.synced) [
   | inl synced ↦
       absurd (true≢false (sym (and_parts (has_next operation) (can (target operation.transfer)) is).0
       ∙ not-true (has_next operation)
-      (and_parts (not (has_next operation)) (list_all (λ (sent : Sent). sent.back) operation.sent)
+      (and_parts (not (has_next operation)) (list_all (λ (sent : SentChunk). sent.back) operation.sent)
       (S.settled (suc place) operation at synced)).0))
   | inr stands ↦ S.keeps.all (suc place) operation at stands
 ]
@@ -65,7 +65,7 @@ oldest_is can table operations None S least =
     (λ place operation at. elim (cases_Bool (has_next operation && can (target operation.transfer))) [
       | inl is ↦ (
           let found = stands_ready can table operations place operation S at is in
-          absurd (true≢false (sym is ∙ least found.0 (kept (suc place) operation) found.1)))
+          absurd (true≢false (sym is ∙ least found.0 (record_of (suc place) operation) found.1)))
       | inr isnt ↦ isnt
     ]))
 oldest_is can table operations (Some best) S least =
@@ -76,7 +76,7 @@ oldest_is can table operations (Some best) S least =
     (λ before earlier less at. elim (cases_Bool (has_next earlier && can (target earlier.transfer))) [
       | inl is ↦ (
           let found = stands_ready can table operations before earlier S at is in
-          let smallest = least.1 found.0 (kept (suc before) earlier) found.1 is in
+          let smallest = least.1 found.0 (record_of (suc before) earlier) found.1 is in
           let number = a.1 in
           absurd (omega (arith, smallest, number, less)))
       | inr isnt ↦ isnt
@@ -88,7 +88,7 @@ pub unissued_of : (can : ℕ → Bool) (places : List (Option OperationRecord)) 
 unissued_of can places best least = (and_parts (is_unissued best) (can (target best.transfer)) least.0.2).0
 
 pub note_of : (can : ℕ → Bool) (table : Transfers) (best : OperationRecord) → IsLeast can table.table (Some best)
-    → CanNote table best.number
+    → CanMarkSent table best.number
 note_of can table best least = (least.0.0, (best, least.0.1, refl, unissued_of can table.table best least))
 
 -- ---- nothing is unissued
@@ -122,7 +122,7 @@ idle_is table operations S = same_test _ _ forth back
     back any =
         let o = any_at has_next operations any in
         let there = stands_ready (λ node. true) table operations o.0 o.1 S o.2 (rw o.3 refl) in
-        any_from (on_place is_unissued) table.table there.0 (Some (kept (suc o.0) o.1)) there.1 o.3
+        any_from (on_place is_unissued) table.table there.0 (Some (record_of (suc o.0) o.1)) there.1 o.3
 
 -- no chunk is next where none is unissued
 pub idle_next : (can : ℕ → Bool) (operations : List Operation) → list_any has_next operations ≡ false
@@ -142,20 +142,20 @@ pub unissued_is : (table : Transfers) (operations : List Operation) (number : �
     → is_some place ≡ has_unissued number operations
 unissued_is table operations number (Some place) S found none =
     let o = S.keeps.each place found.0 found.1 in
-    let here : numbered operations number ≡ Some o.0 = ap (numbered operations) (sym found.2) ∙ o.1 in
+    let here : element_at operations number ≡ Some o.0 = ap (element_at operations) (sym found.2) ∙ o.1 in
     sym (rw here (ap is_unissued (sym o.3) ∙ found.3))
-unissued_is table operations number None S found none = nowhere (numbered operations number) refl
+unissued_is table operations number None S found none = nowhere (element_at operations number) refl
   where
-    is_issued : (operation : Operation) → numbered operations number ≡ Some operation → has_next operation ≡ false
+    is_issued : (operation : Operation) → element_at operations number ≡ Some operation → has_next operation ≡ false
     is_issued operation here = elim (cases_Bool (has_next operation)) [
       | inr isnt ↦ isnt
       | inl is ↦ (
           let at = number_at operations number operation here in
           let there = stands_ready (λ node. true) table operations at.0 operation S at.2 (rw is refl) in
           let number_is = at.1 in
-          absurd (none there.0 (kept (suc at.0) operation, there.1, omega (arith, number_is), is)))
+          absurd (none there.0 (record_of (suc at.0) operation, there.1, omega (arith, number_is), is)))
     ]
 
-    nowhere : (operation : Option Operation) → numbered operations number ≡ operation → false ≡ has_next_in operation
+    nowhere : (operation : Option Operation) → element_at operations number ≡ operation → false ≡ has_next_in operation
     nowhere None at = refl
     nowhere (Some operation) at = sym (is_issued operation at)

@@ -8,7 +8,7 @@ use Rattle.std.proofs.lemmas.List.Folds.{list_any-append}
 use Rattle.std.proofs.lemmas.Option.{same_Some}
 use Rattle.base_lists.specs.Update.{update}
 use Rattle.base_lists.proofs.Update.{update-on}
-use Rattle.part_transfers.specs.Operation.{Operation, Sent, target, has_next, is_complete, returned_of, with_sent, went_as}
+use Rattle.part_transfers.specs.Operation.{Operation, SentChunk, target, has_next, is_complete, returned_of, with_sent, went_as}
 use Rattle.part_transfers.specs.Operation.{as_back, with_back, come_back, is_out, awaits, has_out, IsFreeSlot}
 use Rattle.part_transfers.specs.Outs.{Out, requests_in, requests_of, outs}
 use Rattle.part_transfers.specs.Syncs.{Choice, go}
@@ -26,7 +26,7 @@ some_none x xs same = cc
 -- ---- of one operation
 
 -- a chunk is out as that request, or the reply leaves it as it was
-sent_same : (slot request : ℕ) (sent : Sent) → is_out slot request sent ≡ false → as_back slot request sent ≡ sent
+sent_same : (slot request : ℕ) (sent : SentChunk) → is_out slot request sent ≡ false → as_back slot request sent ≡ sent
 sent_same slot request sent isnt = elim (cases_Bool (went_as slot request sent)) [
   | inr other ↦ rw other refl
   | inl went ↦ elim (cases_Bool sent.back) [
@@ -36,7 +36,7 @@ sent_same slot request sent isnt = elim (cases_Bool (went_as slot request sent))
   ]
 ]
 
-sents_same : (slot request : ℕ) (sents : List Sent) → list_any (is_out slot request) sents ≡ false
+sents_same : (slot request : ℕ) (sents : List SentChunk) → list_any (is_out slot request) sents ≡ false
     → map (as_back slot request) sents ≡ sents
 sents_same slot request [] none = refl
 sents_same slot request (sent ∷ later) none =
@@ -53,7 +53,7 @@ operation_same from slot request operation isnt = elim (cases_Bool (target opera
 ]
 
 -- the requests that are out are those of the chunks that are
-sents_are : (slot request : ℕ) (sents : List Sent)
+sents_are : (slot request : ℕ) (sents : List SentChunk)
     → list_any (is_out slot request) sents ≡ list_any (λ number. number == request) (requests_in slot sents)
 sents_are slot request [] = refl
 sents_are slot request (sent ∷ later) = elim (cases_Bool (sent.slot == slot)) [
@@ -78,7 +78,7 @@ awaits_are to slot request operation = elim (cases_Bool (target operation.transf
 ]
 
 -- the one chunk that is out in the slot comes back
-one_sent : (slot request : ℕ) (sents : List Sent) → requests_in slot sents ≡ request ∷ []
+one_sent : (slot request : ℕ) (sents : List SentChunk) → requests_in slot sents ≡ request ∷ []
     → (requests_in slot (map (as_back slot request) sents) ≡ [])
     × (returned_of (map (as_back slot request) sents) ≡ returned_of sents + 1)
 one_sent slot request [] one = absurd (some_none request [] (sym one))
@@ -119,7 +119,7 @@ one_operation to slot request operation one = elim (cases_Bool (target operation
 ]
 
 -- a reply changes nothing that is out elsewhere
-sents_other : (slot request other : ℕ) (sents : List Sent) → other ≢ slot
+sents_other : (slot request other : ℕ) (sents : List SentChunk) → other ≢ slot
     → requests_in other (map (as_back slot request) sents) ≡ requests_in other sents
 sents_other slot request other [] apart = refl
 sents_other slot request other (sent ∷ later) apart = elim (cases_Bool (went_as slot request sent)) [
@@ -261,7 +261,7 @@ one_out to slot number (first ∷ later) out is =
 
 -- ---- a chunk goes out
 
-sents_push : (slot : ℕ) (sents : List Sent) (new : Sent) → new.back ≡ false
+sents_push : (slot : ℕ) (sents : List SentChunk) (new : SentChunk) → new.back ≡ false
     → requests_in slot (sents ++ new ∷ [])
     ≡ requests_in slot sents ++ (if new.slot == slot then new.number ∷ [] else [])
 sents_push slot [] new waits =
@@ -344,8 +344,8 @@ outs_kept node other number f (first ∷ later) (suc place) operation at same =
       request = r;
     }) (requests_of node other first) ++ more) (outs_kept node other (suc number) f later place operation at same)
 
-sents_free : (slot : ℕ) (sents : List Sent)
-    → ((index : ℕ) (sent : Sent) → slice_get sents index ≡ Some sent → sent.slot ≡ slot → sent.back ≡ true)
+sents_free : (slot : ℕ) (sents : List SentChunk)
+    → ((index : ℕ) (sent : SentChunk) → slice_get sents index ≡ Some sent → sent.slot ≡ slot → sent.back ≡ true)
     → requests_in slot sents ≡ []
 sents_free slot [] free = refl
 sents_free slot (sent ∷ later) free = elim (cases_Bool ((sent.slot == slot) && not sent.back)) [
@@ -405,11 +405,11 @@ outs_gone to slot number choice k (first ∷ later) = elim (cases_Bool (choice k
   }) (requests_of to slot first) ++ more) (outs_gone to slot (suc number) choice (suc k) later))
 ]
 
-sents_back : (slot : ℕ) (sents : List Sent) → list_all (λ (sent : Sent). sent.back) sents ≡ true
+sents_back : (slot : ℕ) (sents : List SentChunk) → list_all (λ (sent : SentChunk). sent.back) sents ≡ true
     → requests_in slot sents ≡ []
 sents_back slot [] all = refl
 sents_back slot (sent ∷ later) all =
-    let both = and_parts sent.back (list_all (λ (one : Sent). one.back) later) all in
+    let both = and_parts sent.back (list_all (λ (one : SentChunk). one.back) later) all in
     rw both.0 (ap (λ out. if out then sent.number ∷ requests_in slot later else requests_in slot later)
     (and_false (sent.slot == slot)) ∙ sents_back slot later both.1)
 
@@ -419,12 +419,12 @@ pub complete_none : (to slot : ℕ) (operation : Operation) → is_complete oper
 complete_none to slot operation complete = elim (cases_Bool (target operation.transfer == to)) [
   | inl here ↦
       rw here (sents_back slot operation.sent
-      (and_parts (not (has_next operation)) (list_all (λ (sent : Sent). sent.back) operation.sent) complete).1)
+      (and_parts (not (has_next operation)) (list_all (λ (sent : SentChunk). sent.back) operation.sent) complete).1)
   | inr other ↦ rw other refl
 ]
 
 -- what is out was issued, and isn't back
-pub out_less : (slot : ℕ) (sents : List Sent) (request : ℕ) → requests_in slot sents ≡ request ∷ []
+pub out_less : (slot : ℕ) (sents : List SentChunk) (request : ℕ) → requests_in slot sents ≡ request ∷ []
     → returned_of sents < length sents
 out_less slot [] request one = absurd (some_none request [] (sym one))
 out_less slot (sent ∷ later) request one = elim (cases_Bool ((sent.slot == slot) && not sent.back)) [
@@ -439,7 +439,7 @@ out_less slot (sent ∷ later) request one = elim (cases_Bool ((sent.slot == slo
       ])
 ]
   where
-    returned_le : (sents : List Sent) → returned_of sents ≤ length sents
+    returned_le : (sents : List SentChunk) → returned_of sents ≤ length sents
     returned_le [] = omega arith
     returned_le (one ∷ more) = let rest = returned_le more in
         elim (cases_Bool one.back) [ inl is ↦ rw is (omega (arith, rest)) | inr isnt ↦ rw isnt (omega (arith, rest)) ]

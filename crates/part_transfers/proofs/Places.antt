@@ -12,7 +12,7 @@ use Rattle.part_transfers.specs.declared.table.OperationRecord.{OperationRecord}
 use Rattle.part_transfers.specs.declared.table.Pick.TheVariants as pick
 use Rattle.part_transfers.specs.declared.queue.Queued.{Queued}
 use Rattle.part_transfers.specs.Queue.{IsQueuedAs, Changes, Queues}
-use Rattle.part_transfers.specs.Table.{flat, taken, on_place, picked, waits_by, waits_at, stands_by, stands_at, regions_of}
+use Rattle.part_transfers.specs.Table.{flat, taken_count, on_place, fits_pick, waits_by, waits_at, stands_by, stands_at, regions_of}
 use Rattle.part_transfers.specs.Places.{record_places, IsIndexed}
 use Rattle.part_transfers.proofs.Began.{taken_all}
 use Rattle.part_transfers.proofs.Queueing.{queued_as, queues_changed}
@@ -93,7 +93,7 @@ module _ {X : Type 0} where
 
   -- each place is taken
   pub places_full : (slab : Slab X) → slab_len slab ≡ slab.capacity → length slab.slots ≤ slab.capacity
-      → taken (record_places slab) ≡ slab.capacity
+      → taken_count (record_places slab) ≡ slab.capacity
   places_full slab full slots =
       taken_all (record_places slab) (λ place less none. each_has slab.slots place (omega (arith, full, slots))
       (omega (arith, less, places_length slab, full, slots, count_by-le-length is_some slab.slots))
@@ -171,7 +171,7 @@ few slab queue standing many I =
 
 -- where none is counted there is no region
 pub no_region : (places : List (Option OperationRecord)) (name : ℕ) → sum_by regions_of places ≡ 0
-    → list_any (on_place (picked (pick.Region name))) places ≡ false
+    → list_any (on_place (fits_pick (pick.Region name))) places ≡ false
 no_region [] name none = refl
 no_region (None ∷ places) name none =
     let sums = sum_by-cons regions_of None places in no_region places name (omega (arith, sums, none))
@@ -180,8 +180,8 @@ no_region (Some there ∷ places) name none =
     by there.region refl (no_region places name (omega (arith, sums, none)))
   where
     by : (region : Option ℕ) → there.region ≡ region
-        → list_any (on_place (picked (pick.Region name))) places ≡ false
-        → list_any (on_place (picked (pick.Region name))) (Some there ∷ places) ≡ false
+        → list_any (on_place (fits_pick (pick.Region name))) places ≡ false
+        → list_any (on_place (fits_pick (pick.Region name))) (Some there ∷ places) ≡ false
     by None is later = rw is later
     by (Some other) is later =
         let one : regions_of (Some there) ≡ 1 = rw is refl in

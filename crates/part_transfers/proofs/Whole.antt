@@ -7,7 +7,7 @@ use Rattle.part_transfers.specs.declared.table.OperationRecord.{OperationRecord}
 use Rattle.part_transfers.specs.declared.operation.Handle.{Handle}
 use Rattle.part_transfers.specs.Operation.{Operation, is_complete}
 use Rattle.part_transfers.specs.Syncs.{chosen, members, is_whole, whole_of}
-use Rattle.part_transfers.specs.Stands.{kept, Keeps, Agrees, member_in, is_whole_in, whole_in}
+use Rattle.part_transfers.specs.Stands.{record_of, Keeps, Agrees, member_in, is_whole_in, whole_in}
 use Rattle.part_transfers.proofs.Members.{members_agree, complete_is, all_not_any, chosen_at}
 use Rattle.part_transfers.proofs.Gone.{chosen_complete}
 
@@ -29,7 +29,7 @@ pub whole_agrees : (places : List (Option OperationRecord)) (operations : List O
 whole_agrees places operations handles K = record { chosen = chosen_so handles; open_only = open_so handles }
   where
     chosen_so : (hs : List Handle) (number : ℕ) (operation : Operation) → operation.synced ≡ false
-        → whole_of hs operations number operation ≡ whole_in places hs (kept number operation)
+        → whole_of hs operations number operation ≡ whole_in places hs (record_of number operation)
     chosen_so [] number operation stands = refl
     chosen_so (handle ∷ hs) number operation stands =
         ap₂ (λ here later. here || later)

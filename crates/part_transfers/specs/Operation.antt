@@ -4,7 +4,7 @@ use Rattle.std.specs.Prelude.{ℕ, suc, ◌+◌, ◌-◌, ◌*◌, ◌/◌, ◌=
 use Rattle.std.specs.Prelude.{if◌then◌else◌, min}
 use Rattle.std.specs.Prelude.{List, [], ◌∷◌, ◌++◌, Option, None, Some, Result, Ok, Err, length, map, slice_get, ◌≡◌}
 use Rattle.std.specs.List.{list_all, list_any}
-use Rattle.base_lists.specs.Numbered.{numbered, change}
+use Rattle.base_lists.specs.Numbered.{element_at, change}
 use Rattle.part_transfers.specs.declared.operation.Transfer.{Transfer}
 use Rattle.part_transfers.specs.declared.operation.Transfer.TheVariants as transfers
 use Rattle.part_transfers.specs.declared.operation.Mode.{Mode}
@@ -44,14 +44,14 @@ chunk_size size index = min MAX_CHUNK (size - chunk_start index)
 -- ---- an operation
 
 -- a chunk that was accepted as a request to the operation's target
-pub record Sent : Type 0 where
+pub record SentChunk : Type 0 where
   pub slot : ℕ
   pub number : ℕ
   pub bytes : List ℕ  -- of a put, what the source held when the chunk was issued
   pub back : Bool
 
 -- how many of them are back
-abbrev pub returned_of : List Sent → ℕ
+abbrev pub returned_of : List SentChunk → ℕ
 returned_of [] = 0
 returned_of (sent ∷ later) = (if sent.back then 1 else 0) + returned_of later
 
@@ -61,7 +61,7 @@ pub record Operation : Type 0 where
   pub transfer : Transfer
   pub mode : Mode
   pub region : Option ℕ
-  pub sent : List Sent
+  pub sent : List SentChunk
   pub synced : Bool
 
 -- some chunk is unissued
@@ -75,10 +75,10 @@ has_next_in (Some operation) = has_next operation
 
 -- some chunk of the operation of that number is unissued
 abbrev pub has_unissued : (number : ℕ) → List Operation → Bool
-has_unissued number operations = has_next_in (numbered operations number)
+has_unissued number operations = has_next_in (element_at operations number)
 
 abbrev pub is_complete : Operation → Bool
-is_complete operation = not (has_next operation) && list_all (λ (sent : Sent). sent.back) operation.sent
+is_complete operation = not (has_next operation) && list_all (λ (sent : SentChunk). sent.back) operation.sent
 
 -- ---- the beginning
 
@@ -90,13 +90,13 @@ region_of number (InRegion None) = Some number
 region_of number (InRegion (Some name)) = Some name
 
 -- how many aren't yet synchronised
-abbrev pub unsynced : List Operation → ℕ
-unsynced [] = 0
-unsynced (operation ∷ later) = if operation.synced then unsynced later else suc (unsynced later)
+abbrev pub unsynced_count : List Operation → ℕ
+unsynced_count [] = 0
+unsynced_count (operation ∷ later) = if operation.synced then unsynced_count later else suc (unsynced_count later)
 
 -- 256 records stand, or number 2^64 - 1 was given
 abbrev pub is_full : List Operation → Bool
-is_full operations = nat_le 256 (unsynced operations) || nat_le 18446744073709551615 (length operations)
+is_full operations = nat_le 256 (unsynced_count operations) || nat_le 18446744073709551615 (length operations)
 
 abbrev pub begin_answer : List Operation → Result Handle TooMany
 begin_answer operations =
@@ -155,10 +155,10 @@ issue to slot request bytes (operation ∷ later) =
 -- ---- replies
 
 -- the chunk went as that request, in that slot
-abbrev pub went_as : (slot request : ℕ) → Sent → Bool
+abbrev pub went_as : (slot request : ℕ) → SentChunk → Bool
 went_as slot request sent = (sent.slot == slot) && (sent.number == request)
 
-abbrev pub as_back : (slot request : ℕ) → Sent → Sent
+abbrev pub as_back : (slot request : ℕ) → SentChunk → SentChunk
 as_back slot request sent = if went_as slot request sent then record sent { back = true } else sent
 
 abbrev pub with_back : (from slot request : ℕ) → Operation → Operation
@@ -171,7 +171,7 @@ abbrev pub come_back : (from slot request : ℕ) → List Operation → List Ope
 come_back from slot request operations = map (with_back from slot request) operations
 
 -- the chunk went as that request, and isn't back
-abbrev pub is_out : (slot request : ℕ) → Sent → Bool
+abbrev pub is_out : (slot request : ℕ) → SentChunk → Bool
 is_out slot request sent = went_as slot request sent && not sent.back
 
 abbrev pub awaits : (from slot request : ℕ) → Operation → Bool
@@ -185,7 +185,7 @@ has_out from slot request operations = list_any (awaits from slot request) opera
 -- each chunk that went to the node in that slot is back
 abbrev pub IsFreeSlot : (operations : List Operation) → (to slot : ℕ) → Type 0
 IsFreeSlot operations to slot =
-    (place index : ℕ) (operation : Operation) (sent : Sent) → slice_get operations place ≡ Some operation
+    (place index : ℕ) (operation : Operation) (sent : SentChunk) → slice_get operations place ≡ Some operation
     → target operation.transfer ≡ to
     → slice_get operation.sent index ≡ Some sent → sent.slot ≡ slot → sent.back ≡ true
 
@@ -194,7 +194,7 @@ IsFreeSlot operations to slot =
 -- the next chunk is of the operation of that number: the first that has one to its node
 pub record IsFirst (can : ℕ → Bool) (operations : List Operation) (next : Next) : Type 0 where
   pub operation : Operation
-  pub here : numbered operations next.number ≡ Some operation
+  pub here : element_at operations next.number ≡ Some operation
   pub chunk : next ≡ chunk_of next.number operation
   pub has : has_next operation ≡ true
   pub open_to : can (target next.transfer) ≡ true

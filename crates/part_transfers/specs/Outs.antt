@@ -1,6 +1,6 @@
 -- The chunks that are open: issued, and not back.
 use Rattle.std.specs.Prelude.{ℕ, suc, ◌==◌, not, ◌&&◌, if◌then◌else◌, List, [], ◌∷◌, ◌++◌, map}
-use Rattle.part_transfers.specs.Operation.{Operation, Sent, target}
+use Rattle.part_transfers.specs.Operation.{Operation, SentChunk, target}
 
 -- a chunk that is out: the number of its operation, and of its request
 pub record Out : Type 0 where
@@ -8,7 +8,7 @@ pub record Out : Type 0 where
   pub request : ℕ
 
 -- the requests of those that went in that slot
-abbrev pub requests_in : (slot : ℕ) → List Sent → List ℕ
+abbrev pub requests_in : (slot : ℕ) → List SentChunk → List ℕ
 requests_in slot [] = []
 requests_in slot (sent ∷ later) =
     if (sent.slot == slot) && not sent.back then sent.number ∷ requests_in slot later else requests_in slot later

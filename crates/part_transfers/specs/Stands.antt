@@ -2,7 +2,7 @@
 use Rattle.std.specs.Prelude.{ℕ, ◌≡◌, ◌<◌, Bool, true, false, not, ◌&&◌, if◌then◌else◌, ◌==◌}
 use Rattle.std.specs.Prelude.{List, [], ◌∷◌, Option, None, Some, length, slice_get}
 use Rattle.std.specs.List.{list_any}
-use Rattle.base_lists.specs.Numbered.{numbered}
+use Rattle.base_lists.specs.Numbered.{element_at}
 use Rattle.part_transfers.specs.declared.operation.Next.{Next}
 use Rattle.part_transfers.specs.declared.operation.Handle.{Handle}
 use Rattle.part_transfers.specs.declared.table.OperationRecord.{OperationRecord}
@@ -11,15 +11,15 @@ use Rattle.part_transfers.specs.declared.table.Pick.TheVariants as pick
 use Rattle.part_transfers.specs.declared.table.Check.TheVariants.{Unissued, UnissuedTo, Unfinished}
 use Rattle.part_transfers.specs.declared.transfers.Transfers.{Transfers}
 use Rattle.part_transfers.specs.Operation.{Operation, returned_of, size, chunk_start, chunk_size, is_complete}
-use Rattle.part_transfers.specs.Operation.{unsynced}
+use Rattle.part_transfers.specs.Operation.{unsynced_count}
 use Rattle.part_transfers.specs.SlotsState.{entry_at}
 use Rattle.part_transfers.specs.Outs.{Out, outs}
-use Rattle.part_transfers.specs.Table.{taken, on_place, picked, has_passing, IsPlaceOf}
+use Rattle.part_transfers.specs.Table.{taken_count, on_place, fits_pick, has_passing, IsPlaceOf}
 use Rattle.part_transfers.specs.Syncs.{Choice, is_name, is_implicit}
 
 -- what is kept of the operation of that number
-abbrev pub kept : (number : ℕ) → Operation → OperationRecord
-kept number operation = record {
+abbrev pub record_of : (number : ℕ) → Operation → OperationRecord
+record_of number operation = record {
   number = number;
   thread = operation.thread;
   transfer = operation.transfer;
@@ -33,15 +33,15 @@ kept number operation = record {
 pub record Keeps (places : List (Option OperationRecord)) (operations : List Operation) : Type 0 where
   pub many : length places ≡ 256
   pub each : (place : ℕ) (record_there : OperationRecord) → slice_get places place ≡ Some (Some record_there)
-      → (operation : Operation) × (numbered operations record_there.number ≡ Some operation)
-      × (operation.synced ≡ false) × (record_there ≡ kept record_there.number operation)
-  pub all : (number : ℕ) (operation : Operation) → numbered operations number ≡ Some operation
+      → (operation : Operation) × (element_at operations record_there.number ≡ Some operation)
+      × (operation.synced ≡ false) × (record_there ≡ record_of record_there.number operation)
+  pub all : (number : ℕ) (operation : Operation) → element_at operations number ≡ Some operation
       → operation.synced ≡ false
-      → (place : ℕ) × (slice_get places place ≡ Some (Some (kept number operation)))
+      → (place : ℕ) × (slice_get places place ≡ Some (Some (record_of number operation)))
   pub once : (place other : ℕ) (first second : OperationRecord) → slice_get places place ≡ Some (Some first)
       → slice_get places other ≡ Some (Some second)
       → first.number ≡ second.number → place ≡ other
-  pub count : taken places ≡ unsynced operations
+  pub count : taken_count places ≡ unsynced_count operations
 
 -- an entry of the table by node and slot says which chunks are out there: none, or one of the operation whose record is
 -- in that place
@@ -58,7 +58,7 @@ pub record Stands (table : Transfers) (operations : List Operation) : Type 0 whe
   -- the entry of each slot of each node says what is out there
   pub says : (to slot : ℕ) → Says table.table (entry_at table.slots to slot) (outs to slot 1 operations)
   -- an operation that was synchronised is complete
-  pub settled : (number : ℕ) (operation : Operation) → numbered operations number ≡ Some operation
+  pub settled : (number : ℕ) (operation : Operation) → element_at operations number ≡ Some operation
       → operation.synced ≡ true → is_complete operation ≡ true
 
 -- the table is that of some operations
@@ -82,7 +82,7 @@ room_of table = record { nodes = table.slots.nodes; credits = table.slots.credit
 -- the record is a member of the handle: of the region of that name, or else the one with that number
 abbrev pub member_in : (places : List (Option OperationRecord)) → (handle : ℕ) → OperationRecord → Bool
 member_in places handle there =
-    if list_any (on_place (picked (pick.Region handle))) places then is_name handle there.region
+    if list_any (on_place (fits_pick (pick.Region handle))) places then is_name handle there.region
     else (there.number == handle)
 
 -- the same; the invalid handle has no member
@@ -109,7 +109,7 @@ whole_in places handles there = list_any (λ (handle : Handle). whole_here place
 -- the picked records are those of the operations chosen
 pub record Agrees (choice : Choice) (test : OperationRecord → Bool) : Type 0 where
   pub chosen : (number : ℕ) (operation : Operation) → operation.synced ≡ false
-      → choice number operation ≡ test (kept number operation)
+      → choice number operation ≡ test (record_of number operation)
   pub open_only : (number : ℕ) (operation : Operation) → choice number operation ≡ true → operation.synced ≡ false
 
 -- the first node that is exhausted and to which a record has an unissued chunk
@@ -134,5 +134,5 @@ next_of there = record {
 -- ---- one record
 
 -- the operation of that number stands, and has an unissued chunk
-abbrev pub CanNote : Transfers → (number : ℕ) → Type 0
-CanNote table number = (place : ℕ) × IsPlaceOf table.table number Unissued place
+abbrev pub CanMarkSent : Transfers → (number : ℕ) → Type 0
+CanMarkSent table number = (place : ℕ) × IsPlaceOf table.table number Unissued place

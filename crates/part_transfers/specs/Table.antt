@@ -16,10 +16,10 @@ flat None = None
 flat (Some there) = there
 
 -- how many places are taken
-abbrev pub taken : {Item : Type 0} → List (Option Item) → ℕ
-taken [] = 0
-taken (None ∷ later) = taken later
-taken (Some item ∷ later) = suc (taken later)
+abbrev pub taken_count : {Item : Type 0} → List (Option Item) → ℕ
+taken_count [] = 0
+taken_count (None ∷ later) = taken_count later
+taken_count (Some item ∷ later) = suc (taken_count later)
 
 -- the record of an operation of that number, in that region if it is in one, stands in the place
 abbrev pub IsRecordOf : List (Option OperationRecord) → (place number : ℕ) → (region : Option ℕ) → Type 0
@@ -32,10 +32,11 @@ abbrev pub on_place : (OperationRecord → Bool) → Option OperationRecord → 
 on_place test None = false
 on_place test (Some there) = test there
 
-abbrev pub picked : Pick → OperationRecord → Bool
-picked (pick.Region name) there = is_name name there.region
-picked (pick.Number number) there = there.number == number
-picked (pick.Implicit thread which) there = there.implicit && ((there.thread == thread) && is_kind which there.transfer)
+abbrev pub fits_pick : Pick → OperationRecord → Bool
+fits_pick (pick.Region name) there = is_name name there.region
+fits_pick (pick.Number number) there = there.number == number
+fits_pick (pick.Implicit thread which) there =
+    there.implicit && ((there.thread == thread) && is_kind which there.transfer)
 
 abbrev pub is_unissued : OperationRecord → Bool
 is_unissued there = nat_lt there.issued (chunks (size there.transfer))
@@ -112,12 +113,12 @@ IsLeast can places (Some best) =
     → is_ready can there ≡ true → best.number ≤ there.number)
 
 -- the place without a record that is picked
-abbrev pub dropped : (OperationRecord → Bool) → Option OperationRecord → Option OperationRecord
-dropped test None = None
-dropped test (Some there) = if test there then None else Some there
+abbrev pub unless_picked : (OperationRecord → Bool) → Option OperationRecord → Option OperationRecord
+unless_picked test None = None
+unless_picked test (Some there) = if test there then None else Some there
 
 -- each record that is picked goes
 pub record AreDropped (test : OperationRecord → Bool) (old new : List (Option OperationRecord)) : Type 0 where
   pub many : length new ≡ length old
   pub each : (place : ℕ) (there : Option OperationRecord) → slice_get old place ≡ Some there
-      → slice_get new place ≡ Some (dropped test there)
+      → slice_get new place ≡ Some (unless_picked test there)

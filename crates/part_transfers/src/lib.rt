@@ -4,7 +4,7 @@
 //! `Transfers` keeps a record of each operation from its beginning until its synchronisation, at most 256 of them, in a
 //! slab. It tells which chunk is to be issued next, is told as which request a chunk went and that the reply to a
 //! request came, and answers the syncs. The operations with an unissued chunk stand in a queue, in the order in which
-//! they began: the next chunk is found from its front, and no other operation is looked at for it. A reply's operation
+//! they began: the next chunk is found from its prefix, and no other operation is looked at for it. A reply's operation
 //! is found by its node, slot and number without a search, and a handle's by bisection in a list of all that stand:
 //! where none is in a region, a sync by a handle looks at its operation alone. What it knows is said by `Stands`: a
 //! table stands for the list of all operations that ever began. Each call says, for every list for which the table

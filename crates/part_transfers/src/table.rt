@@ -6,7 +6,8 @@ ghost use Rattle.part_transfers.specs.declared.queue.Queued.{Queued};
 ghost use Rattle.part_transfers.specs.declared.table.Pick.TheVariants as pick;
 ghost use Rattle.part_transfers.specs.declared.table.Check.TheVariants.{Any, Open};
 ghost use Rattle.part_transfers.specs.Syncs.{is_kind, flag_at};
-ghost use Rattle.part_transfers.specs.Table.{taken, is_unissued, waits_by, passes, picked, on_place, picks, ready, IsLeast};
+ghost use Rattle.part_transfers.specs.Table.{taken_count, is_unissued, waits_by, passes, fits_pick, on_place, picks};
+ghost use Rattle.part_transfers.specs.Table.{ready, IsLeast};
 ghost use Rattle.part_transfers.specs.Table.{also, has_passing, AreMarks, IsPlaceOf, AreDropped, IsRecordOf};
 ghost use Rattle.part_transfers.specs.Table.{regions_of};
 ghost use Rattle.part_transfers.specs.Places.{record_places, IsIndexed};
@@ -89,7 +90,7 @@ impl OperationRecord {
 
     /// Whether it is meant.
     pub fn is_picked(&self, pick: Pick) -> bool
-        ensures { result ≡ picked pick self.now }
+        ensures { result ≡ fits_pick pick self.now }
     {
         match pick {
             Pick::Region(name) => self.region == Some(name),
@@ -103,7 +104,7 @@ impl OperationRecord {
 
 /// Whether a record that is meant stands there.
 fn is_picked(place: Option<OperationRecord>, pick: Pick) -> bool
-    ensures { result ≡ on_place (picked pick) place }
+    ensures { result ≡ on_place (fits_pick pick) place }
 {
     match place {
         Some(operation) => operation.is_picked(pick),
@@ -183,7 +184,7 @@ fn ready(place: Option<OperationRecord>, can: &[bool]) -> Option<OperationRecord
 
 /// Whether a record stands there that is meant, and passes.
 fn is_match(place: Option<OperationRecord>, pick: Pick, check: Check) -> bool
-    ensures { result ≡ on_place (λ there. picked pick there && passes check there) place }
+    ensures { result ≡ on_place (λ there. fits_pick pick there && passes check there) place }
 {
     match place {
         Some(operation) => operation.is_picked(pick) && operation.passes(check),
@@ -196,7 +197,7 @@ fn run(standing: &Queue, pick: Pick) -> (usize, usize)
     ensures within { result.1 ≤ length standing.now }
     ensures all { (index : ℕ) (entry : Queued) (there : OperationRecord)
         → slice_get standing.now index ≡ Some entry → there.number ≡ entry.number
-        → picked pick there ≡ true → (result.0 ≤ index) × (index < result.1) }
+        → fits_pick pick there ≡ true → (result.0 ≤ index) × (index < result.1) }
 {
     match pick {
         Pick::Number(number) => standing.run_of(number),
@@ -281,7 +282,7 @@ impl Table {
         ensures blank { IfSome result (λ place. slice_get self.old place ≡ Some None) }
         ensures put { IfSome result (λ place.
             self.new ≡ slice_set self.old place (Some operation)) }
-        ensures full { IfNone result ((taken self.old ≡ 256) × (self.new ≡ self.old)) }
+        ensures full { IfNone result ((taken_count self.old ≡ 256) × (self.new ≡ self.old)) }
         ensures many { length self.old ≡ 256 }
     {
         if self.records.len() == self.records.capacity() {
@@ -313,8 +314,8 @@ impl Table {
     }
 
     /// The oldest record of which a chunk may be issued; `can` has a flag for each node. It looks only at the records
-    /// with an unissued chunk, from the oldest one on, and at none behind the one that it finds; at none at all where no
-    /// flag is set.
+    /// with an unissued chunk, from the oldest one on, and at none behind the one that it finds; at none at all where
+    /// no flag is set.
     pub fn oldest(&self, can: &[bool]) -> Option<OperationRecord>
         ensures { IsLeast (flag_at can.now) self.now result }
     {
@@ -332,7 +333,7 @@ impl Table {
 
     /// Whether a region of that name stands. It looks at no record where none is in a region.
     pub fn has_region(&self, name: u64) -> bool
-        ensures { result ≡ list_any (on_place (picked (pick.Region name))) self.now }
+        ensures { result ≡ list_any (on_place (fits_pick (pick.Region name))) self.now }
     {
         if self.in_regions == 0 {
             return false;
@@ -343,7 +344,7 @@ impl Table {
     /// Whether some record that is meant passes. It looks at none behind the first one that does, and of a record that
     /// is meant by its number at that one alone.
     pub fn any_passes(&self, pick: Pick, check: Check) -> bool
-        ensures { result ≡ has_passing (picked pick) check self.now }
+        ensures { result ≡ has_passing (fits_pick pick) check self.now }
     {
         let (from, end) = run(&self.standing, pick);
         for index in from..end {
@@ -355,11 +356,11 @@ impl Table {
         false
     }
 
-    /// Whether some record is meant, and all that are meant are the thread's own and complete. It goes through them once,
-    /// up to the first one that isn't.
+    /// Whether some record is meant, and all that are meant are the thread's own and complete. It goes through them
+    /// once, up to the first one that isn't.
     pub fn is_settled(&self, pick: Pick, thread: u16) -> bool
-        ensures { result ≡ has_passing (picked pick) Any self.now
-            && not (has_passing (picked pick) (Open thread) self.now) }
+        ensures { result ≡ has_passing (fits_pick pick) Any self.now
+            && not (has_passing (fits_pick pick) (Open thread) self.now) }
     {
         let (from, end) = run(&self.standing, pick);
         let mut any = false;
@@ -376,7 +377,7 @@ impl Table {
     /// Marks the places of the records that are meant.
     pub fn mark(&self, pick: Pick, marks: &mut [bool; 256])
         ensures { (test : OperationRecord → Bool) → AreMarks test self.now marks.old
-            → AreMarks (also test (picked pick)) self.now marks.new }
+            → AreMarks (also test (fits_pick pick)) self.now marks.new }
     {
         let (from, end) = run(&self.standing, pick);
         for index in from..end {
@@ -411,7 +412,7 @@ impl Table {
 
     /// The records that are meant go.
     pub fn drop_picked(&mut self, pick: Pick)
-        ensures { AreDropped (picked pick) self.old self.new }
+        ensures { AreDropped (fits_pick pick) self.old self.new }
     {
         let (from, end) = run(&self.standing, pick);
         for index in (from..end).rev() {

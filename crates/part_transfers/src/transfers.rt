@@ -11,10 +11,11 @@ ghost use Rattle.part_transfers.specs.Operation.{has_unissued, next_chunk, issue
 ghost use Rattle.part_transfers.specs.Syncs.{Choice, is_implicit, chosen, flag_at, members, sync_answer, handle_answer};
 ghost use Rattle.part_transfers.specs.Syncs.{after_handle, implicit_of, implicit_answer, left_by, issued_answer, fault_here};
 ghost use Rattle.part_transfers.specs.Syncs.{fault_of, members_of, all_answer, whole_of, some_here, some_answer, is_whole};
-ghost use Rattle.part_transfers.specs.Table.{AreMarks, also, is_unissued, picked};
+ghost use Rattle.part_transfers.specs.Table.{AreMarks, also, is_unissued, fits_pick};
 ghost use Rattle.part_transfers.specs.Stands.{HasOperations, ForItsOperations, room_of, Stands, Agrees, member_in};
 ghost use Rattle.part_transfers.specs.Stands.{member_of, member_of_any};
-ghost use Rattle.part_transfers.specs.Stands.{is_whole_in, whole_here, whole_in, IsFirstExhausted, CanNote, next_of};
+ghost use Rattle.part_transfers.specs.Stands.{is_whole_in, whole_here, whole_in, IsFirstExhausted, CanMarkSent};
+ghost use Rattle.part_transfers.specs.Stands.{next_of};
 ghost use Rattle.part_transfers.specs.declared.operation.TheConstants.{MAX_NODES};
 
 use crate::operation::{Handle, ImplicitKinds, MAX_CHUNK, Mode, Next, Synced, TooMany, Transfer};
@@ -116,7 +117,7 @@ impl Transfers {
     pub fn next(&self, can: &[bool]) -> Option<Next>
         ensures next { ForItsOperations self.now (λ operations.
             result ≡ next_chunk (flag_at can.now) 1 operations) }
-        ensures can_note { IfSome result (λ next. CanNote self.now next.number) }
+        ensures can_mark_sent { IfSome result (λ next. CanMarkSent self.now next.number) }
     {
         match self.table.oldest(can) {
             Some(operation) => Some(next_of(operation)),
@@ -136,8 +137,8 @@ impl Transfers {
 
     /// The next chunk, as `next` gave it, was accepted as this request to its target, in this slot, in which no other
     /// chunk is out.
-    pub fn note(&mut self, next: &Next, slot: u16, request: u64)
-        requires stands { CanNote self.old next.now.number }
+    pub fn mark_sent(&mut self, next: &Next, slot: u16, request: u64)
+        requires stands { CanMarkSent self.old next.now.number }
         requires to_in { target next.now.transfer < (room_of self.old).nodes }
         requires slot_in { slot < (room_of self.old).credits }
         ensures stands { (can : ℕ → Bool) (bytes : List ℕ)
@@ -188,7 +189,7 @@ impl Transfers {
     /// The members of a handle other than the invalid one.
     fn members(&self, handle: u64) -> Pick
         ensures { (there : OperationRecord)
-            → picked result there ≡ member_in self.now.table handle there }
+            → fits_pick result there ≡ member_in self.now.table handle there }
     {
         if self.table.has_region(handle) {
             Pick::Region(handle)
@@ -272,7 +273,7 @@ impl Transfers {
     /// The smallest node that is exhausted and has an unissued chunk of what is meant.
     fn first_exhausted_of(&self, exhausted: &[bool], pick: Pick) -> Option<u16>
         requires { length exhausted.now ≤ MAX_NODES }
-        ensures { IsFirstExhausted (flag_at exhausted.now) (picked pick) self.now.table result }
+        ensures { IsFirstExhausted (flag_at exhausted.now) (fits_pick pick) self.now.table result }
     {
         for node in 0..exhausted.len() {
             if flag_at(exhausted, node)
@@ -288,10 +289,10 @@ impl Transfers {
     fn sync_picked(&mut self, exhausted: &[bool], pick: Pick) -> Synced
         requires { length exhausted.now ≤ MAX_NODES }
         ensures answer { ForItsOperations self.old (λ operations. (choice : Choice)
-            → Agrees choice (picked pick)
+            → Agrees choice (fits_pick pick)
             → result ≡ sync_answer (flag_at exhausted.now) (chosen choice 1 operations)) }
         ensures stands { ForItsOperations self.old (λ operations. (choice : Choice)
-            → Agrees choice (picked pick)
+            → Agrees choice (fits_pick pick)
             → Stands self.new (left_by result choice operations)) }
         ensures room { room_of self.new ≡ room_of self.old }
     {
@@ -309,7 +310,7 @@ impl Transfers {
     /// another thread's has.
     fn fault(&self, thread: u16, pick: Pick) -> Option<Synced>
         ensures { ForItsOperations self.now (λ operations. (choice : Choice)
-            → Agrees choice (picked pick)
+            → Agrees choice (fits_pick pick)
             → result ≡ fault_here thread (chosen choice 1 operations)) }
     {
         if !self.table.any_passes(pick, Check::Any) {
@@ -322,10 +323,10 @@ impl Transfers {
     }
 
     /// A sync of a handle that doesn't wait; `exhausted` has a flag for each node whose numbers are exhausted. The
-    /// first of these that applies: `Ok` for the invalid handle; `BadHandle` where no operation and no region that stands has
-    /// the number; `NotYours` where it belongs to another thread; `Ok` where the operation is complete, or all those of
-    /// the region are, and their records go; `Exhausted` with the smallest exhausted node to which a chunk is unissued;
-    /// else `NotReady`. (GASNet 1.8.1 extended API, gasnet_try_syncnb.)
+    /// first of these that applies: `Ok` for the invalid handle; `BadHandle` where no operation and no region that
+    /// stands has the number; `NotYours` where it belongs to another thread; `Ok` where the operation is complete, or
+    /// all those of the region are, and their records go; `Exhausted` with the smallest exhausted node to which a chunk
+    /// is unissued; else `NotReady`. (GASNet 1.8.1 extended API, gasnet_try_syncnb.)
     pub fn try_sync(&mut self, exhausted: &[bool], thread: u16, handle: Handle) -> Synced
         requires { length exhausted.now ≤ MAX_NODES }
         ensures answer { ForItsOperations self.old (λ operations.

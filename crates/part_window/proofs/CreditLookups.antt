@@ -5,7 +5,7 @@ use Rattle.std.specs.Prelude.{slice_get, option_and_then}
 use Rattle.std.specs.Option.{option_map}
 use Rattle.base_lists.proofs.Update.{slice_get-update, slice_get-update_other}
 use Rattle.part_window.specs.SlotsState.{PeerState, SlotState, SlotsState, slot_at, with_slot_changed, with_slot_in}
-use Rattle.part_window.specs.SlotsState.{with_given, with_given_in, with_slot, with_request, Claim, Sealed}
+use Rattle.part_window.specs.SlotsState.{with_given, with_given_in, with_slot, with_request, Claim, Committed}
 
 -- the changed slot
 pub slot_at-changed : (t : SlotsState) (to k : ℕ) (change : SlotState → SlotState)
@@ -98,22 +98,22 @@ slot_at-given_cases t to k number s node i = elim (eqb_tells node to) [
 -- the slot of a request, where there was such a slot
 pub slot_at-request : (t : SlotsState) (to : ℕ) (claim : Claim) (message : List ℕ) (s : SlotState)
     → slot_at t to claim.slot ≡ Some s
-    → slot_at (with_request t to claim message) to claim.slot ≡ Some (Sealed claim.number claim.time message)
+    → slot_at (with_request t to claim message) to claim.slot ≡ Some (Committed claim.number claim.time message)
 slot_at-request t to claim message s at =
-    slot_at-given t to claim.slot claim.number (Sealed claim.number claim.time message)
-    ∙ ap (option_map (λ (old : SlotState). Sealed claim.number claim.time message)) at
+    slot_at-given t to claim.slot claim.number (Committed claim.number claim.time message)
+    ∙ ap (option_map (λ (old : SlotState). Committed claim.number claim.time message)) at
 
 -- another slot than that of a request
 pub slot_at-request_slot : (t : SlotsState) (to : ℕ) (claim : Claim) (message : List ℕ) (i : ℕ) → i ≢ claim.slot
     → slot_at (with_request t to claim message) to i ≡ slot_at t to i
 slot_at-request_slot t to claim message i other =
-    slot_at-given_slot t to claim.slot claim.number (Sealed claim.number claim.time message) i other
+    slot_at-given_slot t to claim.slot claim.number (Committed claim.number claim.time message) i other
 
 -- a slot of another node than that of a request
 pub slot_at-request_node : (t : SlotsState) (to : ℕ) (claim : Claim) (message : List ℕ) (node i : ℕ) → node ≢ to
     → slot_at (with_request t to claim message) node i ≡ slot_at t node i
 slot_at-request_node t to claim message node i other =
-    slot_at-given_node t to claim.slot claim.number (Sealed claim.number claim.time message) node i other
+    slot_at-given_node t to claim.slot claim.number (Committed claim.number claim.time message) node i other
 
 -- the slot that got a state, where there was such a slot
 pub slot_at-slot : (t : SlotsState) (to k : ℕ) (new s : SlotState) → slot_at t to k ≡ Some s

@@ -12,9 +12,9 @@ use Rattle.base_lists.specs.Cut.{cut, count_at, total_of}
 use Rattle.base_lists.proofs.Update.{length-update, slice_get-update, slice_get-update_other, update-on}
 use Rattle.base_lists.proofs.Cut.{get-part, get-cut, length-cut, length-part, count-inside, cut-update, sum-cut}
 use Rattle.part_window.specs.TableState.{TableState, slot_in, slots_of, place_of, with_change, opened_time}
-use Rattle.part_window.specs.SlotsState.{SlotState, Vacant, Opened, Sealed, is_vacant, is_taken, PeerState, SlotsState}
+use Rattle.part_window.specs.SlotsState.{SlotState, Vacant, Opened, Committed, is_vacant, is_taken, PeerState, SlotsState}
 use Rattle.part_window.specs.SlotsState.{slot_at, slot_count, vacant_count, held_count, is_exhausted}
-use Rattle.part_window.specs.SlotsState.{with_slot_changed, with_given, with_written, sealed, CanClaim}
+use Rattle.part_window.specs.SlotsState.{with_slot_changed, with_given, with_written, as_committed, CanClaim}
 use Rattle.part_window.specs.CreditViews.{peers_of, credits_view, Matches, IsCredits}
 use Rattle.part_window.specs.declared.order.Due.{Due}
 use Rattle.part_window.proofs.Vacancy.{vacant}
@@ -285,12 +285,12 @@ pub said-of : (P : SlotState → Type 0) (found : Option SlotState) → IsSomeAn
 said-of P None kept = absurd kept
 said-of P (Some state) kept = (state, refl, kept)
 
--- writing into a buffer, and sealing a slot that is not opened, change nothing that is listed
+-- writing into a buffer, and committing a slot that is not opened, change nothing that is listed
 pub matches-written : (counts : List ℕ) (place : ℕ) (state : SlotState) (known : List ℕ) (found : Option (Option Due))
     → Matches counts place state found → Matches counts place (with_written known state) found
 matches-written counts place Vacant known found kept = kept
 matches-written counts place (Opened number time buffer) known found kept = kept
-matches-written counts place (Sealed number time message) known found kept = kept
+matches-written counts place (Committed number time message) known found kept = kept
 
 pub next-vacant : (seen : SlotsState) (to slot number : ℕ) → to < length seen.peers
     → IfSome (slice_get seen.peers to) (λ peer. CanClaim peer seen.last slot × (number ≡ peer.given + 1))
@@ -318,11 +318,11 @@ time-opened None time e = absurd cc
 time-opened (Some Vacant) time e = absurd cc
 time-opened (Some (Opened number sent buffer)) time e =
     let same : sent ≡ time = cc in (number, buffer, ap (λ (n : ℕ). Some (Opened number n buffer)) same)
-time-opened (Some (Sealed number sent message)) time e = absurd cc
+time-opened (Some (Committed number sent message)) time e = absurd cc
 
--- sealing another slot changes nothing
-pub not-sealed : (state : SlotState) (len : ℕ) → ((time : ℕ) → opened_time state ≡ Some time → ⊥)
-    → sealed len state ≡ state
-not-sealed Vacant len never = refl
-not-sealed (Opened number time buffer) len never = absurd (never time refl)
-not-sealed (Sealed number time message) len never = refl
+-- committing another slot changes nothing
+pub not-as_committed : (state : SlotState) (len : ℕ) → ((time : ℕ) → opened_time state ≡ Some time → ⊥)
+    → as_committed len state ≡ state
+not-as_committed Vacant len never = refl
+not-as_committed (Opened number time buffer) len never = absurd (never time refl)
+not-as_committed (Committed number time message) len never = refl

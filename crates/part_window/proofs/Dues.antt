@@ -8,19 +8,19 @@ use Rattle.std.proofs.lemmas.Bool.{cases_Bool, leb-true, leb-false}
 use Rattle.base_lists.specs.Cut.{start_of, count_at}
 use Rattle.base_lists.proofs.Cut.{place_order}
 use Rattle.part_window.specs.TableState.{TableState, place_of}
-use Rattle.part_window.specs.SlotsState.{SlotState, Vacant, Opened, Sealed, SlotsState, slot_at, IsTakenWith}
+use Rattle.part_window.specs.SlotsState.{SlotState, Vacant, Opened, Committed, SlotsState, slot_at, IsTakenWith}
 use Rattle.part_window.specs.SlotsState.{number_of}
 use Rattle.part_window.specs.Due.{due_time, IsFirstDue, IsNextDue, NoneIsDue}
 use Rattle.part_window.specs.Order.{IsFirst}
 use Rattle.part_window.specs.CreditViews.{credits_view, Matches, IsCredits}
 use Rattle.part_window.specs.declared.order.Due.{Due}
-use Rattle.part_window.proofs.Due.{due_at-sealed}
+use Rattle.part_window.proofs.Due.{due_at-as_committed}
 use Rattle.part_window.proofs.CreditsViewed.{slot-is, seen-there}
 
 -- a listed place has a message, with its time and its address
 pub listed-slot : (given : List ℕ) (table : TableState) (order : List (Option Due)) (place : ℕ) (due : Due)
     → IsCredits given table order → slice_get order place ≡ Some (Some due) → place + 1 < length order
-    → (number : ℕ) × (message : List ℕ) × (slice_get table.slots place ≡ Some (Sealed number due.time message))
+    → (number : ℕ) × (message : List ℕ) × (slice_get table.slots place ≡ Some (Committed number due.time message))
     × (due.slot < count_at table.counts due.node) × (start_of table.counts due.node + due.slot ≡ place)
 listed-slot given table order place due kept at inside = elim ((slice_get_cases table.slots place).1) [
   | inl known ↦ of known.0 known.2 (kept.matched place known.0 known.2)
@@ -28,17 +28,17 @@ listed-slot given table order place due kept at inside = elim ((slice_get_cases 
 ] where
   of : (state : SlotState) → slice_get table.slots place ≡ Some state
       → Matches table.counts place state (slice_get order place)
-      → (number : ℕ) × (message : List ℕ) × (slice_get table.slots place ≡ Some (Sealed number due.time message))
+      → (number : ℕ) × (message : List ℕ) × (slice_get table.slots place ≡ Some (Committed number due.time message))
       × (due.slot < count_at table.counts due.node) × (start_of table.counts due.node + due.slot ≡ place)
   of Vacant is matched = let none : slice_get order place ≡ Some None = matched in absurd cc
   of (Opened number time buffer) is matched = let none : slice_get order place ≡ Some None = matched in absurd cc
-  of (Sealed number time message) is matched =
+  of (Committed number time message) is matched =
       let some : slice_get order place ≡ Some (Some matched.0) = matched.1 in
       let same : matched.0 ≡ due = cc in (
         number,
         message,
         is
-            ∙ ap (λ (other_time : ℕ). Some (Sealed number other_time message)) (sym matched.2
+            ∙ ap (λ (other_time : ℕ). Some (Committed number other_time message)) (sym matched.2
             ∙ ap (λ (x : Due). x.time) same),
         subst (λ (x : Due). x.slot < count_at table.counts x.node) same matched.3,
         subst
@@ -48,12 +48,12 @@ listed-slot given table order place due kept at inside = elim ((slice_get_cases 
 -- a message is listed, with its time
 pub slot-listed : (last : ℕ) (given : List ℕ) (table : TableState) (order : List (Option Due)) (seen : SlotsState)
     (node slot number time : ℕ) (message : List ℕ) → credits_view last given table ≡ seen → IsCredits given table order
-    → slot_at seen node slot ≡ Some (Sealed number time message)
+    → slot_at seen node slot ≡ Some (Committed number time message)
     → (due : Due) × (slice_get order (start_of table.counts node + slot) ≡ Some (Some due)) × (due.time ≡ time)
     × (slot < count_at table.counts node)
 slot-listed last given table order seen node slot number time message view kept at =
-    let there = seen-there node slot (Sealed number time message) kept view at in
-    let matched = kept.matched (place_of table node slot) (Sealed number time message) there.1 in
+    let there = seen-there node slot (Committed number time message) kept view at in
+    let matched = kept.matched (place_of table node slot) (Committed number time message) there.1 in
     (matched.0, matched.1, matched.2, there.0)
 
 -- what is not listed, or was sent too late, isn't due
@@ -67,7 +67,7 @@ none-due last given table order seen now resend view kept late =
       at node slot None is = ap (option_and_then (due_time now resend)) is
       at node slot (Some Vacant) is = ap (option_and_then (due_time now resend)) is
       at node slot (Some (Opened number time buffer)) is = ap (option_and_then (due_time now resend)) is
-      at node slot (Some (Sealed number time message)) is =
+      at node slot (Some (Committed number time message)) is =
           let known = slot-listed last given table order seen node slot number time message view kept is in
           let low : now < known.0.time + resend = late (start_of table.counts node + slot) known.0 known.1 in
           ap (option_and_then (due_time now resend)) is
@@ -81,7 +81,7 @@ pub first-due : (last : ℕ) (given : List ℕ) (table : TableState) (order : Li
     → IsFirstDue seen now resend due.node due.slot
 first-due last given table order seen now resend place due view kept at inside first early =
     let known = listed-slot given table order place due kept at inside in
-    let here : slot_at seen due.node due.slot ≡ Some (Sealed known.0 due.time known.1) =
+    let here : slot_at seen due.node due.slot ≡ Some (Committed known.0 due.time known.1) =
     ap (λ (value : SlotsState). slot_at value due.node due.slot) (sym view)
     ∙ (slot-is last given table due.node due.slot kept.nodes known.3
     ∙ (ap (slice_get table.slots) known.4 ∙ known.2)) in
@@ -91,7 +91,7 @@ first-due last given table order seen now resend place due view kept at inside f
           ap (option_and_then (due_time now resend)) here
           ∙ ap (λ (b : Bool). cond b (Some due.time) None) (le-leb (due.time + resend) now early);
       first = λ other_node slot other_time is.
-          let message_there = due_at-sealed seen now resend other_node slot other_time is in
+          let message_there = due_at-as_committed seen now resend other_node slot other_time is in
           let listed_there =
           slot-listed last given table order seen other_node slot message_there.0 other_time message_there.1 view
           kept message_there.2 in
@@ -119,14 +119,14 @@ pub taken-no : (found : Option SlotState) (wanted : ℕ)
 taken-no None wanted other taken = taken
 taken-no (Some Vacant) wanted other taken = taken
 taken-no (Some (Opened number time buffer)) wanted other taken = other number refl taken
-taken-no (Some (Sealed number time message)) wanted other taken = other number refl taken
+taken-no (Some (Committed number time message)) wanted other taken = other number refl taken
 
 pub taken-yes : (found : Option SlotState) (wanted : ℕ) → option_and_then number_of found ≡ Some wanted
     → IsSomeAnd found (IsTakenWith wanted)
 taken-yes None wanted is = absurd cc
 taken-yes (Some Vacant) wanted is = absurd cc
 taken-yes (Some (Opened number time buffer)) wanted is = let same : number ≡ wanted = cc in same
-taken-yes (Some (Sealed number time message)) wanted is = let same : number ≡ wanted = cc in same
+taken-yes (Some (Committed number time message)) wanted is = let same : number ≡ wanted = cc in same
 
 -- where nothing is listed, or what is listed first would be due at no time that 64 bits hold, no slot ever is
 pub never-due : (last : ℕ) (given : List ℕ) (table : TableState) (order : List (Option Due)) (seen : SlotsState)

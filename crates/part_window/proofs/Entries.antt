@@ -19,7 +19,7 @@ use Rattle.part_window.specs.Ring.{put, IsOn, IsBefore, IsRing}
 use Rattle.base_lists.proofs.Put.{put_other}
 use Rattle.base_lists.proofs.Places.{slice_get-replicate, slice_get_last, slice_get_there}
 use Rattle.std.proofs.Math.Path.{fun_ext}
-use Rattle.part_window.specs.PaddedLists.{padded}
+use Rattle.part_window.specs.PaddedLists.{with_padding}
 use Rattle.part_window.specs.Order.{due_of, due_view, next_at, previous_at, time_at, listed_at, head_of, IsOrder}
 use Rattle.part_window.specs.Order.{blank_entry, IsSpot}
 use Rattle.part_window.proofs.Blanks.{length-padded, get-blank, update-last, update-written}
@@ -505,8 +505,8 @@ order-new head places small is_next is_previous off = record {
 
 -- a place of the ring that is not the head was written
 on-written : (written : List DueEntry) (places : ℕ) (head : DueEntry) (index : ℕ) → length written ≤ places
-    → IsOn (head_of (padded written blank_entry places ++ head ∷ []))
-    (listed_at (padded written blank_entry places ++ head ∷ [])) index → index ≢ places → index < length written
+    → IsOn (head_of (with_padding written blank_entry places ++ head ∷ []))
+    (listed_at (with_padding written blank_entry places ++ head ∷ [])) index → index ≢ places → index < length written
 on-written written places head index inside on apart = elim ((slice_get_cases written index).1) [
   | inl found ↦ found.1
   | inr past ↦ absurd (elim on [
@@ -515,13 +515,13 @@ on-written written places head index inside on apart = elim ((slice_get_cases wr
   ])
 ] where
   entries : List DueEntry
-  entries = padded written blank_entry places ++ head ∷ []
+  entries = with_padding written blank_entry places ++ head ∷ []
 
   long : length entries ≡ places + 1
   long =
       omega (
         arith,
-        length-append (padded written blank_entry places) (head ∷ []),
+        length-append (with_padding written blank_entry places) (head ∷ []),
         length-padded written blank_entry places inside,
       )
 
@@ -537,19 +537,19 @@ on-written written places head index inside on apart = elim ((slice_get_cases wr
 -- the head is changed
 pub head-changed : (written : List DueEntry) (places : ℕ) (head : DueEntry) (index : ℕ) (change : DueEntry → DueEntry)
     (entries : List DueEntry) → length written ≤ places → index ≡ places
-    → padded written blank_entry places ++ head ∷ [] ≡ entries
-    → padded written blank_entry places ++ change head ∷ [] ≡ update entries index change
+    → with_padding written blank_entry places ++ head ∷ [] ≡ entries
+    → with_padding written blank_entry places ++ change head ∷ [] ≡ update entries index change
 head-changed written places head index change entries inside same is =
     sym (ap (λ (list : List DueEntry). update list index change) (sym is)
-    ∙ (ap (λ (place : ℕ). update (padded written blank_entry places ++ head ∷ []) place change) same
+    ∙ (ap (λ (place : ℕ). update (with_padding written blank_entry places ++ head ∷ []) place change) same
     ∙ update-last written blank_entry places head change inside))
 
 -- the entry of a place that is on the ring is changed
 pub entry-changed : (written : List DueEntry) (places : ℕ) (head : DueEntry) (index : ℕ) (change : DueEntry → DueEntry)
     (was : DueEntry) (entries : List DueEntry) → length written ≤ places
     → IsOn (head_of entries) (listed_at entries) index → index ≢ places → was ≡ get_or written index was
-    → padded written blank_entry places ++ head ∷ [] ≡ entries
-    → padded (slice_set written index (change was)) blank_entry places ++ head ∷ [] ≡ update entries index change
+    → with_padding written blank_entry places ++ head ∷ [] ≡ entries
+    → with_padding (slice_set written index (change was)) blank_entry places ++ head ∷ [] ≡ update entries index change
 entry-changed written places head index change was entries inside on apart at is =
     let low : index < length written =
     on-written written places head index inside

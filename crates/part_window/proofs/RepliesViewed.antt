@@ -12,12 +12,12 @@ use Rattle.base_lists.specs.Cut.{cut, start_of, count_at, total_of, part_of}
 use Rattle.base_lists.proofs.Update.{update-Some, update-None, length-update, slice_get-update, slice_get-update_other}
 use Rattle.base_lists.proofs.Cut.{get-part, get-cut, length-cut, length-part, count-inside, cut-update, sum-cut, start-whole}
 use Rattle.part_window.proofs.NewTable.{count-of}
-use Rattle.part_window.specs.TableState.{SlotState, Vacant, Opened, Sealed, TableState, slot_in, place_of}
+use Rattle.part_window.specs.TableState.{SlotState, Vacant, Opened, Committed, TableState, slot_in, place_of}
 use Rattle.part_window.specs.TableState.{with_change, number_of, message_number, message_of, is_taken, opened_bytes}
 use Rattle.part_window.specs.TableState.{counts_of, new_table}
-use Rattle.part_window.specs.TableState.{with_written as slot_written, sealed as slot_sealed, IsOpened as SlotOpened}
+use Rattle.part_window.specs.TableState.{with_written as slot_written, as_committed as slot_committed, IsOpened as SlotOpened}
 use Rattle.part_window.specs.RepliesState.{ReplyState, Unused, RepliesState, slot_at, slot_count}
-use Rattle.part_window.specs.RepliesState.{with_slot_changed, with_written, sealed, has_run, last_number, held_count}
+use Rattle.part_window.specs.RepliesState.{with_slot_changed, with_written, as_committed, has_run, last_number, held_count}
 use Rattle.part_window.specs.RepliesState.{IsOpened, opened_bytes as reply_bytes, message_of as reply_message}
 use Rattle.part_window.specs.RepliesState.{message_number as reply_number}
 use Rattle.part_window.specs.ReplyViews.{reply_of, replies_view, IsReplies}
@@ -54,12 +54,12 @@ pub written-is : (known : List ℕ) (state : SlotState)
     → reply_of (slot_written known state) ≡ with_written known (reply_of state)
 written-is known Vacant = refl
 written-is known (Opened number time buffer) = refl
-written-is known (Sealed number time message) = refl
+written-is known (Committed number time message) = refl
 
-pub sealed-is : (len : ℕ) (state : SlotState) → reply_of (slot_sealed len state) ≡ sealed len (reply_of state)
-sealed-is len Vacant = refl
-sealed-is len (Opened number time buffer) = refl
-sealed-is len (Sealed number time message) = refl
+pub as_committed-is : (len : ℕ) (state : SlotState) → reply_of (slot_committed len state) ≡ as_committed len (reply_of state)
+as_committed-is len Vacant = refl
+as_committed-is len (Opened number time buffer) = refl
+as_committed-is len (Committed number time message) = refl
 
 -- a slot of a node
 pub slot-is : (table : TableState) (node slot : ℕ) → slot < count_at table.counts node
@@ -93,34 +93,34 @@ in-range table seen node slot view kept inside =
 pub last-is : (state : SlotState) → last_number (reply_of state) ≡ unwrap_or (number_of state) 0
 last-is Vacant = refl
 last-is (Opened number time buffer) = refl
-last-is (Sealed number time message) = refl
+last-is (Committed number time message) = refl
 
 pub message-is : (state : SlotState) → reply_message (reply_of state) ≡ message_of state
 message-is Vacant = refl
 message-is (Opened number time buffer) = refl
-message-is (Sealed number time message) = refl
+message-is (Committed number time message) = refl
 
 pub message_number-is : (state : SlotState) → reply_number (reply_of state) ≡ message_number state
 message_number-is Vacant = refl
 message_number-is (Opened number time buffer) = refl
-message_number-is (Sealed number time message) = refl
+message_number-is (Committed number time message) = refl
 
 pub bytes-is : (state : SlotState) → reply_bytes (reply_of state) ≡ opened_bytes state
 bytes-is Vacant = refl
 bytes-is (Opened number time buffer) = refl
-bytes-is (Sealed number time message) = refl
+bytes-is (Committed number time message) = refl
 
 pub opened-is : (state : SlotState) → IsOpened (reply_of state) → SlotOpened state
 opened-is Vacant kept = kept
 opened-is (Opened number time buffer) kept = kept
-opened-is (Sealed number time message) kept = kept
+opened-is (Committed number time message) kept = kept
 
 -- a slot whose number is not 0 ran a request exactly where it is taken
 run-is : (state : SlotState) → ((n : ℕ) → number_of state ≡ Some n → n ≢ 0) → has_run (reply_of state) ≡ is_taken state
 run-is Vacant kept = refl
 run-is (Opened number time buffer) kept =
     elim (eqb_tells number 0) [ inl known ↦ absurd (kept number refl known.1) | inr known ↦ ap not known.0 ]
-run-is (Sealed number time message) kept =
+run-is (Committed number time message) kept =
     elim (eqb_tells number 0) [ inl known ↦ absurd (kept number refl known.1) | inr known ↦ ap not known.0 ]
 
 runs : (states : List SlotState)
@@ -168,12 +168,12 @@ replies-after table node slot state change kept at new = record {
 pub number-written : (known : List ℕ) (state : SlotState) → number_of (slot_written known state) ≡ number_of state
 number-written known Vacant = refl
 number-written known (Opened number time buffer) = refl
-number-written known (Sealed number time message) = refl
+number-written known (Committed number time message) = refl
 
-pub number-sealed : (len : ℕ) (state : SlotState) → number_of (slot_sealed len state) ≡ number_of state
-number-sealed len Vacant = refl
-number-sealed len (Opened number time buffer) = refl
-number-sealed len (Sealed number time message) = refl
+pub number-as_committed : (len : ℕ) (state : SlotState) → number_of (slot_committed len state) ≡ number_of state
+number-as_committed len Vacant = refl
+number-as_committed len (Opened number time buffer) = refl
+number-as_committed len (Committed number time message) = refl
 
 -- a slot of which something is said
 pub said-of : (P : ReplyState → Type 0) (found : Option ReplyState) → IsSomeAnd found P

@@ -1,12 +1,12 @@
 -- A request is one change of the table: a slot is claimed, a message is written into its buffer, and the slot is
--- sealed.
+-- committed.
 use Rattle.std.proofs.Common.{ℕ, ◌≡◌, ◌≤◌, List, ◌++◌, length, take, ap, ◌∙◌, arith}
 use Rattle.base_lists.proofs.Update.{update-same, update-update}
-use Rattle.part_window.specs.SlotsState.{PeerState, SlotState, SlotsState, Opened, Sealed, Claim, Claims, refill}
-use Rattle.part_window.specs.SlotsState.{with_written, sealed, with_slot_changed, with_slot_in, with_given}
+use Rattle.part_window.specs.SlotsState.{PeerState, SlotState, SlotsState, Opened, Committed, Claim, Claims, refill}
+use Rattle.part_window.specs.SlotsState.{with_written, as_committed, with_slot_changed, with_slot_in, with_given}
 use Rattle.part_window.specs.SlotsState.{with_given_in}
 use Rattle.part_window.specs.SlotsState.{with_request}
-use Rattle.part_window.proofs.Slots.{refilled-front}
+use Rattle.part_window.proofs.Slots.{refilled-prefix}
 
 -- a slot that was given with a number and then changed
 pub with_given-changed : (t : SlotsState) (to k number : ℕ) (s : SlotState) (change : SlotState → SlotState)
@@ -18,23 +18,23 @@ with_given-changed t to k number s change = ap (λ (peers : List PeerState). rec
     (λ p. ap (λ (slots : List SlotState). record { given = number; slots = slots })
     (update-update p.slots k (λ _. s) change)))
 
--- For a caller that claims a slot, writes a message at the front of its buffer and seals the message's length: the
+-- For a caller that claims a slot, writes a message at the prefix of its buffer and commits the message's length: the
 -- table it ends with, by
 -- what `claim` ensures and what was written.
-pub request_sealed : {old claimed : SlotsState} {to : ℕ} {claim : Claim} (message rest written : List ℕ)
+pub request_committed : {old claimed : SlotsState} {to : ℕ} {claim : Claim} (message rest written : List ℕ)
     → Claims old to claim claimed → written ≡ message ++ rest → length message ≤ 8296
     → with_slot_changed (with_slot_changed claimed to claim.slot (with_written written)) to claim.slot
-    (sealed (length message)) ≡ with_request old to claim message
-request_sealed {old = old} {to = to} {claim = claim} message rest written h front fits =
+    (as_committed (length message)) ≡ with_request old to claim message
+request_committed {old = old} {to = to} {claim = claim} message rest written h prefix fits =
     let slot = claim.slot in
     let number = claim.number in
     let now = claim.time in
     let message_is : take (length message) (refill h.buffer written) ≡ message =
-    ap (λ (bytes : List ℕ). take (length message) (refill h.buffer bytes)) front
-    ∙ refilled-front h.buffer message rest (omega (arith, h.whole)) in
+    ap (λ (bytes : List ℕ). take (length message) (refill h.buffer bytes)) prefix
+    ∙ refilled-prefix h.buffer message rest (omega (arith, h.whole)) in
     ap (λ (t : SlotsState). with_slot_changed (with_slot_changed t to slot (with_written written)) to slot
-    (sealed (length message))) h.opened
-    ∙ (ap (λ (t : SlotsState). with_slot_changed t to slot (sealed (length message)))
+    (as_committed (length message))) h.opened
+    ∙ (ap (λ (t : SlotsState). with_slot_changed t to slot (as_committed (length message)))
     (with_given-changed old to slot number (Opened number now h.buffer) (with_written written))
-    ∙ (with_given-changed old to slot number (Opened number now (refill h.buffer written)) (sealed (length message))
-    ∙ ap (λ (bytes : List ℕ). with_given old to slot number (Sealed number now bytes)) message_is))
+    ∙ (with_given-changed old to slot number (Opened number now (refill h.buffer written)) (as_committed (length message))
+    ∙ ap (λ (bytes : List ℕ). with_given old to slot number (Committed number now bytes)) message_is))

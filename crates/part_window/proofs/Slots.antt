@@ -1,4 +1,4 @@
--- A slot in range, and what stands at the front of its buffer.
+-- A slot in range, and what stands at the prefix of its buffer.
 use Rattle.std.proofs.Common.{ℕ, ◌≡◌, ◌<◌, ◌≤◌, ◌++◌, List, Some, length, take, inl, inr, arith}
 use Rattle.std.proofs.lemmas.Grind.{common_steps}
 use Rattle.std.proofs.lemmas.List.{take-take, take-append-le}
@@ -20,7 +20,7 @@ place-there table node slot inside whole =
       | inr known ↦ absurd (omega (arith, known.0, start-inside table.counts node slot inside, whole))
     ]
 
--- the first bytes of a buffer at whose front a message was written
-pub refilled-front : (buffer message rest : List ℕ) → length message ≤ length buffer
+-- the first bytes of a buffer at whose prefix a message was written
+pub refilled-prefix : (buffer message rest : List ℕ) → length message ≤ length buffer
     → take (length message) (refill buffer (message ++ rest)) ≡ message
-refilled-front buffer message rest fits = grind (arith, common_steps, take-take, take-append-le, take-append_seam)
+refilled-prefix buffer message rest fits = grind (arith, common_steps, take-take, take-append-le, take-append_seam)

@@ -24,7 +24,7 @@ use Rattle.part_window.specs.declared.table.Contents.TheVariants.{Nothing, Draft
 use Rattle.part_window.specs.declared.table.Peer.{Peer}
 use Rattle.part_window.specs.TableState.{SlotState, TableState, Opened, is_vacant, is_taken, slot_in}
 use Rattle.part_window.specs.TableState.{slots_of, HasSlot, with_written, with_change, message_of, message_number}
-use Rattle.part_window.specs.TableState.{opened_time, sealed, sent_again, IsOpened, opened_bytes, opened_bytes_in}
+use Rattle.part_window.specs.TableState.{opened_time, as_committed, as_retransmitted, IsOpened, opened_bytes, opened_bytes_in}
 use Rattle.part_window.specs.TableViews.{slot_view, views, is_nothing, is_something, FitsBuffer, peer_counts, IsCounted}
 use Rattle.part_window.specs.TableViews.{IsBuffered, table_view}
 use Rattle.part_window.proofs.Masks.{count-of_peer}
@@ -341,14 +341,14 @@ peers-inside peers contents buffers table to view inside =
 -- contents that are no message, and no draft
 pub not-message : (item : Contents) (buffer : List ℕ) (now : ℕ)
     → ((number table l : ℕ) → item ≡ Message number table l → ⊥)
-    → (message_of (slot_view item buffer) ≡ None) × (sent_again now (slot_view item buffer) ≡ slot_view item buffer)
+    → (message_of (slot_view item buffer) ≡ None) × (as_retransmitted now (slot_view item buffer) ≡ slot_view item buffer)
     × (message_number (slot_view item buffer) ≡ None)
 not-message Nothing buffer now never = (refl, refl, refl)
 not-message (Draft number table) buffer now never = (refl, refl, refl)
 not-message (Message number table l) buffer now never = absurd (never number table l refl)
 
 pub not-draft : (item : Contents) (buffer : List ℕ) (len : ℕ) → ((number table : ℕ) → item ≡ Draft number table → ⊥)
-    → (opened_time (slot_view item buffer) ≡ None) × (sealed len (slot_view item buffer) ≡ slot_view item buffer)
+    → (opened_time (slot_view item buffer) ≡ None) × (as_committed len (slot_view item buffer) ≡ slot_view item buffer)
 not-draft Nothing buffer len never = (refl, refl)
 not-draft (Draft number table) buffer len never = absurd (never number table refl)
 not-draft (Message number table l) buffer len never = (refl, refl)

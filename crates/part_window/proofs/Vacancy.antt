@@ -9,14 +9,14 @@ use Rattle.std.proofs.lemmas.Grind.{common_steps}
 use Rattle.std.specs.List.{position_or_len}
 use Rattle.std.proofs.lemmas.List.Sums.{fails_before_first}
 use Rattle.part_window.specs.declared.credits.NoClaim.TheVariants.{NotYet}
-use Rattle.part_window.specs.SlotsState.{PeerState, SlotState, SlotsState, Vacant, Opened, Sealed, is_vacant, slot_at}
+use Rattle.part_window.specs.SlotsState.{PeerState, SlotState, SlotsState, Vacant, Opened, Committed, is_vacant, slot_at}
 use Rattle.part_window.specs.SlotsState.{CanClaim, Refuses, Claim, Claims, given_at}
 
 -- a slot that tests as vacant
 pub vacant : (s : SlotState) → is_vacant s ≡ true → s ≡ Vacant
 vacant Vacant e = refl
 vacant (Opened number time buffer) e = absurd cc
-vacant (Sealed number time message) e = absurd cc
+vacant (Committed number time message) e = absurd cc
 
 -- the slot that can be claimed
 pub vacant-in : (p : PeerState) (last k : ℕ) → CanClaim p last k → slice_get p.slots k ≡ Some Vacant

@@ -2,7 +2,7 @@
 use Rattle.std.specs.Prelude.{ℕ, ◌≡◌, ◌+◌, ◌<◌, List, [], ◌∷◌, length, Option, Some, None, slice_get}
 use Rattle.base_lists.specs.Cut.{cut, start_of, count_at, total_of}
 use Rattle.part_window.specs.TableState.{TableState}
-use Rattle.part_window.specs.SlotsState.{SlotState, Vacant, Opened, Sealed, PeerState, SlotsState}
+use Rattle.part_window.specs.SlotsState.{SlotState, Vacant, Opened, Committed, PeerState, SlotsState}
 use Rattle.part_window.specs.declared.order.Due.{Due}
 
 -- each peer, by its given numbers and its slots
@@ -19,7 +19,7 @@ credits_view last given table = record { last = last; peers = peers_of given (cu
 abbrev pub Matches : List ℕ → ℕ → SlotState → Option (Option Due) → Type 0
 Matches counts place Vacant found = found ≡ Some None
 Matches counts place (Opened number time buffer) found = found ≡ Some None
-Matches counts place (Sealed number time message) found =
+Matches counts place (Committed number time message) found =
     (due : Due) × (found ≡ Some (Some due)) × (due.time ≡ time) × (due.slot < count_at counts due.node) ×
     (start_of counts due.node + due.slot ≡ place)
 

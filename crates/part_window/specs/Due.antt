@@ -1,14 +1,14 @@
 -- Which request a requester's slots send again next; the record's rule is `next_due` of `spec_node`.
 use Rattle.std.specs.Prelude.{ℕ, ◌≡◌, ◌<◌, ◌≤◌, ◌+◌, ◌^◌, Option, Some, None, Bool, true, false, nat_le, if◌then◌else◌}
 use Rattle.std.specs.Prelude.{option_and_then}
-use Rattle.part_window.specs.SlotsState.{SlotState, SlotsState, Vacant, Opened, Sealed, slot_at}
-pub use Rattle.part_window.specs.TableState.{sent_again}
+use Rattle.part_window.specs.SlotsState.{SlotState, SlotsState, Vacant, Opened, Committed, slot_at}
+pub use Rattle.part_window.specs.TableState.{as_retransmitted}
 
 -- when the slot's message was last sent, where that was `resend` or more before now: the message is then due
 abbrev pub due_time : ℕ → ℕ → SlotState → Option ℕ
 due_time now resend Vacant = None
 due_time now resend (Opened number time buffer) = None
-due_time now resend (Sealed number time message) = if nat_le (time + resend) now then Some time else None
+due_time now resend (Committed number time message) = if nat_le (time + resend) now then Some time else None
 
 -- when the message in a slot of a node was last sent, where it is due
 abbrev pub due_at : SlotsState → ℕ → ℕ → ℕ → ℕ → Option ℕ

@@ -3,5 +3,5 @@ use Rattle.std.specs.Prelude.{ℕ, ◌-◌, List, ◌++◌, length}
 use Rattle.std.proofs.Math.ListN.{replicate}
 
 -- the items, and blanks behind them, up to `len`
-abbrev pub padded : {A : Type 0} → List A → A → ℕ → List A
-padded items blank len = items ++ replicate (len - length items) blank
+abbrev pub with_padding : {A : Type 0} → List A → A → ℕ → List A
+with_padding items blank len = items ++ replicate (len - length items) blank

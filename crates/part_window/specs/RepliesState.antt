@@ -11,7 +11,7 @@ pub use Rattle.part_window.specs.TableState.{counts_of, refill}
 -- a slot of one peer
 pub data ReplyState : Type 0 where
   Unused : ReplyState  -- nothing ran in the slot
-  Opened : ℕ → List ℕ → ReplyState  -- last number, what stands in the buffer: placed, not yet sealed
+  Opened : ℕ → List ℕ → ReplyState  -- last number, what stands in the buffer: placed, not yet committed
   Kept : ℕ → List ℕ → ReplyState  -- last number, the reply's bytes
 
 -- for each node, the state of each of its slots
@@ -58,11 +58,11 @@ with_written written Unused = Unused
 with_written written (Opened number buffer) = Opened number (refill buffer written)
 with_written written (Kept number message) = Kept number message
 
--- an opened slot is sealed: its reply is the first bytes of its buffer
-abbrev pub sealed : ℕ → ReplyState → ReplyState
-sealed len Unused = Unused
-sealed len (Opened number buffer) = Kept number (take len buffer)
-sealed len (Kept number message) = Kept number message
+-- an opened slot is committed: its reply is the first bytes of its buffer
+abbrev pub as_committed : ℕ → ReplyState → ReplyState
+as_committed len Unused = Unused
+as_committed len (Opened number buffer) = Kept number (take len buffer)
+as_committed len (Kept number message) = Kept number message
 
 -- how a request's number stands to the last number of the slot
 abbrev pub Judges : ReplyState → ℕ → Judged → Type 0

@@ -8,15 +8,16 @@ use Rattle.base_lists.specs.Update.{update}
 use Rattle.part_window.specs.declared.credits.NoClaim.{NoClaim}
 use Rattle.part_window.specs.declared.credits.NoClaim.TheVariants.{Exhausted, NotYet}
 use Rattle.part_window.specs.declared.table.TheConstants.{BUFFER_BYTES}
-pub use Rattle.part_window.specs.TableState.{counts_of, SlotState, Vacant, Opened, Sealed, is_vacant, is_taken, IsOpened}
+pub use Rattle.part_window.specs.TableState.{counts_of, SlotState, Vacant, Opened, Committed, is_vacant, is_taken}
+pub use Rattle.part_window.specs.TableState.{IsOpened}
 pub use Rattle.part_window.specs.TableState.{number_of, opened_bytes, message_number, message_of, refill, with_written}
-pub use Rattle.part_window.specs.TableState.{sealed, sent_again, Claim}
+pub use Rattle.part_window.specs.TableState.{as_committed, as_retransmitted, Claim}
 
--- the slot is taken, sealed or not, by the request with this number
+-- the slot is taken, committed or not, by the request with this number
 abbrev pub IsTakenWith : ℕ → SlotState → Type 0
 IsTakenWith wanted Vacant = ⊥
 IsTakenWith wanted (Opened number time buffer) = number ≡ wanted
-IsTakenWith wanted (Sealed number time message) = number ≡ wanted
+IsTakenWith wanted (Committed number time message) = number ≡ wanted
 
 -- the numbers given to one peer so far, and its slots
 pub record PeerState : Type 0 where
@@ -44,13 +45,13 @@ IsOpenedAt table to slot = IsSomeAnd (slot_at table to slot) IsOpened
 abbrev pub opened_bytes_at : SlotsState → ℕ → ℕ → List ℕ
 opened_bytes_at table to slot = elim (slot_at table to slot) [ Some state ↦ opened_bytes state | None ↦ [] ]
 
--- the message of a slot of this node, if it is sealed
-abbrev pub sealed_message_at : SlotsState → ℕ → ℕ → Option (List ℕ)
-sealed_message_at table to slot = option_and_then message_of (slot_at table to slot)
+-- the message of a slot of this node, if it is committed
+abbrev pub committed_message_at : SlotsState → ℕ → ℕ → Option (List ℕ)
+committed_message_at table to slot = option_and_then message_of (slot_at table to slot)
 
--- the number of the message in a slot of this node, if it is sealed
-abbrev pub sealed_number_at : SlotsState → ℕ → ℕ → Option ℕ
-sealed_number_at table to slot = option_and_then message_number (slot_at table to slot)
+-- the number of the message in a slot of this node, if it is committed
+abbrev pub committed_number_at : SlotsState → ℕ → ℕ → Option ℕ
+committed_number_at table to slot = option_and_then message_number (slot_at table to slot)
 
 -- the slot of this node is taken by the request with this number
 abbrev pub IsTakenAt : SlotsState → ℕ → ℕ → ℕ → Type 0
@@ -86,7 +87,7 @@ with_opened table to claim buffer = with_given table to claim.slot claim.number 
 -- the peer's next number is given, and its slot has the message
 abbrev pub with_request : SlotsState → ℕ → Claim → List ℕ → SlotsState
 with_request table to claim message =
-    with_given table to claim.slot claim.number (Sealed claim.number claim.time message)
+    with_given table to claim.slot claim.number (Committed claim.number claim.time message)
 
 -- why a peer's request is refused: its numbers stand at the last one; else no slot is vacant
 abbrev pub Refuses : PeerState → ℕ → NoClaim → Type 0

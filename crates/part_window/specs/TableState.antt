@@ -9,8 +9,8 @@ use Rattle.part_window.specs.declared.table.TheConstants.{BUFFER_BYTES}
 -- a slot of one peer
 pub data SlotState : Type 0 where
   Vacant : SlotState  -- nothing has it
-  Opened : ℕ → ℕ → List ℕ → SlotState  -- number, time, what stands in the buffer: taken, not yet sealed
-  Sealed : ℕ → ℕ → List ℕ → SlotState  -- number, time, message
+  Opened : ℕ → ℕ → List ℕ → SlotState  -- number, time, what stands in the buffer: taken, not yet committed
+  Committed : ℕ → ℕ → List ℕ → SlotState  -- number, time, message
 
 -- how many slots each peer has, and the slots of all, one peer's after another's
 pub record TableState : Type 0 where
@@ -27,7 +27,7 @@ pub record Claim : Type 0 where
 abbrev pub is_vacant : SlotState → Bool
 is_vacant Vacant = true
 is_vacant (Opened number time buffer) = false
-is_vacant (Sealed number time message) = false
+is_vacant (Committed number time message) = false
 
 -- something has the slot
 abbrev pub is_taken : SlotState → Bool
@@ -37,39 +37,39 @@ is_taken state = not (is_vacant state)
 abbrev pub IsOpened : SlotState → Type 0
 IsOpened Vacant = ⊥
 IsOpened (Opened number time buffer) = Unit {0}
-IsOpened (Sealed number time message) = ⊥
+IsOpened (Committed number time message) = ⊥
 
 -- the number with which the slot is taken
 abbrev pub number_of : SlotState → Option ℕ
 number_of Vacant = None
 number_of (Opened number time buffer) = Some number
-number_of (Sealed number time message) = Some number
+number_of (Committed number time message) = Some number
 
 -- the time with which a slot is opened
 abbrev pub opened_time : SlotState → Option ℕ
 opened_time Vacant = None
 opened_time (Opened number time buffer) = Some time
-opened_time (Sealed number time message) = None
+opened_time (Committed number time message) = None
 
 -- what stands in the buffer of an opened slot
 abbrev pub opened_bytes : SlotState → List ℕ
 opened_bytes Vacant = []
 opened_bytes (Opened number time buffer) = buffer
-opened_bytes (Sealed number time message) = []
+opened_bytes (Committed number time message) = []
 
--- the number of the message of a sealed slot
+-- the number of the message of a committed slot
 abbrev pub message_number : SlotState → Option ℕ
 message_number Vacant = None
 message_number (Opened number time buffer) = None
-message_number (Sealed number time message) = Some number
+message_number (Committed number time message) = Some number
 
--- the message of a sealed slot
+-- the message of a committed slot
 abbrev pub message_of : SlotState → Option (List ℕ)
 message_of Vacant = None
 message_of (Opened number time buffer) = None
-message_of (Sealed number time message) = Some message
+message_of (Committed number time message) = Some message
 
--- the bytes of `old` with `written` at their front: a lent buffer keeps its length
+-- the bytes of `old` with `written` at their prefix: a lent buffer keeps its length
 abbrev pub refill : List ℕ → List ℕ → List ℕ
 refill old written = take (length old) (written ++ drop (length written) old)
 
@@ -77,19 +77,19 @@ refill old written = take (length old) (written ++ drop (length written) old)
 abbrev pub with_written : List ℕ → SlotState → SlotState
 with_written written Vacant = Vacant
 with_written written (Opened number time buffer) = Opened number time (refill buffer written)
-with_written written (Sealed number time message) = Sealed number time message
+with_written written (Committed number time message) = Committed number time message
 
--- an opened slot is sealed: its message is the first bytes of its buffer
-abbrev pub sealed : ℕ → SlotState → SlotState
-sealed len Vacant = Vacant
-sealed len (Opened number time buffer) = Sealed number time (take len buffer)
-sealed len (Sealed number time message) = Sealed number time message
+-- an opened slot is committed: its message is the first bytes of its buffer
+abbrev pub as_committed : ℕ → SlotState → SlotState
+as_committed len Vacant = Vacant
+as_committed len (Opened number time buffer) = Committed number time (take len buffer)
+as_committed len (Committed number time message) = Committed number time message
 
 -- a slot whose message is sent at `now`
-abbrev pub sent_again : ℕ → SlotState → SlotState
-sent_again now Vacant = Vacant
-sent_again now (Opened number time buffer) = Opened number time buffer
-sent_again now (Sealed number time message) = Sealed number now message
+abbrev pub as_retransmitted : ℕ → SlotState → SlotState
+as_retransmitted now Vacant = Vacant
+as_retransmitted now (Opened number time buffer) = Opened number time buffer
+as_retransmitted now (Committed number time message) = Committed number now message
 
 -- the place of a slot of a node among the slots of all
 abbrev pub place_of : TableState → ℕ → ℕ → ℕ

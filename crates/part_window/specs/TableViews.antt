@@ -3,7 +3,7 @@ use Rattle.std.specs.Prelude.{ℕ, ◌≡◌, ◌≤◌, Bool, true, false, not,
 use Rattle.std.specs.Prelude.{slice_get, Some, count_by, ◌^◌, if◌then◌else◌}
 use lib.Lanes.{mask_l}
 use Rattle.base_lists.specs.Cut.{start_of, total_of, part_of}
-use Rattle.part_window.specs.TableState.{TableState, SlotState, Vacant, Opened, Sealed}
+use Rattle.part_window.specs.TableState.{TableState, SlotState, Vacant, Opened, Committed}
 use Rattle.part_window.specs.declared.table.Contents.{Contents}
 use Rattle.part_window.specs.declared.table.Contents.TheVariants.{Nothing, Draft, Message}
 use Rattle.part_window.specs.declared.table.Peer.{Peer}
@@ -13,7 +13,7 @@ use Rattle.part_window.specs.declared.table.TheConstants.{BUFFER_BYTES, MAX_SLOT
 abbrev pub slot_view : Contents → List ℕ → SlotState
 slot_view Nothing bytes = Vacant
 slot_view (Draft number time) bytes = Opened number time bytes
-slot_view (Message number time len) bytes = Sealed number time (take len bytes)
+slot_view (Message number time len) bytes = Committed number time (take len bytes)
 
 -- each slot's value, by its contents and its buffer
 abbrev pub views : List Contents → List (List ℕ) → List SlotState

@@ -14,11 +14,11 @@
 //! - `take_back` [`answer`, `freed`, `same`] frees a slot exactly where it is taken with that number.
 //! - `due` [`next`, `sent`] names the request that is sent again next: of those last sent `resend` or more before now
 //!   the one sent earliest, then of the lower node, then of the lower slot (`IsFirstDue`). It names none exactly where
-//!   none is due (`NoneIsDue`); `is_due` tells which it is, and `next_due` from which time on one is (`IsNextDue`). That
-//!   slot's time becomes now, and nothing else changes.
+//!   none is due (`NoneIsDue`); `is_due` tells which it is, and `next_due` from which time on one is (`IsNextDue`).
+//!   That slot's time becomes now, and nothing else changes.
 //! - `new` gives each other node the slots of its own number of credits (`IsNew`). `held` is how many slots are taken,
 //!   `number` the number of a slot's message.
-//! - The buffer that a claim lends takes what is written, and nothing else (`Claimed::buffer`, `seal`). No call after
+//! - The buffer that a claim lends takes what is written, and nothing else (`Claimed::buffer`, `commit`). No call after
 //!   `new` takes memory: none has an answer for want of it.
 
 ghost use Rattle.std.specs.Prelude.{◌≡◌, ℕ, ◌+◌, ◌<◌, ◌≤◌, ◌↔◌, IsTrue, length, slice_get, IfSome};
@@ -119,8 +119,8 @@ impl CreditSlots {
     ghost use Rattle.part_window.specs.CreditLending.{table_row, lender_of, node_of, slot_of, table_of};
 
     /// Takes the lowest vacant slot of the node `to` with the pair's next number, for a request that is sent at `now`,
-    /// and lends its buffer until the message is sealed. A claim that is dropped unsealed leaves the slot taken, with
-    /// no message.
+    /// and lends its buffer until the message is committed. A claim that is dropped uncommitted leaves the slot taken,
+    /// with no message.
     ///
     /// # Errors
     ///
@@ -183,7 +183,7 @@ impl CreditSlots {
 
 impl CreditSlots {
     ghost use Rattle.part_window.specs.SlotsState.{IsOpenedAt, opened_bytes_at, with_slot_changed};
-    ghost use Rattle.part_window.specs.SlotsState.{with_written, sealed, slot_count};
+    ghost use Rattle.part_window.specs.SlotsState.{with_written, as_committed, slot_count};
     ghost use Rattle.part_window.specs.CreditLending.{table_row};
 
     // The buffer of an opened slot.
@@ -197,12 +197,12 @@ impl CreditSlots {
         self.table.buffer_mut(to, slot)
     }
 
-    fn seal(&mut self, to: u16, slot: u16, len: usize)
+    fn commit(&mut self, to: u16, slot: u16, len: usize)
         requires in_range { slot < slot_count self.old to }
         requires fits { len ≤ BUFFER_BYTES }
-        ensures { self.new ≡ with_slot_changed self.old to slot (sealed len) }
+        ensures { self.new ≡ with_slot_changed self.old to slot (as_committed len) }
     {
-        if let Some(time) = self.table.seal(to, slot, len) {
+        if let Some(time) = self.table.commit(to, slot, len) {
             let place = self.table.place(to, slot);
             let due = Due {
                 time,
@@ -215,7 +215,7 @@ impl CreditSlots {
 }
 
 impl CreditSlots {
-    ghost use Rattle.part_window.specs.SlotsState.{sealed_message_at, sealed_number_at, with_slot, IsTakenAt};
+    ghost use Rattle.part_window.specs.SlotsState.{committed_message_at, committed_number_at, with_slot, IsTakenAt};
     ghost use Rattle.part_window.specs.SlotsState.{vacant_count, is_exhausted, slot_count, held_count};
     ghost use Rattle.part_window.specs.SlotsState.{Vacant};
 
@@ -256,10 +256,10 @@ impl CreditSlots {
         true
     }
 
-    /// The message of a slot of the node `to`: `None` exactly where the slot is vacant or not sealed.
+    /// The message of a slot of the node `to`: `None` exactly where the slot is vacant or not committed.
     pub fn bytes(&self, to: u16, slot: u16) -> Option<&[u8]>
         requires { slot < slot_count self.now to }
-        ensures { option_copied result ≡ sealed_message_at self.now to slot }
+        ensures { option_copied result ≡ committed_message_at self.now to slot }
     {
         self.table.message(to, slot)
     }
@@ -267,7 +267,7 @@ impl CreditSlots {
     /// The number of the message in a slot of the node `to`: `None` exactly where `bytes` gives none.
     pub fn number(&self, to: u16, slot: u16) -> Option<u64>
         requires { slot < slot_count self.now to }
-        ensures { result ≡ sealed_number_at self.now to slot }
+        ensures { result ≡ committed_number_at self.now to slot }
     {
         self.table.message_number(to, slot)
     }
@@ -299,7 +299,7 @@ impl CreditSlots {
 
 impl CreditSlots {
     ghost use Rattle.part_window.specs.SlotsState.{slot_count, with_slot_changed};
-    ghost use Rattle.part_window.specs.Due.{IsDueNext, IsDue, IsNextDue, sent_again};
+    ghost use Rattle.part_window.specs.Due.{IsDueNext, IsDue, IsNextDue, as_retransmitted};
 
     /// Finds the request that is to be sent again at `now`, and notes that it is sent then: its node and its slot,
     /// whose message `bytes` gives.
@@ -312,7 +312,7 @@ impl CreditSlots {
         ensures next { IsDueNext self.old now resend result }
         ensures in_range { IfSome result (λ r. r.1 < slot_count self.new r.0) }
         ensures sent { MatchOption result (self.new ≡ self.old)
-            (λ r. self.new ≡ with_slot_changed self.old r.0 r.1 (sent_again now)) }
+            (λ r. self.new ≡ with_slot_changed self.old r.0 r.1 (as_retransmitted now)) }
     {
         let Some((place, due)) = self.order.first() else {
             return None;
@@ -351,14 +351,14 @@ impl CreditSlots {
 
 /// A slot that was taken for a request, whose message is still to be written.
 ///
-/// Where it is dropped unsealed, the slot stays taken and has no message.
+/// Where it is dropped uncommitted, the slot stays taken and has no message.
 #[derive(Drop)]
 pub struct Claimed<'a> {
     /// The slot, from 0.
     pub slot: u16,
     /// The request's number, from 1.
     pub number: u64,
-    // The node and the slot again, so that no caller misleads `seal`.
+    // The node and the slot again, so that no caller misleads `commit`.
     to: u16,
     at: u16,
     table: &'a mut CreditSlots,
@@ -366,11 +366,11 @@ pub struct Claimed<'a> {
 
 impl<'a> Claimed<'a> {
     ghost use Rattle.part_window.specs.SlotsState.{slot_count, opened_bytes_at, IsOpenedAt};
-    ghost use Rattle.part_window.specs.SlotsState.{with_slot_changed, sealed};
+    ghost use Rattle.part_window.specs.SlotsState.{with_slot_changed, as_committed};
     ghost use Rattle.part_window.specs.CreditLending.{claimed_row, with_claim_written, table_of};
     ghost use Rattle.part_window.specs.CreditLending.{node_of, slot_of};
 
-    /// The slot's buffer, of `BUFFER_BYTES` bytes, to write the message at its front.
+    /// The slot's buffer, of `BUFFER_BYTES` bytes, to write the message at its prefix.
     pub fn buffer(&mut self) -> &mut [u8]
         requires { IsOpenedAt (table_of self.old) (node_of self.old) (slot_of self.old) }
         ensures* writes_back { sem 𝓛 (Lends claimed_row (Array byte 0) self.entry result
@@ -385,16 +385,16 @@ impl<'a> Claimed<'a> {
     }
 
     /// Ends the claim: the slot's message is the first `len` bytes of its buffer.
-    pub fn seal(self, len: usize)
+    pub fn commit(self, len: usize)
         requires in_range { slot_of self < slot_count (table_of self) (node_of self) }
         requires some { 1 ≤ len }
         requires fits { len ≤ BUFFER_BYTES }
         ensures { let table_left = self.exit.1.1.1.1.0.now in
             table_left ≡ with_slot_changed (table_of self.entry)
-            (node_of self.entry) (slot_of self.entry) (sealed len) }
+            (node_of self.entry) (slot_of self.entry) (as_committed len) }
     {
         let to = self.to;
         let at = self.at;
-        self.table.seal(to, at, len);
+        self.table.commit(to, at, len);
     }
 }

@@ -25,7 +25,7 @@
 //! - `new` of both gives each other node the slots of its own number of credits (`IsNew`). `held` is how many slots are
 //!   taken, or had a request run in them; `number` is the number of a slot's message.
 //! - The buffer that a claim or a place lends takes what is written, and nothing else (`Claimed::buffer`,
-//!   `Place::buffer`, `seal`). No call after `new` takes memory: none has an answer for want of it.
+//!   `Place::buffer`, `commit`). No call after `new` takes memory: none has an answer for want of it.
 //! - A table is a list of slots of each peer, each with a state (vacant, being written, with a message) and a buffer of
 //!   8,296 bytes; each call is one equation on it (`specs/TableState.antt`). Only what stands in the buffer of a slot
 //!   that was just opened is left open.

@@ -42,13 +42,13 @@ struct Entries {
 
 impl Model for Entries {
     ghost use Rattle.std.specs.Prelude.{List, [], ◌∷◌, ◌++◌, ◌≤◌, vec_len, vec_capacity};
-    ghost use Rattle.part_window.specs.PaddedLists.{padded};
+    ghost use Rattle.part_window.specs.PaddedLists.{with_padding};
     ghost use Rattle.part_window.specs.Order.{blank_entry};
     ghost use Rattle.part_window.specs.declared.order.DueEntry.{DueEntry};
 
     ghost Value = { List DueEntry };
 
-    ghost view = { λ e. padded e.written.items blank_entry e.places ++ e.head ∷ [] };
+    ghost view = { λ e. with_padding e.written.items blank_entry e.places ++ e.head ∷ [] };
 
     ghost invariant = { λ e. (vec_len e.written ≤ e.places)
         × (e.places ≤ vec_capacity e.written) };

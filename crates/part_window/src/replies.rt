@@ -11,7 +11,7 @@
 //!   makes room for the reply of a new one.
 //! - `new` gives each other node the slots of its own number of credits (`IsNew`). `held` is how many slots had a
 //!   request run in them, `number` the number of a slot's message.
-//! - The buffer that a place lends takes what is written, and nothing else (`Place::buffer`, `seal`). No call after
+//! - The buffer that a place lends takes what is written, and nothing else (`Place::buffer`, `commit`). No call after
 //!   `new` takes memory: none has an answer for want of it.
 
 ghost use Rattle.std.specs.Prelude.{◌≡◌, ℕ, ◌<◌, ◌≤◌, length, IfOk};
@@ -101,8 +101,8 @@ impl ReplySlots {
     }
 
     /// Opens the slot for the reply to a request that was judged new: its number becomes the slot's last, the reply
-    /// kept before is gone, and the buffer is lent until the reply is sealed. It is never refused. Where the place is
-    /// dropped unsealed, the slot has no reply.
+    /// kept before is gone, and the buffer is lent until the reply is committed. It is never refused. Where the place
+    /// is dropped uncommitted, the slot has no reply.
     pub fn place(&mut self, from: u16, slot: u16, number: u64) -> Place<'_>
         requires in_range { slot < slot_count self.old from }
         requires new { JudgesAt self.old from slot number new_number }
@@ -119,7 +119,7 @@ impl ReplySlots {
     }
 
     /// The reply that a slot of the node `from` keeps: `None` exactly where nothing ran in the slot or its reply is not
-    /// sealed.
+    /// committed.
     pub fn bytes(&self, from: u16, slot: u16) -> Option<&[u8]>
         requires { slot < slot_count self.now from }
         ensures { option_copied result ≡ kept_message_at self.now from slot }
@@ -146,7 +146,7 @@ impl ReplySlots {
 
 impl ReplySlots {
     ghost use Rattle.part_window.specs.RepliesState.{IsOpenedAt, opened_bytes_at, with_slot_changed};
-    ghost use Rattle.part_window.specs.RepliesState.{with_written, sealed, slot_count, Places};
+    ghost use Rattle.part_window.specs.RepliesState.{with_written, as_committed, slot_count, Places};
     ghost use Rattle.part_window.specs.ReplyLending.{replies_row};
 
     fn open(&mut self, from: u16, slot: u16, number: u64)
@@ -168,18 +168,18 @@ impl ReplySlots {
         self.table.buffer_mut(from, slot)
     }
 
-    fn seal(&mut self, from: u16, slot: u16, len: usize)
+    fn commit(&mut self, from: u16, slot: u16, len: usize)
         requires in_range { slot < slot_count self.old from }
         requires fits { len ≤ BUFFER_BYTES }
-        ensures { self.new ≡ with_slot_changed self.old from slot (sealed len) }
+        ensures { self.new ≡ with_slot_changed self.old from slot (as_committed len) }
     {
-        self.table.seal(from, slot, len);
+        self.table.commit(from, slot, len);
     }
 }
 
 /// A slot that was opened for a reply, which is still to be written.
 ///
-/// Where it is dropped unsealed, the request counts as run and the slot has no reply.
+/// Where it is dropped uncommitted, the request counts as run and the slot has no reply.
 #[derive(Drop)]
 pub struct Place<'a> {
     from: u16,
@@ -189,11 +189,11 @@ pub struct Place<'a> {
 
 impl<'a> Place<'a> {
     ghost use Rattle.part_window.specs.RepliesState.{slot_count, opened_bytes_at, IsOpenedAt};
-    ghost use Rattle.part_window.specs.RepliesState.{with_slot_changed, sealed};
+    ghost use Rattle.part_window.specs.RepliesState.{with_slot_changed, as_committed};
     ghost use Rattle.part_window.specs.ReplyLending.{place_row, with_place_written, table_of, node_of};
     ghost use Rattle.part_window.specs.ReplyLending.{slot_of};
 
-    /// The slot's buffer, of `BUFFER_BYTES` bytes, to write the reply at its front.
+    /// The slot's buffer, of `BUFFER_BYTES` bytes, to write the reply at its prefix.
     pub fn buffer(&mut self) -> &mut [u8]
         requires { IsOpenedAt (table_of self.old) (node_of self.old) (slot_of self.old) }
         ensures* writes_back { sem 𝓛 (Lends place_row (Array byte 0) self.entry result
@@ -208,16 +208,16 @@ impl<'a> Place<'a> {
     }
 
     /// Ends the place: the slot's reply is the first `len` bytes of its buffer.
-    pub fn seal(self, len: usize)
+    pub fn commit(self, len: usize)
         requires in_range { slot_of self < slot_count (table_of self) (node_of self) }
         requires some { 1 ≤ len }
         requires fits { len ≤ BUFFER_BYTES }
         ensures { let table_left = self.exit.1.1.0.now in
             table_left ≡ with_slot_changed (table_of self.entry)
-            (node_of self.entry) (slot_of self.entry) (sealed len) }
+            (node_of self.entry) (slot_of self.entry) (as_committed len) }
     {
         let from = self.from;
         let slot = self.slot;
-        self.table.seal(from, slot, len);
+        self.table.commit(from, slot, len);
     }
 }

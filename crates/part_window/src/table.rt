@@ -29,7 +29,7 @@ pub const BUFFER_BYTES: usize = PART_BYTES;
 /// The most slots of all peers together: each has a part of one block.
 pub const MAX_SLOTS: usize = MAX_PARTS;
 
-// What stands in a slot: a message that is being written and one that is sealed have a number and a time.
+// What stands in a slot: a message that is being written and one that is committed have a number and a time.
 #[derive(Clone, Copy, Drop)]
 enum Contents {
     Nothing,
@@ -58,13 +58,13 @@ struct ContentsList {
 
 impl Model for ContentsList {
     ghost use Rattle.std.specs.Prelude.{List, ◌≤◌, vec_len, vec_capacity};
-    ghost use Rattle.part_window.specs.PaddedLists.{padded};
+    ghost use Rattle.part_window.specs.PaddedLists.{with_padding};
     ghost use Rattle.part_window.specs.declared.table.Contents.{Contents};
     ghost use Rattle.part_window.specs.declared.table.Contents.TheVariants.{Nothing};
 
     ghost Value = { List Contents };
 
-    ghost view = { λ c. padded c.written.items Nothing c.slots };
+    ghost view = { λ c. with_padding c.written.items Nothing c.slots };
 
     ghost invariant = { λ c. (vec_len c.written ≤ c.slots) × (c.slots ≤ vec_capacity c.written) };
 }
@@ -255,8 +255,8 @@ fn put(
 impl SlotTable {
     ghost use Rattle.part_window.specs.TableState.{is_vacant, is_taken, HasSlot, slot_in, slots_of};
     ghost use Rattle.part_window.specs.TableState.{number_of, message_number, message_of, opened_time};
-    ghost use Rattle.part_window.specs.TableState.{place_of, IsOpened, OpensSlot, with_change, sealed};
-    ghost use Rattle.part_window.specs.TableState.{sent_again, with_written, opened_bytes_in, Vacant};
+    ghost use Rattle.part_window.specs.TableState.{place_of, IsOpened, OpensSlot, with_change, as_committed};
+    ghost use Rattle.part_window.specs.TableState.{as_retransmitted, with_written, opened_bytes_in, Vacant};
     ghost use Rattle.part_window.specs.TableState.{new_table, counts_of};
     ghost use Rattle.part_window.specs.TableLending.{table_row};
     ghost use Rattle.std.specs.Prelude.{IsSomeAnd, option_and_then};
@@ -351,7 +351,7 @@ impl SlotTable {
         }
     }
 
-    /// The number of the message in a slot of the peer `to`: `None` exactly where it is not sealed.
+    /// The number of the message in a slot of the peer `to`: `None` exactly where it is not committed.
     pub fn message_number(&self, to: u16, slot: u16) -> Option<u64>
         requires { HasSlot self.now to slot }
         ensures { result ≡ option_and_then message_number (slot_in self.now to slot) }
@@ -362,7 +362,7 @@ impl SlotTable {
         }
     }
 
-    /// The message of a slot of the peer `to`: `None` exactly where it is not sealed.
+    /// The message of a slot of the peer `to`: `None` exactly where it is not committed.
     pub fn message(&self, to: u16, slot: u16) -> Option<&[u8]>
         requires { HasSlot self.now to slot }
         ensures { option_copied result ≡ option_and_then message_of (slot_in self.now to slot) }
@@ -402,12 +402,12 @@ impl SlotTable {
         self.block.part_mut(place)
     }
 
-    /// Seals a slot of the peer `to`, where it is opened: its message is the first `len` bytes of its buffer.
+    /// Commits a slot of the peer `to`, where it is opened: its message is the first `len` bytes of its buffer.
     /// Gives the time with which it was opened: `None` exactly where it was not.
-    pub fn seal(&mut self, to: u16, slot: u16, len: usize) -> Option<u64>
+    pub fn commit(&mut self, to: u16, slot: u16, len: usize) -> Option<u64>
         requires in_range { HasSlot self.old to slot }
         requires fits { len ≤ BUFFER_BYTES }
-        ensures changed { self.new ≡ with_change self.old to slot (sealed len) }
+        ensures changed { self.new ≡ with_change self.old to slot (as_committed len) }
         ensures time { result ≡ option_and_then opened_time (slot_in self.old to slot) }
     {
         let place = place_in(&self.peers, to, slot);
@@ -427,7 +427,7 @@ impl SlotTable {
     /// Notes that the message of a slot of the peer `to`, where it has one, is sent at `now`.
     pub fn send_again(&mut self, to: u16, slot: u16, now: u64)
         requires { HasSlot self.old to slot }
-        ensures { self.new ≡ with_change self.old to slot (sent_again now) }
+        ensures { self.new ≡ with_change self.old to slot (as_retransmitted now) }
     {
         let place = place_in(&self.peers, to, slot);
         if let Contents::Message(number, _, len) = self.contents.get(place) {

@@ -26,7 +26,7 @@ use Rattle.node_collectives.specs.CollectivesState.{CollectivesState, progress_o
 use Rattle.node_collectives.specs.Ends.{calls_behind, end_told, poll_call, segment_in, tried_answer}
 use Rattle.node_collectives.specs.Progress.{end_refusal, is_left, is_open, start_ask, start_refusal, step_ask}
 use Rattle.node_collectives.specs.Starts.{start_told, started_then}
-use Rattle.node_collectives.specs.Steps.{noted, step_call, step_told}
+use Rattle.node_collectives.specs.Steps.{after_ask, step_call, step_told}
 use Rattle.node_collectives.specs.declared.answers.EndAnswer.{EndAnswer}
 use Rattle.node_collectives.specs.declared.answers.EndAnswer.TheVariants as ends
 use Rattle.node_collectives.specs.declared.answers.StartAnswer.{StartAnswer}
@@ -125,7 +125,7 @@ passed : (at : TryContext) (to many : ℕ) (node : Node EndpointLocal) (it : Col
 passed at to many node it a here deeper e same none =
     let call = step_call it at.thread to in
     let next = node_then (site_of at) node call in
-    let both = behind_same at to many node next (noted it to (Some (asked_answer a)))
+    let both = behind_same at to many node next (after_ask it to (Some (asked_answer a)))
     (ap (asked_then at node to (said_to at to it)) e ∙ same) here deeper in
     let Rest : Outcome StepAnswer → Type 0 =
     λ rest. (KeptFits node.local → KeptFits (node_in_the_end (site_of at) next rest.calls).local)

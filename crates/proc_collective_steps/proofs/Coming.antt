@@ -8,7 +8,7 @@ use Rattle.node_collectives.specs.CollectivesState.{CollectivesState, progress_o
 use Rattle.node_collectives.specs.Ends.{EndAsked, Ends, IsLong, Tries, end_calls, ended_then, segment_in}
 use Rattle.node_collectives.specs.Progress.{end_refusal, is_left, is_open, start_refusal}
 use Rattle.node_collectives.specs.Starts.{Calls, CallsOne, Refuses, StartAsked, Starts, start_call, start_told, started_then}
-use Rattle.node_collectives.specs.Steps.{Rests, Sends, Steps, StepsFrom, noted, step_call, step_told}
+use Rattle.node_collectives.specs.Steps.{Rests, Sends, Steps, StepsFrom, after_ask, step_call, step_told}
 use Rattle.node_collectives.specs.declared.answers.EndAnswer.{EndAnswer}
 use Rattle.node_collectives.specs.declared.answers.StartAnswer.{StartAnswer}
 use Rattle.node_collectives.specs.declared.answers.StepAnswer.{StepAnswer}
@@ -118,7 +118,7 @@ rest_came : {K : Type 0} (caller : Ghosts K) → Follows caller → (thread to m
     → Deeper caller thread (suc to) many answer next new
     → let call = step_call it thread to in
     caller.site between ≡ caller.site old → caller.stands between (caller.after (caller.site old) whole call)
-    → (stop : Option StepAnswer) → RestsSo caller thread to many between (noted it to said) answer next new stop
+    → (stop : Option StepAnswer) → RestsSo caller thread to many between (after_ask it to said) answer next new stop
     → Came caller (caller.site old) whole (behind_call call
     (rest_from (caller.site old) thread to many (node_then (caller.site old) (node_of caller old whole) call) it said stop))
     answer next new
@@ -132,7 +132,7 @@ rest_came caller follows thread to many it old answer next new whole said betwee
 rest_came caller follows thread to many it old answer next new whole said between deeper same left None rests =
     let call = step_call it thread to in
     let site = caller.site old in
-    let after = noted it to said in
+    let after = after_ask it to said in
     let later = caller.after site whole call in
     let there = subst (λ (at : Site). Came caller at later
     (step_from at thread (suc to) many (caller.record_in at later) after) answer next new) same
@@ -158,10 +158,10 @@ asked_came {K} caller never follows thread to many it old answer next new whole 
     let sends = on.3 in
     let one = one_came caller never old call sends.told between sends.called whole stands in
     let stop_is : stop ≡ step_told to said = sends.stop_is ∙ ap (step_told to) one.answered in
-    let after_is : after ≡ noted it to said = sends.next_is ∙ ap (noted it to) one.answered in
+    let after_is : after ≡ after_ask it to said = sends.next_is ∙ ap (after_ask it to) one.answered in
     rest_came caller follows thread to many it old answer next new whole said between deeper sends.called.site one.left
     (step_told to said)
-    (subst (RestsSo caller thread to many between (noted it to said) answer next new) stop_is
+    (subst (RestsSo caller thread to many between (after_ask it to said) answer next new) stop_is
     (subst (λ (a : CollectivesState). RestsSo caller thread to many between a answer next new stop) after_is on.4))
 
 steps_came : {K : Type 0} (caller : Ghosts K) → caller.may_lack ≡ false → Follows caller → (thread to many : ℕ)

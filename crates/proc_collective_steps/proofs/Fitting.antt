@@ -20,7 +20,7 @@ use Rattle.node_collectives.specs.CollectivesState.{CollectivesState, progress_o
 use Rattle.node_collectives.specs.Ends.{calls_behind, ended_then, result_in, segment_in, set_call, tried_answer}
 use Rattle.node_collectives.specs.Progress.{Progress, data_of_all, end_refusal, is_left, is_open, start_refusal, writes_from}
 use Rattle.node_collectives.specs.Starts.{start_call, start_told, started_then}
-use Rattle.node_collectives.specs.Steps.{noted, step_call, step_told}
+use Rattle.node_collectives.specs.Steps.{after_ask, step_call, step_told}
 use Rattle.node_collectives.specs.declared.answers.Argument.TheVariants as arguments
 use Rattle.node_collectives.specs.declared.answers.EndAnswer.{EndAnswer}
 use Rattle.node_collectives.specs.declared.answers.EndAnswer.TheVariants as ends
@@ -141,7 +141,7 @@ end_far at dest node it fits = by_refusal (end_refusal it.area it.settings.segme
 -- ---- a step
 
 noted_fits : (it : CollectivesState) (to : ℕ) (told : Option Answer) → CollectivesFit it
-    → CollectivesFit (noted it to told)
+    → CollectivesFit (after_ask it to told)
 noted_fits it to told fits =
     record { count = fits.count; word = fits.word; nodes = fits.nodes; room = fits.room }
 
@@ -150,7 +150,7 @@ record IsOpen (it : CollectivesState) : Type 0 where
   pub opened : it.ended < it.started
   pub fits : CollectivesFit it
 
-noted_open : (it : CollectivesState) (to : ℕ) (told : Option Answer) → IsOpen it → IsOpen (noted it to told)
+noted_open : (it : CollectivesState) (to : ℕ) (told : Option Answer) → IsOpen it → IsOpen (after_ask it to told)
 noted_open it to told is = record { opened = is.opened; fits = noted_fits it to told is.fits }
 
 payload_fits : (it : CollectivesState) (to offset : ℕ) (use_ : Bool)
@@ -182,7 +182,7 @@ rest_fits : (site : Site) (thread to many : ℕ) (next : Node EndpointLocal) (it
     → Fits (rest_from site thread to many next it told stop)
 rest_fits site thread to many next it told is deeper (Some end) =
     record { calls = tt; next = noted_fits it to told is.fits }
-rest_fits site thread to many next it told is deeper None = deeper next (noted it to told) (noted_open it to told is)
+rest_fits site thread to many next it told is deeper None = deeper next (after_ask it to told) (noted_open it to told is)
 
 left_fits : (site : Site) (thread to many : ℕ) (node : Node EndpointLocal) (it : CollectivesState) → IsOpen it
     → Deeper site thread (suc to) many → (left : Bool) → Fits (from_left site thread to many node it left)

@@ -25,7 +25,7 @@ use Rattle.node_rules.specs.declared.answer.Answer.{Answer}
 use Rattle.node_collectives.specs.CollectivesState.{CollectivesState, progress_of}
 use Rattle.node_collectives.specs.Ends.{calls_behind, result_in, segment_in, set_call, tried_answer}
 use Rattle.node_collectives.specs.Progress.{end_refusal, is_left, is_open, start_ask, start_refusal, step_ask, writes_from}
-use Rattle.node_collectives.specs.Steps.{noted, step_call, step_told}
+use Rattle.node_collectives.specs.Steps.{after_ask, step_call, step_told}
 use Rattle.node_collectives.specs.declared.answers.EndAnswer.{EndAnswer}
 use Rattle.node_collectives.specs.declared.answers.EndAnswer.TheVariants as ends
 use Rattle.node_collectives.specs.declared.answers.StartAnswer.{StartAnswer}
@@ -244,7 +244,7 @@ passed_goes : (at : TryContext) (to many : ℕ) (node : Node EndpointLocal) (it 
     → sends (asked_answer a) ≡ None
     → let site = site_of at in
     let next = node_then site node (step_call it at.thread to) in
-    let rest = step_from site at.thread (suc to) many next (noted it to (Some (asked_answer a))) in
+    let rest = step_from site at.thread (suc to) many next (after_ask it to (Some (asked_answer a))) in
     Keeps at (node_in_the_end site next rest.calls)
     → Goes at node (step_call it at.thread to ∷ rest.calls)
     (option_to_list (sent_by (last_from site (Some (asked_answer a)) next rest.calls)))
@@ -252,7 +252,7 @@ passed_goes at to many node it a sound keeps deeper e none spelled quiet end =
     let site = site_of at in
     let what = said_to at to it in
     let next = node_then site node (step_call it at.thread to) in
-    let after = noted it to (Some (asked_answer a)) in
+    let after = after_ask it to (Some (asked_answer a)) in
     let rest = step_from site at.thread (suc to) many next after in
     let one = unsent at node to what a sound keeps e none spelled in
     goes_quiet at node (Requests to what) rest.calls

@@ -13,7 +13,7 @@ use Rattle.node_rules.specs.EndpointRules.{asked_answer}
 use Rattle.node_rules.specs.declared.answer.Answer.{Answer}
 use Rattle.node_collectives.specs.CollectivesState.{CollectivesState, has, progress_of}
 use Rattle.node_collectives.specs.Progress.{first_node, is_left, is_open, has_exhausted}
-use Rattle.node_collectives.specs.Steps.{noted, step_call, step_told}
+use Rattle.node_collectives.specs.Steps.{after_ask, step_call, step_told}
 use Rattle.node_collectives.specs.declared.answers.StepAnswer.{StepAnswer}
 use Rattle.node_caller.specs.Sites.{Site, node_then}
 use Rattle.proc_collective_steps.specs.Outcomes.{Outcome, is_nothing, step_from, step_outcome}
@@ -54,7 +54,7 @@ then_at it between next node first second = record {
 }
 
 noted_at : (it : CollectivesState) (to node : ℕ) (a : Asked) → node ≢ to
-    → IsLeftAt it (noted it to (Some (asked_answer a))) node
+    → IsLeftAt it (after_ask it to (Some (asked_answer a))) node
 noted_at it to node (asked.Accepted peer slot number) apart =
     record { me_is = refl; sent = set_apart it.sent to node true apart; exhausted = refl }
 noted_at it to node (asked.Forbidden why) apart = same_at it node
@@ -83,7 +83,7 @@ stop_below site thread to many next it other low deeper a (Some end) =
 stop_below site thread to many next it other low deeper a None =
     let apart : other ≢ to = omega (arith, low) in
     let under : other < suc to = omega (arith, low) in
-    let there = noted it to (Some (asked_answer a)) in
+    let there = after_ask it to (Some (asked_answer a)) in
     then_at it there (step_from site thread (suc to) many next there).next other (noted_at it to other a apart)
     (deeper next there other under)
 

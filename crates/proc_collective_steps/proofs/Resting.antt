@@ -6,7 +6,7 @@ use Rattle.node_rules.specs.EndpointLocal.{EndpointLocal}
 use Rattle.node_rules.specs.EndpointRules.{asked_answer}
 use Rattle.node_rules.specs.declared.answer.Answer.{Answer}
 use Rattle.node_collectives.specs.CollectivesState.{CollectivesState}
-use Rattle.node_collectives.specs.Steps.{noted, step_call, step_told}
+use Rattle.node_collectives.specs.Steps.{after_ask, step_call, step_told}
 use Rattle.node_collectives.specs.declared.answers.StepAnswer.{StepAnswer}
 use Rattle.node_collectives.specs.declared.answers.StepAnswer.TheVariants as steps
 use Rattle.node_caller.specs.Sites.{Site, answer_at, node_then}
@@ -16,8 +16,8 @@ use Rattle.proc_collective_steps.specs.Outcomes.{Outcome, behind_call, step_from
 abbrev pub rest_from : Site → (thread to many : ℕ) → (next : Node EndpointLocal) → CollectivesState → Option Answer
     → Option StepAnswer → Outcome StepAnswer
 rest_from site thread to many next it told stop = elim stop [
-  | Some end ↦ without_calls end (noted it to told)
-  | None ↦ step_from site thread (suc to) many next (noted it to told)
+  | Some end ↦ without_calls end (after_ask it to told)
+  | None ↦ step_from site thread (suc to) many next (after_ask it to told)
 ]
 
 -- behind the call to a node

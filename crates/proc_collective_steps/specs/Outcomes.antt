@@ -11,7 +11,7 @@ use Rattle.node_collectives.specs.CollectivesState.{CollectivesState, progress_o
 use Rattle.node_collectives.specs.Ends.{EndAsked, end_calls, ended_then, segment_in, tried_answer}
 use Rattle.node_collectives.specs.Progress.{end_refusal, is_left, is_open, start_refusal, exhausted_node}
 use Rattle.node_collectives.specs.Starts.{StartAsked, start_call, start_told, started_then}
-use Rattle.node_collectives.specs.Steps.{noted, step_call, step_told}
+use Rattle.node_collectives.specs.Steps.{after_ask, step_call, step_told}
 use Rattle.node_collectives.specs.declared.answers.EndAnswer.{EndAnswer}
 use Rattle.node_collectives.specs.declared.answers.EndAnswer.TheVariants as ends
 use Rattle.node_collectives.specs.declared.answers.StartAnswer.{StartAnswer}
@@ -58,8 +58,8 @@ step_from site thread to (suc many) node it = elim (is_left it.me to (progress_o
   | true ↦ (let call = step_call it thread to in
       let told = Some (answer_at site node call) in
       behind_call call (elim (step_told to told) [
-        | Some end ↦ without_calls end (noted it to told)
-        | None ↦ step_from site thread (suc to) many (node_then site node call) (noted it to told)
+        | Some end ↦ without_calls end (after_ask it to told)
+        | None ↦ step_from site thread (suc to) many (node_then site node call) (after_ask it to told)
       ]))
 ]
 

@@ -17,7 +17,7 @@ use Rattle.node_rules.specs.declared.answer.Answer.{Answer}
 use Rattle.node_collectives.specs.CollectivesState.{CollectivesState, progress_of}
 use Rattle.node_collectives.specs.Ends.{calls_behind, result_in, segment_in, set_call, tried_answer}
 use Rattle.node_collectives.specs.Progress.{end_refusal, is_left, is_open, start_refusal, writes_from}
-use Rattle.node_collectives.specs.Steps.{noted, step_call, step_told}
+use Rattle.node_collectives.specs.Steps.{after_ask, step_call, step_told}
 use Rattle.node_collectives.specs.declared.answers.EndAnswer.{EndAnswer}
 use Rattle.node_collectives.specs.declared.answers.EndAnswer.TheVariants as ends
 use Rattle.node_collectives.specs.declared.answers.StartAnswer.{StartAnswer}
@@ -66,8 +66,8 @@ start_may May each at shape from node it =
 abbrev by_answer : Site → (thread to many : ℕ) → (next : Node EndpointLocal) → CollectivesState → (told : Option Answer)
     → Option StepAnswer → Outcome StepAnswer
 by_answer site thread to many next it told stop = elim stop [
-  | Some end ↦ without_calls end (noted it to told)
-  | None ↦ step_from site thread (suc to) many next (noted it to told)
+  | Some end ↦ without_calls end (after_ask it to told)
+  | None ↦ step_from site thread (suc to) many next (after_ask it to told)
 ]
 
 -- from a node on, by whether it is left
@@ -94,7 +94,7 @@ answer_may : (May : ThreadCall → Type 0) (site : Site) (thread to many : ℕ) 
     → (next : Node EndpointLocal) (it : CollectivesState) (told : Option Answer) (stop : Option StepAnswer)
     → AllMay May (by_answer site thread to many next it told stop).calls
 answer_may May site thread to many deeper next it told (Some end) = tt
-answer_may May site thread to many deeper next it told None = deeper next (noted it to told)
+answer_may May site thread to many deeper next it told None = deeper next (after_ask it to told)
 
 node_may : (May : ThreadCall → Type 0) → MayEach May → (site : Site) (thread to many : ℕ)
     → Deeper May site thread (suc to) many → (node : Node EndpointLocal) (it : CollectivesState) (left : Bool)

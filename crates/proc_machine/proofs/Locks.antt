@@ -26,15 +26,15 @@ use Rattle.spec_node.specs.Behaviour.{Ask, Contact}
 use Rattle.spec_node.specs.NodeStep.{Asks, Does, Comes, Ticks, site_of, node_after, node_answer}
 use Rattle.spec_node.specs.Record.{Node}
 use Rattle.spec_node.specs.Step.{Verdict, Runs, Returns, verdict, after_delivery, request_answer, after_request}
-use Rattle.spec_node.specs.Step.{said, with_itself, is_exhausted, TickChoice, Retransmits, Sends, Rests, tick_choice}
+use Rattle.spec_node.specs.Step.{request_content, with_itself, is_exhausted, TickChoice, Retransmits, Sends, Rests, tick_choice}
 use Rattle.spec_node.specs.Step.{after_tick}
 use Rattle.node_core.specs.HandlerRuns.{handlers_of, run_reply}
 use Rattle.node_core.specs.Kept.{Local}
-use Rattle.node_core.specs.Library.{note_handler}
+use Rattle.node_core.specs.Library.{notification_handler}
 use Rattle.node_rules.specs.Called.{Requests, Performs, node_event}
 use Rattle.node_rules.specs.CoreCalls.{Lock}
 use Rattle.node_rules.specs.EndpointLocal.{EndpointLocal}
-use Rattle.node_rules.specs.EndpointRules.{OnCore, RecordEvent, job_of, told}
+use Rattle.node_rules.specs.EndpointRules.{OnCore, RecordEvent, job_of, answer_told}
 use Rattle.node_rules.specs.Touches.{touches}
 use Rattle.node_rules.proofs.Frames.{call_framed}
 use Rattle.node_rules.specs.TransferCalls.{Caller, SyncHandle}
@@ -80,7 +80,7 @@ tick_keeps : (settings : Parameters) (table : List (Option Entry)) (meaning : Me
     → locks_in (after_tick (site_of (job_of settings table meaning) me) node now choice) ≡ locks_in node
 tick_keeps settings table meaning me now node (Retransmits due) = refl
 tick_keeps settings table meaning me now node (Sends sending) =
-    elim (cases_Bool (sending.content.handler == note_handler)) [ inl e ↦ rw e refl | inr e ↦ rw e refl ]
+    elim (cases_Bool (sending.content.handler == notification_handler)) [ inl e ↦ rw e refl | inr e ↦ rw e refl ]
 tick_keeps settings table meaning me now node Rests = refl
 
 request_keeps : (settings : Parameters) (table : List (Option Entry)) (meaning : Meaning) (me now : ℕ)
@@ -89,7 +89,7 @@ request_keeps : (settings : Parameters) (table : List (Option Entry)) (meaning :
 request_keeps settings table meaning me now node ask (asked.Accepted to slot number) = refl
 request_keeps settings table meaning me now node ask asked.Ran =
     let site = site_of (job_of settings table meaning) me in
-    let out = site.behaviour.run (with_itself me) (said site node ask) node.local in
+    let out = site.behaviour.run (with_itself me) (request_content site node ask) node.local in
     reply_keeps settings table meaning (with_itself me) out.1 out.0.core
 request_keeps settings table meaning me now node ask (asked.Forbidden forbidden) = refl
 request_keeps settings table meaning me now node ask _ = refl
@@ -176,7 +176,7 @@ lock_waits : (settings : Parameters) (table : List (Option Entry)) (meaning : Me
     (node : Node EndpointLocal)
     → let job = job_of settings table meaning in
     let event : RecordEvent = node_event thread (Performs (OnCore (Lock lock))) in
-    unless (is_held (told (node_answer job me node now event))) (told (node_answer job me node now event)) ≡ None
+    unless (is_held (answer_told (node_answer job me node now event))) (answer_told (node_answer job me node now event)) ≡ None
     → locks_in (node_after job me node now event) ≡ locks_in node
 lock_waits settings table meaning me thread now lock node waits =
     held_stays (locks_in node) thread lock (lock_answer (locks_in node) (owner.Thread thread) lock 0) refl

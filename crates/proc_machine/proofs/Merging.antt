@@ -9,14 +9,14 @@ use Rattle.text_job.specs.Scopes.{scope_of}
 use Rattle.text_job.specs.declared.job.CollectArea.{CollectArea}
 use Rattle.text_job.specs.declared.job.Job.{Job as JobState}
 use Rattle.text_steps.specs.declared.steps.ScriptStep.{ScriptStep}
-use Rattle.base_turns.specs.Replay.{after_entry, replayed}
+use Rattle.base_turns.specs.Replay.{after_entry, replay_state}
 use Rattle.base_turns.specs.declared.entry.Entry.{Entry}
 use Rattle.text_script.specs.Bodies.{script_meaning}
-use Rattle.text_script.specs.Registration.{handlers_of, registered}
+use Rattle.text_script.specs.Registration.{handlers_of, registry_of}
 use Rattle.law_traces.specs.Actions.{IfFar, OwnScripts}
 use Rattle.law_traces.specs.Fitting.{CollectivesFit}
-use Rattle.law_traces.specs.Merged.{Carries, carried, nodes_from}
-use Rattle.law_traces.specs.Order.{Ranked, job_steps}
+use Rattle.law_traces.specs.Merged.{Carries, with_machine_of, nodes_from}
+use Rattle.law_traces.specs.Order.{RankedMachine, job_steps}
 use Rattle.law_traces.specs.WorldRun.{opening_machines}
 use Rattle.law_traces.proofs.WorldRuns.{states_run}
 use Rattle.proc_steps.proofs.Fits.{job_fits}
@@ -53,7 +53,7 @@ opening_far job node is = by_area job.collect is.collect
 
 pub traces_run : StepsFit → AreTracesARun
 traces_run fit job traces ranks is few reaches =
-    states_run job.settings (registered (handlers_of job)).table (script_meaning (handlers_of job)) step_form
+    states_run job.settings (registry_of (handlers_of job)).table (script_meaning (handlers_of job)) step_form
     (state_of job)
     state_steps (scripts_at job) traces ranks
     (job_fits job.settings (handlers_of job) is.settings is.job_fits is.last_fits is.handlers)
@@ -64,7 +64,7 @@ traces_run fit job traces ranks is few reaches =
 -- ---- the nodes before all turns, and the replays of their traces
 
 node_at : (job : JobState) (first node : ℕ) (traces : List (List Entry))
-    → slice_get (map (carried (state_of job))
+    → slice_get (map (with_machine_of (state_of job))
     (nodes_from (opening_machines job.settings (scripts_at job)) first traces)) node
     ≡ option_map (opening_node job (first + node)) (slice_get traces node)
 node_at job first node [] = refl
@@ -81,9 +81,9 @@ nodes_open job traces node =
     let same : 0 + node ≡ node = omega arith in
     node_at job 0 node traces ∙ ap (λ (me : ℕ). option_map (opening_node job me) (slice_get traces node)) same
 
-replay_is : (job : JobState) (ranked : Ranked EndpointLocal (OwnScripts ScriptStep)) (entries : List Entry)
-    → replayed state_steps (state_of job ranked) entries
-    ≡ state_of job (replayed (job_steps (script_job job)) ranked entries)
+replay_is : (job : JobState) (ranked : RankedMachine EndpointLocal (OwnScripts ScriptStep)) (entries : List Entry)
+    → replay_state state_steps (state_of job ranked) entries
+    ≡ state_of job (replay_state (job_steps (script_job job)) ranked entries)
 replay_is job ranked [] = refl
 replay_is job ranked (entry ∷ entries) =
     replay_is job (after_entry (job_steps (script_job job)) ranked entry) entries

@@ -23,7 +23,7 @@ use Rattle.text_steps.specs.declared.steps.ScriptStep.{ScriptStep}
 use Rattle.text_calls.specs.declared.scope.Scope.{Scope}
 use Rattle.proc_steps.specs.Forms.{IsJobStep}
 use Rattle.proc_steps.specs.Tries.{AreThere}
-use Rattle.text_script.specs.Registration.{handlers_of, registered}
+use Rattle.text_script.specs.Registration.{handlers_of, registry_of}
 use Rattle.law_traces.specs.Actions.{Progress}
 use Rattle.proc_machine.specs.Cursors.{progress_of, progress_of_all}
 use Rattle.proc_machine.specs.declared.cursor.Cursor.{Cursor}
@@ -115,7 +115,7 @@ opened job endpoint collectives scripts =
 
 pub opened_stands : (job : JobState) (me : ℕ) (endpoint : EndpointState) (collectives : Option CollectivesState)
     (scripts : List (Progress ScriptStep))
-    → IsJob job → IsNodeOf job.settings (registered (handlers_of job)).table me endpoint
+    → IsJob job → IsNodeOf job.settings (registry_of (handlers_of job)).table me endpoint
     → EndpointStands endpoint (opening_node (nothing_begun job.settings)) → AreFirst job me job.settings.threads scripts
     → collectives ≡ opening_collectives job me
     → NodeStands (opened job endpoint collectives scripts) (opening_state job me)
@@ -148,7 +148,7 @@ opening_there job me endpoint (Some at) same here = record { settings = same; me
 
 pub opened_is : (job : JobState) (me : ℕ) (endpoint : EndpointState) (collectives : Option CollectivesState)
     (scripts : List (Progress ScriptStep))
-    → IsJob job → IsNodeOf job.settings (registered (handlers_of job)).table me endpoint
+    → IsJob job → IsNodeOf job.settings (registry_of (handlers_of job)).table me endpoint
     → EndpointStands endpoint (opening_node (nothing_begun job.settings)) → AreFirst job me job.settings.threads scripts
     → collectives ≡ opening_collectives job me → IsMachine (opened job endpoint collectives scripts)
 opened_is job me endpoint collectives scripts is node stands first none = record {

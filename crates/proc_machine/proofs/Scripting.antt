@@ -4,13 +4,13 @@ use Rattle.std.proofs.lemmas.Option.{same_Some}
 use Rattle.part_handlers.specs.Runs.{Meaning}
 use Rattle.node_rules.specs.declared.answer.Answer.{Answer}
 use Rattle.text_steps.specs.declared.steps.ScriptStep.{ScriptStep}
-use Rattle.proc_steps.specs.Tries.{Found, Tries}
+use Rattle.proc_steps.specs.Tries.{FoundNode, Tries}
 use Rattle.proc_steps.specs.declared.trial.Trial.{Trial}
 use Rattle.proc_steps.specs.declared.trial.Tried.{Tried}
 use Rattle.proc_machine.specs.Scripted.{TriesNext}
 use Rattle.proc_machine.proofs.Happening.{none_happens}
 
-pub next_tried : (meaning : Meaning) (old new : Found) (trial : Trial) (tried : Tried) (rest : List ScriptStep)
+pub next_tried : (meaning : Meaning) (old new : FoundNode) (trial : Trial) (tried : Tried) (rest : List ScriptStep)
     → Tries meaning old trial tried new
     → TriesNext meaning old (record {
       now = trial.time;
@@ -23,7 +23,7 @@ next_tried meaning old new trial tried rest T = record {
   far = T.far;
 }
 
-pub no_next : (meaning : Meaning) (old : Found) (now thread : ℕ) (began : Option Answer)
+pub no_next : (meaning : Meaning) (old : FoundNode) (now thread : ℕ) (began : Option Answer)
     → TriesNext meaning old (record { now = now; thread = thread; progress = record { left = []; began = began } })
     (record { sent = None; ended = None; began = None }) old
 no_next meaning old now thread began = record {
@@ -45,7 +45,7 @@ none_there [] e = refl
 none_there (first ∷ rest) e = absurd cc
 
 -- a step is tried
-pub next_from : (meaning : Meaning) (old new : Found) (trial : Trial) (tried : Tried) (left : List ScriptStep)
+pub next_from : (meaning : Meaning) (old new : FoundNode) (trial : Trial) (tried : Tried) (left : List ScriptStep)
     → Some trial.step.now ≡ slice_get left 0 → Tries meaning old trial tried new
     → TriesNext meaning old (record {
       now = trial.time;
@@ -61,7 +61,7 @@ next_from meaning old new trial tried left first T =
     }) tried new) (sym it.1) (next_tried meaning old new trial tried it.0 T)
 
 -- there is none
-pub none_from : (meaning : Meaning) (old : Found) (now thread : ℕ) (left : List ScriptStep)
+pub none_from : (meaning : Meaning) (old : FoundNode) (now thread : ℕ) (left : List ScriptStep)
     (began : Option Answer) → None ≡ slice_get left 0
     → TriesNext meaning old (record { now = now; thread = thread; progress = record { left = left; began = began } })
     (record { sent = None; ended = None; began = None }) old

@@ -27,7 +27,7 @@ use Rattle.node_endpoint.specs.EndpointState.{EndpointState, EndpointStands}
 use Rattle.text_job.specs.declared.job.Job.{Job as JobState}
 use Rattle.text_steps.specs.declared.steps.ScriptStep.{ScriptStep}
 use Rattle.text_script.specs.Bodies.{script_meaning}
-use Rattle.text_script.specs.Registration.{JobHandlers, handlers_of, registered}
+use Rattle.text_script.specs.Registration.{JobHandlers, handlers_of, registry_of}
 use Rattle.law_traces.specs.Actions.{Progress, OwnScripts, scripts_of}
 use Rattle.law_traces.specs.Scripts.{NodeJob}
 use Rattle.law_traces.specs.Turn.{MachineState, try_of, datagram, is_some_there}
@@ -35,13 +35,13 @@ use Rattle.law_traces.specs.WorldRun.{endpoint_job}
 use Rattle.law_traces.proofs.Emptying.{empty_turns, or_parts, none_of}
 use Rattle.proc_steps.specs.Forms.{step_form}
 use Rattle.proc_steps.specs.Laws.{WaitingIsCalm}
-use Rattle.proc_steps.specs.Tries.{AreThere, Found}
+use Rattle.proc_steps.specs.Tries.{AreThere, FoundNode}
 use Rattle.proc_machine.specs.Cursors.{progress_of, progress_of_all}
 use Rattle.proc_machine.specs.declared.cursor.Cursor.{Cursor}
 use Rattle.proc_machine.specs.Machines.{MachineTakes}
 use Rattle.proc_machine.specs.Kept.{MachineKept, progress_or_none, own_scripts, own_threads, polls_at, CanBeSaid}
 use Rattle.proc_machine.specs.Kept.{IsMachine}
-use Rattle.proc_machine.specs.NodeState.{NodeState, state_of, script_job, after_turn, turned, datagram_at, as_there}
+use Rattle.proc_machine.specs.NodeState.{NodeState, state_of, script_job, after_turn, turn_result, datagram_at, as_there}
 use Rattle.proc_machine.specs.NodeState.{NodeStands}
 use Rattle.proc_machine.specs.Turns.{job_of_endpoint, TurnTaken, turn_by, is_changed, GoesAsTurn, TakesTurn}
 use Rattle.proc_machine.specs.declared.turn.Done.{Done}
@@ -70,14 +70,14 @@ pub record Turning : Type 0 where
   pub machine : MachineKept
   pub taken : TurnTaken
   pub done : Done
-  pub found : Found
+  pub found : FoundNode
   pub progress : Progress ScriptStep
 
 -- what the machine's turn found
-abbrev pub found_by : MachineKept → Found
+abbrev pub found_by : MachineKept → FoundNode
 found_by machine = record { endpoint = machine.endpoint; collectives = machine.collectives }
 
-abbrev pub found_in : EndpointState → Option CollectivesState → Found
+abbrev pub found_in : EndpointState → Option CollectivesState → FoundNode
 found_in endpoint collectives = record { endpoint = endpoint; collectives = collectives }
 
 -- all that is known of it
@@ -184,13 +184,13 @@ changed_stands it T state S changed =
     }
 
 -- an empty turn leaves the state
-pub empty_leaves : WaitingIsCalm → (state : NodeState) (thread now : ℕ) → (turned state thread now None).changed ≡ false
+pub empty_leaves : WaitingIsCalm → (state : NodeState) (thread now : ℕ) → (turn_result state thread now None).changed ≡ false
     → after_turn state thread now None ≡ state
 empty_leaves calm state thread now quiet =
     ap (λ (machine : MachineState EndpointLocal (OwnScripts ScriptStep)).
     state_of state.job (record { me = state.ranked.me; state = machine }))
     (empty_turns (script_job state.job)
-    (calm state.job.settings (registered (handlers_of state.job)).table (script_meaning (handlers_of state.job)))
+    (calm state.job.settings (registry_of (handlers_of state.job)).table (script_meaning (handlers_of state.job)))
     state.ranked.me thread now state.ranked.state quiet)
 
 none_got : (got : Option (List ℕ)) → is_some got ≡ false → got ≡ None
@@ -212,7 +212,7 @@ quiet_is taken done quiet =
 
 -- what a turn told
 pub told_is : (it : Turning) → IsTurning it → (state : NodeState) → NodeStands it.machine state
-    → turned state it.taken.thread it.taken.now it.taken.got
+    → turn_result state it.taken.thread it.taken.now it.taken.got
     ≡ record {
       changed = is_changed it.taken it.done;
       stepped = is_some it.done.ended;
@@ -242,8 +242,8 @@ quiet_stands calm it T state S quiet =
     let job = script_job state.job in
     let got = (quiet_is it.taken it.done quiet).got in
     let next = turn_by job state.ranked.me it.taken state.ranked.state in
-    let still : (turned state it.taken.thread it.taken.now None).changed ≡ false =
-    subst (λ (o : Option (List ℕ)). (turned state it.taken.thread it.taken.now o).changed ≡ false) got
+    let still : (turn_result state it.taken.thread it.taken.now None).changed ≡ false =
+    subst (λ (o : Option (List ℕ)). (turn_result state it.taken.thread it.taken.now o).changed ≡ false) got
     (F.goes.changed ∙ quiet) in
     let same : after_turn state it.taken.thread it.taken.now it.taken.got ≡ state =
     ap (after_turn state it.taken.thread it.taken.now) got
@@ -317,7 +317,7 @@ copied_some (Some bytes) = refl
 -- ---- from what the code says
 
 -- a machine that has these cursors
-abbrev pub machine_at : JobState → Found → List Cursor → List SlotRef → Option ScriptAnswer → MachineKept
+abbrev pub machine_at : JobState → FoundNode → List Cursor → List SlotRef → Option ScriptAnswer → MachineKept
 machine_at job found cursors outgoing answer = record {
   job = job;
   endpoint = found.endpoint;
@@ -342,7 +342,7 @@ reads_is machine job cursors from thread place cursor same low at is read = reco
 }
 
 -- what is left of the thread's script can be said
-pub read_said : (job : JobState) (found : Found) (cursors : List Cursor) (outgoing : List SlotRef)
+pub read_said : (job : JobState) (found : FoundNode) (cursors : List Cursor) (outgoing : List SlotRef)
     (answer : Option ScriptAnswer) (thread : ℕ) (cursor : Cursor)
     → IsMachine (machine_at job found cursors outgoing answer) → Reads job cursors thread cursor
     → CanBeSaid found.endpoint.core.settings (progress_of cursor)
@@ -351,9 +351,9 @@ read_said job found cursors outgoing answer thread cursor is R =
     (is.said thread (progress_of cursor)
     (slice_get-map progress_of cursors thread ∙ ap (option_map progress_of) R.read))
 
-pub turning_is : (job : JobState) (found : Found) (cursors : List Cursor) (outgoing : List SlotRef)
+pub turning_is : (job : JobState) (found : FoundNode) (cursors : List Cursor) (outgoing : List SlotRef)
     (answer : Option ScriptAnswer) (taken : TurnTaken) (cursor : Cursor) (handlers : JobHandlers) (done : Done)
-    (later : Found) (progress : Progress ScriptStep)
+    (later : FoundNode) (progress : Progress ScriptStep)
     → IsMachine (machine_at job found cursors outgoing answer) → Reads job cursors taken.thread cursor
     → handlers ≡ handlers_of job
     → TakesTurn (script_meaning handlers) (found, progress_of cursor) taken done (later, progress)
@@ -395,16 +395,16 @@ takes_is calm it T = record {
 }
 
 -- both of a machine whose cursors were read and written
-pub record Took (job : JobState) (found : Found) (cursors : List Cursor) (outgoing : List SlotRef)
-    (answer : Option ScriptAnswer) (taken : TurnTaken) (done : Done) (later : Found) (more : List Cursor) : Type 0
+pub record Took (job : JobState) (found : FoundNode) (cursors : List Cursor) (outgoing : List SlotRef)
+    (answer : Option ScriptAnswer) (taken : TurnTaken) (done : Done) (later : FoundNode) (more : List Cursor) : Type 0
   where
     pub is : IsMachine (machine_at job later more outgoing answer)
     pub takes : MachineTakes (machine_at job found cursors outgoing answer) taken done
         (machine_at job later more outgoing answer)
 
-pub took : WaitingIsCalm → (job : JobState) (found : Found) (cursors : List Cursor)
+pub took : WaitingIsCalm → (job : JobState) (found : FoundNode) (cursors : List Cursor)
     (outgoing : List SlotRef) (answer : Option ScriptAnswer) (taken : TurnTaken) (place : ℕ) (cursor next : Cursor)
-    (handlers : JobHandlers) (done : Done) (later : Found)
+    (handlers : JobHandlers) (done : Done) (later : FoundNode)
     → IsMachine (machine_at job found cursors outgoing answer) → Reads job cursors taken.thread cursor
     → place ≡ taken.thread → handlers ≡ handlers_of job
     → TakesTurn (script_meaning handlers) (found, progress_of cursor) taken done (later, progress_of next)
@@ -448,8 +448,8 @@ pub empty_turn : WaitingIsCalm → (old : MachineKept) (taken : TurnTaken) (done
     → MachineTakes old taken done new → is_changed taken done ≡ false → (got : Option (List ℕ)) → taken.got ≡ got
     → got ≡ None → (state : NodeState) → NodeStands old state → NodeStands new state
 empty_turn calm old taken done new M quiet got is none state S =
-    let still : (turned state taken.thread taken.now None).changed ≡ false =
-    subst (λ (o : Option (List ℕ)). (turned state taken.thread taken.now o).changed ≡ false) (is ∙ none)
+    let still : (turn_result state taken.thread taken.now None).changed ≡ false =
+    subst (λ (o : Option (List ℕ)). (turn_result state taken.thread taken.now o).changed ≡ false) (is ∙ none)
     (ap (λ (t : Turned). t.changed) (M.told state S) ∙ quiet) in
     subst (NodeStands new)
     (ap (after_turn state taken.thread taken.now) (is ∙ none) ∙ empty_leaves calm state taken.thread taken.now still)
@@ -459,7 +459,7 @@ empty_turn calm old taken done new M quiet got is none state S =
 pub told_quiet : (old : MachineKept) (taken : TurnTaken) (done : Done) (new : MachineKept)
     → MachineTakes old taken done new → is_changed taken done ≡ false → (state : NodeState) → NodeStands old state
     → ◌≡◌ {A = Turned} (record { changed = false; stepped = false; sends = 0 })
-    (turned state taken.thread taken.now taken.got)
+    (turn_result state taken.thread taken.now taken.got)
 told_quiet old taken done new M quiet state S =
     sym (M.told state S
     ∙ ap₂ (λ (changed stepped : Bool). record {
@@ -474,7 +474,7 @@ pub told_changed : (old : MachineKept) (taken : TurnTaken) (done : Done) (new : 
     → MachineTakes old taken done new → is_changed taken done ≡ true → stepped ≡ is_some done.ended
     → count ≡ length done.outgoing → (state : NodeState) → NodeStands old state
     → ◌≡◌ {A = Turned} (record { changed = true; stepped = stepped; sends = count })
-    (turned state taken.thread taken.now taken.got)
+    (turn_result state taken.thread taken.now taken.got)
 told_changed old taken done new stepped count M changed ends counts state S =
     ap₂ (λ (b : Bool) (n : ℕ). record { changed = true; stepped = b; sends = n }) ends counts
     ∙ sym (M.told state S

@@ -27,12 +27,12 @@ use Rattle.law_traces.specs.Actions.{Progress, OwnScripts, StepContext, collecti
 use Rattle.law_traces.specs.Laws.{GotBytes}
 use Rattle.law_traces.specs.Outgoing.{slot_of_packet, SentStands}
 use Rattle.law_traces.specs.declared.script_answer.ScriptAnswer.{ScriptAnswer}
-use Rattle.law_traces.specs.Scripts.{NodeJob, Tried as FormTried}
+use Rattle.law_traces.specs.Scripts.{NodeJob, TryResult as FormTried}
 use Rattle.law_traces.specs.Turn.{MachineState, before_try, first_events, as_tried, turn_events, tried_answer}
 use Rattle.law_traces.specs.Turn.{node_run, is_some_there, datagram, receiver, packet_message}
 use Rattle.law_traces.proofs.Outgoings.{sent_stand, turns_come_first}
 use Rattle.proc_steps.specs.Forms.{step_form}
-use Rattle.proc_steps.specs.Tries.{AreThere, Found, HasHappened, Happen, IsAtSameNode, context_here, step_here}
+use Rattle.proc_steps.specs.Tries.{AreThere, FoundNode, HasHappened, Happen, IsAtSameNode, context_here, step_here}
 use Rattle.proc_steps.specs.declared.trial.Tried.{Tried}
 use Rattle.proc_machine.specs.Kept.{CanBeSaid}
 use Rattle.proc_machine.specs.Parts.{at_once}
@@ -73,7 +73,7 @@ stand_there settings me node (packet ∷ packets) stand =
 -- ---- a turn of a state
 
 -- of what was tried, as the try of the turn says it
-tried_is : (meaning : Meaning) (old mid : EndpointState) (new : Found) (taken : TurnTaken)
+tried_is : (meaning : Meaning) (old mid : EndpointState) (new : FoundNode) (taken : TurnTaken)
     (state : MachineState EndpointLocal (OwnScripts ScriptStep)) (slots : List SlotRef) (tried : Tried)
     → EndpointStands old state.node
     → Happen meaning old
@@ -108,7 +108,7 @@ tried_is meaning old mid new taken state slots tried stands before tries =
     ∙ so
 
 -- how far the collectives are then, as the turn says it
-far_is : (meaning : Meaning) (old mid : EndpointState) (new : Found) (taken : TurnTaken)
+far_is : (meaning : Meaning) (old mid : EndpointState) (new : FoundNode) (taken : TurnTaken)
     (state : MachineState EndpointLocal (OwnScripts ScriptStep)) (slots : List SlotRef) (tried : Tried)
     → EndpointStands old state.node
     → Happen meaning old
@@ -162,7 +162,7 @@ same_changed got slots packets ended began more less e f h =
     sym (ap₂ (λ (x y : Bool). got || x || y || began) e f ∙ ap (λ (x : Bool). got || packets || more || x) h)
 
 -- a turn of a state for which the endpoint stands
-state_goes : (meaning : Meaning) (old mid : EndpointState) (new : Found) (taken : TurnTaken)
+state_goes : (meaning : Meaning) (old mid : EndpointState) (new : FoundNode) (taken : TurnTaken)
     (state : MachineState EndpointLocal (OwnScripts ScriptStep)) (slots : List SlotRef) (tried : Tried) (done : Done)
     → IsLawfulMeaning meaning → GotBytes taken.got → EndpointStands old state.node
     → Happen meaning old
@@ -290,7 +290,7 @@ still_there old new (Some it) same there = record {
   me_is = there.me_is ∙ sym same.me_is;
 }
 
-pub turn_goes : (meaning : Meaning) (old : Found) (mid : EndpointState) (new : Found) (taken : TurnTaken)
+pub turn_goes : (meaning : Meaning) (old : FoundNode) (mid : EndpointState) (new : FoundNode) (taken : TurnTaken)
     (progress : Progress ScriptStep) (polls : Bool) (slots : List SlotRef) (tried : Tried) (done : Done)
     → IsLawfulMeaning meaning → GotBytes taken.got
     → ForItsRecord old.endpoint (λ node. polls ≡ not (holds (owner.Thread taken.thread) node.local.core.locks))

@@ -15,7 +15,7 @@ use Rattle.proc_steps.specs.Forms.{IsJobStep}
 use Rattle.proc_steps.specs.Tries.{AreThere}
 use Rattle.text_job.specs.declared.job.Job.{Job as JobState}
 use Rattle.text_steps.specs.declared.steps.ScriptStep.{ScriptStep}
-use Rattle.text_script.specs.Registration.{handlers_of, registered}
+use Rattle.text_script.specs.Registration.{handlers_of, registry_of}
 use Rattle.law_traces.specs.Actions.{Progress, OwnScripts}
 
 -- the machine of a node of a job
@@ -69,7 +69,7 @@ polls_at machine thread = not (holds (owner.Thread thread) machine.endpoint.core
 -- what holds of every machine
 pub record IsMachine (machine : MachineKept) : Type 0 where
   pub job : IsJob machine.job
-  pub node : IsNodeOf machine.job.settings (registered (handlers_of machine.job)).table machine.endpoint.core.me
+  pub node : IsNodeOf machine.job.settings (registry_of (handlers_of machine.job)).table machine.endpoint.core.me
       machine.endpoint
   pub there : AreThere machine.endpoint machine.collectives
   pub threads : length machine.scripts ≡ machine.job.settings.threads

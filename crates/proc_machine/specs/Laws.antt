@@ -3,17 +3,17 @@
 use Rattle.std.specs.Prelude.{ℕ, ◌≡◌, ◌≤◌, List, length, map, Some, slice_get}
 use Rattle.std.specs.Option.{option_map}
 use Rattle.base_turns.specs.declared.entry.Entry.{Entry}
-use Rattle.base_turns.specs.Fronts.{Node, start, full, Reaches}
-use Rattle.base_turns.specs.Replay.{replayed}
-use Rattle.spec_network.specs.World.{Timed}
+use Rattle.base_turns.specs.Prefixes.{Node, start, full, Reaches}
+use Rattle.base_turns.specs.Replay.{replay_state}
+use Rattle.spec_network.specs.World.{EventAt}
 use Rattle.node_rules.specs.EndpointRules.{OtherCall}
 use Rattle.text_job.specs.JobText.{IsJob}
 use Rattle.text_job.specs.declared.job.Job.{Job as JobState}
 use Rattle.text_script.specs.Bodies.{script_meaning}
-use Rattle.text_script.specs.Registration.{handlers_of, registered}
+use Rattle.text_script.specs.Registration.{handlers_of, registry_of}
 use Rattle.law_traces.specs.Actions.{scripts_of}
 use Rattle.law_traces.specs.Laws.{nodes_with}
-use Rattle.law_traces.specs.Merged.{carried, order_of}
+use Rattle.law_traces.specs.Merged.{with_machine_of, order_of}
 use Rattle.law_traces.specs.Order.{NodeEntry, own_entries, replay}
 use Rattle.law_traces.specs.WorldRun.{IsWorldRun, opening_machines}
 use Rattle.proc_steps.specs.Forms.{step_form}
@@ -21,7 +21,7 @@ use Rattle.proc_machine.specs.NodeState.{NodeState, state_of, script_job, script
 
 -- the nodes of a job before all turns, each with its trace: the node of rank i is in its opening state
 abbrev pub nodes_of_job : JobState → (traces : List (List Entry)) → List (Node NodeState)
-nodes_of_job job traces = map (carried (state_of job)) (nodes_with job.settings (scripts_at job) traces)
+nodes_of_job job traces = map (with_machine_of (state_of job)) (nodes_with job.settings (scripts_at job) traces)
 
 -- the node of this rank before all turns, with its trace
 abbrev pub opening_node : JobState → (me : ℕ) → (trace : List Entry) → Node NodeState
@@ -38,7 +38,7 @@ NodesOpen =
 abbrev pub StatesReplay : Type 0
 StatesReplay =
     (job : JobState) (me : ℕ) (entries : List Entry)
-    → (replayed state_steps (opening_state job me) entries).ranked.state
+    → (replay_state state_steps (opening_state job me) entries).ranked.state
     ≡ replay (script_job job) me (opening_machines job.settings (scripts_at job) me) entries
 
 -- the order of the entries that a list of ranks gives
@@ -46,19 +46,19 @@ abbrev pub order_by : JobState → (traces : List (List Entry)) → (ranks : Lis
 order_by job traces ranks = order_of (nodes_of_job job traces) (start (nodes_of_job job traces)) ranks
 
 -- these entries, in this order, are a run of the job's world, whose turns are these events
-abbrev pub IsRunOf : JobState → List NodeEntry → (turns : List (List (Timed OtherCall))) → Type 0
+abbrev pub IsRunOf : JobState → List NodeEntry → (turns : List (List (EventAt OtherCall))) → Type 0
 IsRunOf job items turns =
-    IsWorldRun job.settings (registered (handlers_of job)).table (script_meaning (handlers_of job))
+    IsWorldRun job.settings (registry_of (handlers_of job)).table (script_meaning (handlers_of job))
     (scripts_of step_form) (scripts_at job) items turns
 
--- of a job that a text says: where a list of ranks reaches the front that has all entries of the nodes' traces, they
+-- of a job that a text says: where a list of ranks reaches the prefix that has all entries of the nodes' traces, they
 -- are a run of the world in its order, and the entries of each node in it are the node's trace
 abbrev pub AreTracesARun : Type 0
 AreTracesARun =
     (job : JobState) (traces : List (List Entry)) (ranks : List ℕ)
     → IsJob job → length traces ≤ job.settings.nodes
     → Reaches state_steps (nodes_of_job job traces) ranks (full (nodes_of_job job traces))
-    → (turns : List (List (Timed OtherCall)))
+    → (turns : List (List (EventAt OtherCall)))
     × IsRunOf job (order_by job traces ranks) turns
     × ((node : ℕ) (trace : List Entry) → slice_get traces node ≡ Some trace
     → own_entries node (order_by job traces ranks) ≡ trace)

@@ -3,7 +3,7 @@
 use Rattle.std.specs.Prelude.{ℕ, ◌≡◌, true, false, if◌then◌else◌, length, is_some}
 use Rattle.base_turns.specs.declared.turns.Turned.{Turned}
 use Rattle.proc_machine.specs.Kept.{MachineKept, polls_at}
-use Rattle.proc_machine.specs.NodeState.{NodeState, NodeStands, after_turn, turned}
+use Rattle.proc_machine.specs.NodeState.{NodeState, NodeStands, after_turn, turn_result}
 use Rattle.proc_machine.specs.Turns.{TurnTaken, is_changed}
 use Rattle.proc_machine.specs.declared.turn.Done.{Done}
 
@@ -28,6 +28,6 @@ pub record MachineTakes (old : MachineKept) (taken : TurnTaken) (done : Done) (n
   pub quiet : is_changed taken done ≡ false → (state : NodeState) → NodeStands old state
       → NodeStands new (after_turn state taken.thread taken.now taken.got)
   pub told : (state : NodeState) → NodeStands old state
-      → turned state taken.thread taken.now taken.got ≡ turned_of taken done
+      → turn_result state taken.thread taken.now taken.got ≡ turned_of taken done
   -- whether a thread polls changes only in a turn that ends a step
   pub polls : is_some done.ended ≡ false → (thread : ℕ) → polls_at new thread ≡ polls_at old thread

@@ -13,13 +13,13 @@ use Rattle.text_job.specs.declared.job.Job.{Job as JobState}
 use Rattle.text_job.specs.declared.job.NodeScript.{NodeScript}
 use Rattle.text_steps.specs.declared.steps.ScriptStep.{ScriptStep}
 use Rattle.text_script.specs.Bodies.{script_meaning}
-use Rattle.text_script.specs.Registration.{handlers_of, registered}
+use Rattle.text_script.specs.Registration.{handlers_of, registry_of}
 use Rattle.std.specs.Option.{option_map}
 use Rattle.node_collectives.specs.CollectivesState.{CollectivesState, no_nodes}
 use Rattle.node_collectives.specs.Progress.{idle}
 use Rattle.text_job.specs.declared.job.CollectArea.{CollectArea}
 use Rattle.law_traces.specs.Actions.{OwnScripts, Progress, scripts_of}
-use Rattle.law_traces.specs.Order.{Ranked, job_steps}
+use Rattle.law_traces.specs.Order.{RankedMachine, job_steps}
 use Rattle.law_traces.specs.Scripts.{NodeJob}
 use Rattle.law_traces.specs.WorldRun.{endpoint_job, opening_machines}
 use Rattle.proc_steps.specs.Forms.{step_form}
@@ -28,15 +28,15 @@ use Rattle.proc_machine.specs.Kept.{MachineKept, own_scripts}
 -- a job of a text, with the record of one of its nodes and what is left of that node's scripts
 pub record NodeState : Type 0 where
   pub job : JobState
-  pub ranked : Ranked EndpointLocal (OwnScripts ScriptStep)
+  pub ranked : RankedMachine EndpointLocal (OwnScripts ScriptStep)
 
-abbrev pub state_of : JobState → Ranked EndpointLocal (OwnScripts ScriptStep) → NodeState
+abbrev pub state_of : JobState → RankedMachine EndpointLocal (OwnScripts ScriptStep) → NodeState
 state_of job ranked = record { job = job; ranked = ranked }
 
 -- what all nodes of the job know
 abbrev pub script_job : JobState → NodeJob EndpointLocal (OwnScripts ScriptStep)
 script_job job =
-    endpoint_job job.settings (registered (handlers_of job)).table (script_meaning (handlers_of job))
+    endpoint_job job.settings (registry_of (handlers_of job)).table (script_meaning (handlers_of job))
     (scripts_of step_form)
 
 -- ---- what is known of such states
@@ -51,15 +51,15 @@ after_turn state thread now got =
     state_of state.job ((job_steps (script_job state.job)).after state.ranked thread now got)
 
 -- what that turn tells
-abbrev pub turned : NodeState → (thread now : ℕ) → Option (List ℕ) → Turned
-turned state thread now got = (job_steps (script_job state.job)).turned state.ranked thread now got
+abbrev pub turn_result : NodeState → (thread now : ℕ) → Option (List ℕ) → Turned
+turn_result state thread now got = (job_steps (script_job state.job)).turned state.ranked thread now got
 
 -- the datagrams of the last turn that wasn't empty, each with the node that it is for
-abbrev pub sent : NodeState → List (ℕ × List ℕ)
-sent state = (job_steps (script_job state.job)).sent state.ranked
+abbrev pub sent_datagrams : NodeState → List (ℕ × List ℕ)
+sent_datagrams state = (job_steps (script_job state.job)).sent state.ranked
 
 abbrev pub state_steps : Steps NodeState
-state_steps = record { polls = polls_in; after = after_turn; turned = turned; sent = sent }
+state_steps = record { polls = polls_in; after = after_turn; turned = turn_result; sent = sent_datagrams }
 
 -- ---- the opening
 

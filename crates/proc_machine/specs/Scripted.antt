@@ -10,10 +10,10 @@ use Rattle.node_rules.specs.declared.answer.Answer.{Answer}
 use Rattle.node_endpoint.specs.EndpointState.{ForItsRecord}
 use Rattle.text_steps.specs.declared.steps.ScriptStep.{ScriptStep}
 use Rattle.law_traces.specs.Actions.{Progress, StepContext, collectives_then, next_calls, tried_step}
-use Rattle.law_traces.specs.Scripts.{ThreadCall, Tried as FormTried}
+use Rattle.law_traces.specs.Scripts.{ThreadCall, TryResult as FormTried}
 use Rattle.law_traces.specs.Turn.{node_run, events_of, first_answer}
 use Rattle.proc_steps.specs.Forms.{step_form}
-use Rattle.proc_steps.specs.Tries.{Found, Happen, step_here}
+use Rattle.proc_steps.specs.Tries.{FoundNode, Happen, step_here}
 use Rattle.proc_steps.specs.declared.trial.Tried.{Tried}
 
 -- a try of the next step of a thread's script, of which this is left
@@ -69,7 +69,8 @@ as_said trial tried =
 
 -- the next step was tried, if there is one: of every record for which the endpoint stood, the try made the calls that
 -- the step's form makes, in order, went as the form says, and left the collectives as far as it says
-pub record TriesNext (meaning : Meaning) (old : Found) (trial : NextTrial) (tried : Tried) (new : Found) : Type 0 where
+pub record TriesNext (meaning : Meaning) (old : FoundNode) (trial : NextTrial) (tried : Tried) (new : FoundNode)
+    : Type 0 where
   pub happen : Happen meaning old.endpoint (record {
     now = trial.now;
     events = events_of_next (step_here meaning old trial.thread trial.now) trial.progress;

@@ -12,7 +12,7 @@ use Rattle.law_traces.specs.Scripts.{NodeJob}
 use Rattle.law_traces.specs.Turn.{MachineState, Turn, turn, try_of, datagram, is_some_there}
 use Rattle.law_traces.specs.WorldRun.{endpoint_job}
 use Rattle.proc_steps.specs.Forms.{step_form}
-use Rattle.proc_steps.specs.Tries.{Found, IsAtSameNode}
+use Rattle.proc_steps.specs.Tries.{FoundNode, IsAtSameNode}
 use Rattle.proc_machine.specs.Kept.{CanBeSaid}
 use Rattle.proc_machine.specs.NodeState.{datagram_at, as_there}
 use Rattle.proc_machine.specs.declared.turn.Done.{Done}
@@ -55,8 +55,8 @@ pub record GoesAsTurn
 -- a turn of a thread of which this was left of its script: it went so for every state for which the endpoint stood and
 -- whose collectives are so far, and this is left now
 pub record TakesTurn
-    (meaning : Meaning) (old : Found × Progress ScriptStep) (taken : TurnTaken) (done : Done)
-    (new : Found × Progress ScriptStep) : Type 0 where
+    (meaning : Meaning) (old : FoundNode × Progress ScriptStep) (taken : TurnTaken) (done : Done)
+    (new : FoundNode × Progress ScriptStep) : Type 0 where
   pub same : IsAtSameNode old.0.endpoint.core new.0.endpoint.core
   pub said : (settings : Parameters) → CanBeSaid settings old.1 → CanBeSaid settings new.1
   pub goes : (state : MachineState EndpointLocal (OwnScripts ScriptStep))

@@ -3,7 +3,7 @@
 ghost use Rattle.std.specs.Prelude.{◌≡◌, ◌<◌, IfOk, IsSome, true, find, option_copied};
 ghost use Rattle.node_endpoint.specs.EndpointState.{IsNodeOf};
 ghost use Rattle.text_job.specs.JobText.{IsJob};
-ghost use Rattle.text_script.specs.Registration.{handlers_of, registered};
+ghost use Rattle.text_script.specs.Registration.{handlers_of, registry_of};
 ghost use Rattle.proc_machine.specs.Cursors.{progress_of_all};
 ghost use Rattle.proc_machine.specs.Kept.{polls_at};
 ghost use Rattle.proc_machine.specs.Machines.{MachineTakes};
@@ -143,7 +143,7 @@ impl<'a> NodeMachine<'a> {
     /// The endpoint.
     pub fn endpoint(&self) -> &Endpoint
         ensures is { result.now ≡ self.now.endpoint }
-        ensures node { IsNodeOf self.now.job.settings (registered (handlers_of self.now.job)).table
+        ensures node { IsNodeOf self.now.job.settings (registry_of (handlers_of self.now.job)).table
             result.now.core.me result.now }
     {
         &self.endpoint
@@ -179,7 +179,7 @@ impl<'a> NodeMachine<'a> {
     pub fn into_endpoint(self) -> Endpoint
         ensures is { result ≡ self.entry.endpoint }
         ensures node { IsNodeOf self.entry.job.settings
-            (registered (handlers_of self.entry.job)).table
+            (registry_of (handlers_of self.entry.job)).table
             result.core.me result }
     {
         let NodeMachine { endpoint, .. } = self;
@@ -189,8 +189,8 @@ impl<'a> NodeMachine<'a> {
 
 impl<'a> Machine for NodeMachine<'a> {
     ghost use Rattle.proc_machine.specs.Kept.{are_done, polls_at};
-    ghost use Rattle.proc_machine.specs.NodeState.{NodeState, NodeStands, after_turn, polls_in, sent};
-    ghost use Rattle.proc_machine.specs.NodeState.{turned};
+    ghost use Rattle.proc_machine.specs.NodeState.{NodeState, NodeStands, after_turn, polls_in, sent_datagrams};
+    ghost use Rattle.proc_machine.specs.NodeState.{turn_result};
 
     ghost State = { NodeState };
 
@@ -206,9 +206,9 @@ impl<'a> Machine for NodeMachine<'a> {
 
     ghost after = { after_turn };
 
-    ghost turned = { turned };
+    ghost turned = { turn_result };
 
-    ghost sent = { sent };
+    ghost sent = { sent_datagrams };
 
     fn threads(&self) -> u16 {
         self.job.settings().threads()

@@ -4,7 +4,7 @@ use Rattle.std.proofs.Common.{Option, Some, None}
 use Rattle.std.specs.Prelude.{option_map}
 use lib.Seq.{drop_at}
 use Rattle.base_io.specs.Sieve.{Sieving}
-use Rattle.base_io.specs.Buffered.{Gathering, Outbox, Gathers, GathersFront}
+use Rattle.base_io.specs.Buffered.{Gathering, Outbox, Gathers, GathersPrefix}
 use Rattle.base_io.specs.declared.link.Link.{Ghosts as LinkGhosts}
 use Rattle.base_io.specs.declared.clock.Clock.{Ghosts as ClockGhosts}
 use Rattle.base_io.specs.declared.sink.Sink.{Ghosts as SinkGhosts}
@@ -23,7 +23,7 @@ use Rattle.proc_machine.specs.Kept.{MachineKept}
 use Rattle.proc_machine.specs.NodeState.{NodeStands, opening_state}
 use Rattle.base_text.specs.LineTexts.{spell}
 use Rattle.text_trace.specs.TraceText.{head_text}
-use Rattle.proc_node.specs.Seen.{ClockSeen, DevicesSeen, LinkSeen, clock_seen, devices_seen, link_seen, sieved}
+use Rattle.proc_node.specs.Seen.{ClockSeen, DevicesSeen, LinkSeen, clock_seen, devices_seen, link_seen, behind_sieve}
 use Rattle.proc_node.specs.Seen.{seen_clocks, seen_links, seen_recorders}
 use Rattle.proc_node.specs.Sieved.{Datagrams}
 use Rattle.proc_node.specs.NodeLeaves.{NodeLeaves, Post, has_noted, node_at, node_lines, node_machines}
@@ -67,7 +67,7 @@ module _ (post : Post) (before after : DevicesSeen) (journal : List Entry)
   }
 
   unwritten : (end : StationEnd) → left.end ≡ end → end ≢ stations.NoMemory
-      → GathersFront old new (spell (node_lines post journal)) → EndsUnwritten post before after old new None
+      → GathersPrefix old new (spell (node_lines post journal)) → EndsUnwritten post before after old new None
   unwritten end is some went = record {
     how = inl
         (record {
@@ -126,7 +126,7 @@ module _ {L C K : Type 0} (l : LinkGhosts L) (c : ClockGhosts C) (k : SinkGhosts
       ∙ ap (λ list. Some (drop (length told) list)) (sym (append-nil told))
       ∙ ap Some (drop_at told [] (length told) refl) in
       let inner : L → LinkSeen = λ i. record (link_seen l i) { sent = Some [] } in
-      let link_is : link_seen (seen_of node) node.link ≡ sieved (link_seen l link) =
+      let link_is : link_seen (seen_of node) node.link ≡ behind_sieve (link_seen l link) =
       ap some none ∙ ap inner (ap (λ (s : Sieving L). s.inner) ready.fresh.sieve_is) in
       let seen : Node MachineKept (Sieved L l) C → Node MachineKept LinkSeen ClockSeen = λ n. record {
         settings = n.settings;
@@ -217,7 +217,7 @@ module _ {L C K : Type 0} (l : LinkGhosts L) (c : ClockGhosts C) (k : SinkGhosts
       let clock_is : ended.clock ≡ clock =
       so.clock ∙ ap (λ (n : Node MachineKept (Sieved L l) C). n.clock) ready.node_is in
       let went = subst (λ (n : Node MachineKept (Sieved L l) C).
-      GathersFront (sink_seen k sink) (sink_seen k after.recorder) (whole_text n.settings n.address.rank []))
+      GathersPrefix (sink_seen k sink) (sink_seen k after.recorder) (whole_text n.settings n.address.rank []))
       ready.node_is un.written in
       rw (so.node_is, so.end_is, link_is, clock_is, so.sink)
       (record { how = inr (record { kept = refl; written = went }); no_node = refl })

@@ -7,12 +7,12 @@ use Rattle.std.proofs.lemmas.List.Sums.{fold-append}
 use Rattle.base_io.specs.Faults.{one_more, Rose}
 use Rattle.base_io.specs.Told.{and_all, and_then}
 use Rattle.base_io.specs.Link.{SentTold}
-use Rattle.base_io.specs.Sieve.{Sieving, Follows, KeepsInner, is_plain_sieve, next_plan, numbered}
+use Rattle.base_io.specs.Sieve.{Sieving, Follows, KeepsInner, is_plain_sieve, next_plan, with_next_number}
 use Rattle.base_io.specs.declared.link.Link.{Ghosts as LinkGhosts}
 use Rattle.base_io.specs.declared.link.LinkAnswer.{LinkAnswer}
 use Rattle.base_io.specs.declared.link.LinkAnswer.TheVariants as answer
 use Rattle.base_io.proofs.SievePlans.{and_all-twice, told_sent}
-use Rattle.proc_node.specs.Sieved.{Datagrams, IsSieved, first_of, heading, mark, one_if_told, rule_of, sift, sifted}
+use Rattle.proc_node.specs.Sieved.{Datagrams, IsSieved, first_of, heading, mark, one_if_told, rule_of, sift, sieve_after}
 
 -- ---- faults
 
@@ -64,7 +64,7 @@ module _ {L : Type 0} (links : LinkGhosts L) (first : L) (handed : Datagrams) (o
   module _ (datagram : ℕ × List ℕ) (new : Sieving L) (kept : KeepsInner links old.inner new.inner)
       (unheld : old.swap ≡ 0 → old.held ≡ None) where
     -- where the numbers are 0 the link was sent the datagram
-    plain_sent : (said : LinkAnswer) → Follows links (next_plan old datagram) (numbered old) said new
+    plain_sent : (said : LinkAnswer) → Follows links (next_plan old datagram) (with_next_number old) said new
         → is_plain_sieve old ≡ true → is_plain_sieve new ≡ true
         → SentTold said datagram (links.sent old.inner) (links.sent new.inner)
     plain_sent said follows was is =
@@ -74,7 +74,7 @@ module _ {L : Type 0} (links : LinkGhosts L) (first : L) (handed : Datagrams) (o
         (if is_plain_sieve new then links.sent new.inner else None)) was told_so)
 
     -- it did what its plan says
-    pub hands : Follows links (next_plan old datagram) (numbered old) answer.Done new
+    pub hands : Follows links (next_plan old datagram) (with_next_number old) answer.Done new
         → IsSieved links first (handed ++ datagram ∷ []) new
     hands follows =
         let plan = next_plan old datagram in
@@ -88,8 +88,8 @@ module _ {L : Type 0} (links : LinkGhosts L) (first : L) (handed : Datagrams) (o
               ∙ and_all-twice (links.sent first) handed (datagram ∷ []);
           sifts = λ none.
               let so = told.sifts (λ rose. none (rose_later _ _ _ kept.later rose)) in
-              let before = sifted old handed in
-              let more : sifted after (handed ++ datagram ∷ []) ≡ sift before datagram =
+              let before = sieve_after old handed in
+              let more : sieve_after after (handed ++ datagram ∷ []) ≡ sift before datagram =
               fold-append sift (first_of (rule_of old)) handed (datagram ∷ []) in
               let same : plan ≡ next_plan before datagram =
               same_plan old before datagram (sym (same_lose (first_of (rule_of old)) handed))
@@ -109,7 +109,7 @@ module _ {L : Type 0} (links : LinkGhosts L) (first : L) (handed : Datagrams) (o
         subst (IsSieved links first (handed ++ datagram ∷ [])) (sym follows.rest) now
 
     -- the link failed at it
-    pub fails : Follows links (next_plan old datagram) (numbered old) answer.Failed new
+    pub fails : Follows links (next_plan old datagram) (with_next_number old) answer.Failed new
         → IsSieved links first handed new
     fails follows = record {
       later = more_later _ _ _ told.later kept.later;
@@ -127,7 +127,7 @@ same_first links first old new same = ap (heading links first) same
 -- nor did it forget that when a datagram was handed to it
 pub same_after : {L : Type 0} (links : LinkGhosts L) (first : L) (old new : Sieving L) (datagram : ℕ × List ℕ)
     (said : LinkAnswer)
-    → Follows links (next_plan old datagram) (numbered old) said new → heading links first new ≡ heading links first old
+    → Follows links (next_plan old datagram) (with_next_number old) said new → heading links first new ≡ heading links first old
 same_after links first old new datagram answer.Done follows = ap (heading links first) follows.rest
 same_after links first old new datagram answer.Failed follows = ap (heading links first) follows.rest
 

@@ -68,7 +68,7 @@ module _ {M L C D : Type 0} (m : MachineGhosts M) (l : LinkGhosts L) (c : ClockG
     within = h.within;
     entries = h.entries;
     written = h.written;
-    front = h.front;
+    prefix = h.prefix;
     replay = λ state stood. skip_replay opening state h.journal left was (h.replay state stood);
     received = h.received;
     bound = h.bound;

@@ -1,7 +1,7 @@
 -- How the run of a node of a job ends, and what is written.
 -- Origin: this project's profile.
 use Rattle.std.specs.Prelude.{◌≡◌, ◌≢◌, ◌⊎◌, ℕ, Bool, false, List, [], Option, Some, None}
-use Rattle.base_io.specs.Buffered.{Gathering, Outbox, Gathers, GathersFront}
+use Rattle.base_io.specs.Buffered.{Gathering, Outbox, Gathers, GathersPrefix}
 use Rattle.base_io.specs.declared.link.Link.{Ghosts as LinkGhosts}
 use Rattle.node_endpoint.specs.EndpointState.{EndpointState, ForItsRecord}
 use Rattle.base_turns.specs.declared.entry.Entry.{Entry}
@@ -75,18 +75,18 @@ pub record EndsEarly (post : Post) (before after : DevicesSeen) (old new : Outbo
   pub how : EndsOpen post before after old new ⊎ EndsUnmade before after old new
   pub no_node : node ≡ None
 
--- it ran until some end, and the sink failed at an entry or behind the last one: a front of its trace went in
+-- it ran until some end, and the sink failed at an entry or behind the last one: a prefix of its trace went in
 pub record EndsCut (post : Post) (before after : DevicesSeen) (old new : Outbox) : Type 0 where
   pub end : StationEnd
   pub some_text : end ≢ stations.NoMemory
   pub run : RunsTo post before after end
   pub begun : HasBegun old run
-  pub written : GathersFront old new (text_of run)
+  pub written : GathersPrefix old new (text_of run)
 
 -- the sink failed within the first lines, and nothing was done
 pub record EndsUnopened (post : Post) (before after : DevicesSeen) (old new : Outbox) : Type 0 where
   pub kept : after ≡ before
-  pub written : GathersFront old new (spell (node_lines post []))
+  pub written : GathersPrefix old new (spell (node_lines post []))
 
 -- the sink failed, in the run or before it
 pub record EndsUnwritten (post : Post) (before after : DevicesSeen) (old new : Outbox) (node : Option EndpointState)

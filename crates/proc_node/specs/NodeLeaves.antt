@@ -4,7 +4,7 @@ use Rattle.std.specs.Prelude.{◌≡◌, ℕ, ◌==◌, Bool, not, List}
 use Rattle.base_io.specs.Buffered.{Outbox}
 use Rattle.base_turns.specs.declared.entry.Entry.{Entry}
 use Rattle.base_turns.specs.declared.turns.Machine.{Ghosts as MachineGhosts}
-use Rattle.base_turns.specs.Replay.{replayed}
+use Rattle.base_turns.specs.Replay.{replay_state}
 use Rattle.part_handlers.specs.LogState.{log_of}
 use Rattle.spec_node.specs.Record.{Node as Record}
 use Rattle.node_rules.specs.EndpointLocal.{EndpointLocal}
@@ -15,10 +15,11 @@ use Rattle.text_trace.specs.TraceText.{trace_lines}
 use Rattle.proc_station.specs.declared.node.Node.{Node}
 use Rattle.proc_station.specs.NodeRuns.{RunsOver, open_lines, trace_of}
 use Rattle.proc_machine.specs.Kept.{MachineKept, are_done, polls_at}
-use Rattle.proc_machine.specs.NodeState.{NodeState, NodeStands, after_turn, opening_state, polls_in, sent, state_steps}
-use Rattle.proc_machine.specs.NodeState.{turned}
+use Rattle.proc_machine.specs.NodeState.{NodeState, NodeStands, after_turn, opening_state, polls_in, sent_datagrams}
+use Rattle.proc_machine.specs.NodeState.{state_steps}
+use Rattle.proc_machine.specs.NodeState.{turn_result}
 use Rattle.proc_node.specs.Seen.{ClockSeen, DevicesSeen, IsBehind, LinkSeen, seen_clocks, seen_links, seen_recorders}
-use Rattle.proc_node.specs.Seen.{sieved}
+use Rattle.proc_node.specs.Seen.{behind_sieve}
 
 -- a node of a job: its number, and the port of rank 0
 pub record Post : Type 0 where
@@ -39,8 +40,8 @@ node_machines = record {
   is_over = λ machine. are_done machine.scripts;
   polls_in = polls_in;
   after = after_turn;
-  turned = turned;
-  sent = sent;
+  turned = turn_result;
+  sent = sent_datagrams;
 }
 
 -- the node before it runs, with this machine, over these devices
@@ -49,7 +50,7 @@ node_at post machine devices = record {
   settings = post.job.settings;
   address = record { rank = post.rank; port = post.port };
   machine = machine;
-  link = sieved devices.link;
+  link = behind_sieve devices.link;
   clock = devices.clock;
   patience = post.job.patience;
 }
@@ -73,7 +74,7 @@ pub record NodeLeaves (post : Post) (before after : DevicesSeen) (journal : List
 -- the record of the node after the turns of a journal
 abbrev pub record_after : Post → List Entry → Record EndpointLocal
 record_after post journal =
-    (replayed state_steps (opening_state post.job post.rank) journal).ranked.state.node
+    (replay_state state_steps (opening_state post.job post.rank) journal).ranked.state.node
 
 -- it has noted a violation
 abbrev pub has_noted : Record EndpointLocal → Bool

@@ -77,8 +77,8 @@ abbrev pub is_plain_rule : SieveRule → Bool
 is_plain_rule rule = (rule.lose == 0) && (rule.repeat == 0) && (rule.swap == 0)
 
 -- a sieve before the link, to which nothing was handed yet: what it tells as sent is what was handed to it
-abbrev pub sieved : LinkSeen → LinkSeen
-sieved link = record link { sent = Some [] }
+abbrev pub behind_sieve : LinkSeen → LinkSeen
+behind_sieve link = record link { sent = Some [] }
 
 -- what the sieve of this rule sends of the datagrams that are handed to it, in order
 abbrev pub sieved_by : SieveRule → Datagrams → Datagrams

@@ -40,16 +40,16 @@ sift sieve datagram =
     }
 
 -- these were handed to it, in order
-abbrev pub sifted : {L : Type 0} → Sieving L → Datagrams → Sieving Datagrams
-sifted sieve handed = fold sift (first_of (rule_of sieve)) handed
+abbrev pub sieve_after : {L : Type 0} → Sieving L → Datagrams → Sieving Datagrams
+sieve_after sieve handed = fold sift (first_of (rule_of sieve)) handed
 
 -- since the link behind the sieve was as it was at first, these were handed to the sieve: the link was sent what the
 -- sieve makes of them, and number and held datagram are as they make them
 pub record HasSifted {L : Type 0} (links : LinkGhosts L) (first : L) (handed : Datagrams) (sieve : Sieving L)
     : Type 0 where
-  pub sent : links.sent sieve.inner ≡ and_all (links.sent first) (sifted sieve handed).inner
-  pub number : sieve.number ≡ (sifted sieve handed).number
-  pub held : sieve.held ≡ (sifted sieve handed).held
+  pub sent : links.sent sieve.inner ≡ and_all (links.sent first) (sieve_after sieve handed).inner
+  pub number : sieve.number ≡ (sieve_after sieve handed).number
+  pub held : sieve.held ≡ (sieve_after sieve handed).held
 
 -- what holds of it since then: unless the link failed, that; and where the numbers are 0, the link was sent all of them
 pub record IsSieved {L : Type 0} (links : LinkGhosts L) (first : L) (handed : Datagrams) (sieve : Sieving L)

@@ -14,7 +14,7 @@ use Rattle.proc_runner.specs.declared.ends.TurnAnswer.{TurnAnswer}
 use Rattle.proc_runner.specs.declared.ends.StationEnd.TheVariants.{Over, Stuck, LinkFault, WriteFault, JournalFull, NoMemory}
 use Rattle.proc_runner.specs.declared.ends.TurnAnswer.TheVariants.{Went, Idle, Ended}
 use Rattle.proc_runner.specs.declared.recorder.Recorder.{Ghosts as RecorderGhosts}
-use Rattle.base_io.specs.Buffered.{GathersFront}
+use Rattle.base_io.specs.Buffered.{GathersPrefix}
 use Rattle.proc_runner.specs.StationState.{StationState}
 use Rattle.proc_runner.specs.Turns.{Asks, GivesDatagram, Sends, Turns, KeepsEntry, GoesTurn, Finishes, AreOutgoing}
 use Rattle.proc_runner.specs.Turns.{made_entry}
@@ -66,10 +66,10 @@ module _ {M L C K : Type 0} (m : MachineGhosts M) (l : LinkGhosts L) (c : ClockG
       → (kept' ≡ Some WriteFault → given ≡ [])
       → (kept' ≢ Some WriteFault → Records d kept_entry told.sends middle.recorder recorder')
       → (kept' ≡ Some WriteFault
-      → GathersFront (d.outbox middle.recorder) (d.outbox recorder') (d.text kept_entry))
+      → GathersPrefix (d.outbox middle.recorder) (d.outbox recorder') (d.text kept_entry))
       → KeepsEntry m l c d thread old
       (record middle { link = link'; recorder = recorder'; count = middle.count + 1; kept = kept' })
-  keeps_at count given link' recorder' kept' within outgoing sends all short none records front = record {
+  keeps_at count given link' recorder' kept' within outgoing sends all short none records prefix = record {
     now = now;
     got = got;
     told = told;
@@ -82,7 +82,7 @@ module _ {M L C K : Type 0} (m : MachineGhosts M) (l : LinkGhosts L) (c : ClockG
     whether = b.whether;
     turns = b.turns;
     records = λ other. subst (λ r. Records d kept_entry told.sends r recorder') same (records other);
-    front = λ is. subst (λ r. GathersFront (d.outbox r) (d.outbox recorder') (d.text kept_entry)) same (front is);
+    prefix = λ is. subst (λ r. GathersPrefix (d.outbox r) (d.outbox recorder') (d.text kept_entry)) same (prefix is);
     sends = sends;
     given_is = given_is count given within outgoing;
     all = all;

@@ -14,15 +14,15 @@ use Rattle.base_io.specs.declared.link.Link.{Ghosts as LinkGhosts}
 use Rattle.base_io.specs.declared.clock.Clock.{Ghosts as ClockGhosts}
 use Rattle.base_turns.specs.declared.entry.Entry.{Entry}
 use Rattle.base_turns.specs.declared.turns.Machine.{Ghosts as MachineGhosts}
-use Rattle.base_turns.specs.Replay.{steps_of, replayed, got_in, given_by, sent_in, is_quiet, quiet_tail}
+use Rattle.base_turns.specs.Replay.{steps_of, replay_state, got_in, given_by, sent_in, is_quiet, quiet_tail}
 use Rattle.base_turns.proofs.Replays.{replayed-push, sent_in-push, got_in-push}
 use Rattle.proc_runner.specs.declared.ends.StationEnd.{StationEnd}
 use Rattle.proc_runner.specs.declared.ends.StationEnd.TheVariants.{Over, Stuck, LinkFault, WriteFault, JournalFull, NoMemory}
 use Rattle.proc_runner.specs.declared.ends.TurnAnswer.{TurnAnswer}
 use Rattle.proc_runner.specs.declared.ends.TurnAnswer.TheVariants.{Went, Idle, Ended}
 use Rattle.proc_runner.specs.declared.recorder.Recorder.{Ghosts as RecorderGhosts}
-use Rattle.base_io.specs.Buffered.{Outbox, Gathers, GathersFront}
-use Rattle.proc_runner.specs.StationState.{StationState, Opening, opened, ended_with}
+use Rattle.base_io.specs.Buffered.{Outbox, Gathers, GathersPrefix}
+use Rattle.proc_runner.specs.StationState.{StationState, Opening, new_station, ended_with}
 use Rattle.proc_runner.specs.Facts.{entry_limit, IsJournalFull, IsCut, IsEntryWithin, WentOn, EndIs, Replays, Ahead}
 use Rattle.proc_runner.specs.Facts.{HasGone}
 use Rattle.proc_runner.specs.Facts.{Facts, HasFacts, texts}
@@ -70,7 +70,7 @@ quiet_means (Some x) s h = absurd (cc h)
 quiet_tail-push : {M : Type 0} (m : MachineGhosts M) (state : m.State) (count : ℕ) (journal : List Entry)
     (last : Entry)
     → quiet_tail (steps_of m) state count (journal ++ last ∷ [])
-    ≡ (if is_quiet (steps_of m) (replayed (steps_of m) state journal) last then quiet_tail
+    ≡ (if is_quiet (steps_of m) (replay_state (steps_of m) state journal) last then quiet_tail
     (steps_of m) state count journal + 1 else 0)
 quiet_tail-push m state count [] last = refl
 quiet_tail-push m state count (e ∷ es) last =
@@ -99,15 +99,15 @@ all_gone a b bytes h none = (
       ∙ sym (append-nil (a.pending ++ bytes))) h.given,
 )
 
--- a front of one piece more went in
-front_more : (a b c : Outbox) (bytes piece : List ℕ) → Gathers a b bytes → GathersFront b c piece
-    → GathersFront a c (bytes ++ piece)
-front_more a b c bytes piece h k = record {
+-- a prefix of one piece more went in
+prefix_more : (a b c : Outbox) (bytes piece : List ℕ) → Gathers a b bytes → GathersPrefix b c piece
+    → GathersPrefix a c (bytes ++ piece)
+prefix_more a b c bytes piece h k = record {
   rest = k.rest;
   went = record {
-    front = bytes ++ k.went.front;
-    whole = ap (λ w. bytes ++ w) k.went.whole ∙ sym (append_assoc bytes k.went.front k.rest);
-    gathered = gathers_more a b c bytes k.went.front h k.went.gathered;
+    prefix = bytes ++ k.went.prefix;
+    whole = ap (λ w. bytes ++ w) k.went.whole ∙ sym (append_assoc bytes k.went.prefix k.rest);
+    gathered = gathers_more a b c bytes k.went.prefix h k.went.gathered;
   };
   rose = rose_later a.faults b.faults c.faults h.later k.rose;
 }
@@ -128,7 +128,7 @@ module _ {M L C K : Type 0} (m : MachineGhosts M) (l : LinkGhosts L) (c : ClockG
         within = h.within;
         entries = h.entries;
         written = λ _. h.written fine;
-        front = λ f. absurd (other (inr f));
+        prefix = λ f. absurd (other (inr f));
         replay = λ state stood. let r = h.replay state stood in let a = r.ahead in record {
           machine = r.machine;
           sent = λ _. r.sent (λ f. elim f [ inl x ↦ ok x | inr x ↦ fine x ]);
@@ -185,9 +185,9 @@ module _ {M L C K : Type 0} (m : MachineGhosts M) (l : LinkGhosts L) (c : ClockG
           within = h.within;
           entries = h.entries;
           written = h.written;
-          front = h.front;
+          prefix = h.prefix;
           replay = λ state stood. let r = h.replay state stood in let a = r.ahead in record {
-            machine = k.stands (replayed (steps_of m) state J) r.machine;
+            machine = k.stands (replay_state (steps_of m) state J) r.machine;
             sent = λ _. WentOn-along (l.sent opening.link) (l.sent old.link) (l.sent new.link)
                 (sent_in (steps_of m) state J) (sent_in (steps_of m) state J) (r.sent uncut) refl k.gives.sent;
             sent_short = λ f. absurd (uncut f);
@@ -202,7 +202,7 @@ module _ {M L C K : Type 0} (m : MachineGhosts M) (l : LinkGhosts L) (c : ClockG
                   k.gives.sent;
             };
             quiet = λ _. (let q = r.quiet ok in omega (arith, q, k.small));
-            last = λ _ some. inr (thread, below', k.empty (replayed (steps_of m) state J) r.machine);
+            last = λ _ some. inr (thread, below', k.empty (replay_state (steps_of m) state J) r.machine);
           };
           received = WentOn-along (l.received opening.link) (l.received old.link) (l.received new.link) (got_in J)
               (got_in J) h.received refl (k.gives.received
@@ -227,7 +227,7 @@ module _ {M L C K : Type 0} (m : MachineGhosts M) (l : LinkGhosts L) (c : ClockG
           within = h.within;
           entries = h.entries;
           written = λ _. h.written fine;
-          front = λ other. absurd (cc other);
+          prefix = λ other. absurd (cc other);
           replay = λ state stood. let r = h.replay state stood in let a = r.ahead in record {
             machine = r.machine;
             sent = λ other. absurd (other (inl refl));
@@ -290,12 +290,12 @@ module _ {M L C K : Type 0} (m : MachineGhosts M) (l : LinkGhosts L) (c : ClockG
           (gathers_more (d.outbox opening.recorder) (d.outbox old.recorder) (d.outbox new.recorder) (texts d J)
           (d.text kept_entry) (h.written fine) (k.records other).gathered)
 
-      pub front_written : new.kept ≡ Some WriteFault
-          → GathersFront (d.outbox opening.recorder) (d.outbox new.recorder) (texts d more)
-      front_written is =
-          subst (GathersFront (d.outbox opening.recorder) (d.outbox new.recorder)) (sym (flat_map-push d.text J kept_entry))
-          (front_more (d.outbox opening.recorder) (d.outbox old.recorder) (d.outbox new.recorder) (texts d J)
-          (d.text kept_entry) (h.written fine) (k.front is))
+      pub prefix_written : new.kept ≡ Some WriteFault
+          → GathersPrefix (d.outbox opening.recorder) (d.outbox new.recorder) (texts d more)
+      prefix_written is =
+          subst (GathersPrefix (d.outbox opening.recorder) (d.outbox new.recorder)) (sym (flat_map-push d.text J kept_entry))
+          (prefix_more (d.outbox opening.recorder) (d.outbox old.recorder) (d.outbox new.recorder) (texts d J)
+          (d.text kept_entry) (h.written fine) (k.prefix is))
 
       -- the replay of one entry more
       module _ (state : m.State) (stood : m.stands opening.machine state) where
@@ -303,7 +303,7 @@ module _ {M L C K : Type 0} (m : MachineGhosts M) (l : LinkGhosts L) (c : ClockG
         r = h.replay state stood
 
         abbrev before : m.State
-        before = replayed (steps_of m) state J
+        before = replay_state (steps_of m) state J
 
         abbrev given : List (ℕ × List ℕ)
         given = given_by (steps_of m) before kept_entry
@@ -344,9 +344,9 @@ module _ {M L C K : Type 0} (m : MachineGhosts M) (l : LinkGhosts L) (c : ClockG
             (WentOn-twice (l.sent opening.link) (l.sent old.link) (l.sent new.link) ds k.given p sent_first)
             (sym (ap (λ w. ds ++ w) none ∙ append-nil ds)) refl
 
-        short_link : new.kept ≡ Some LinkFault → (front last : List Entry) × (count : ℕ)
-            × (more ≡ front ++ last) × (length last ≤ 1)
-            × (length (sent_in (steps_of m) state front) ≤ count)
+        short_link : new.kept ≡ Some LinkFault → (prefix last : List Entry) × (count : ℕ)
+            × (more ≡ prefix ++ last) × (length last ≤ 1)
+            × (length (sent_in (steps_of m) state prefix) ≤ count)
             × WentOn (l.sent opening.link) (take count (sent_in (steps_of m) state more)) (l.sent new.link)
         short_link f = (
           J,
@@ -365,9 +365,9 @@ module _ {M L C K : Type 0} (m : MachineGhosts M) (l : LinkGhosts L) (c : ClockG
               refl,
         )
 
-        short_write : new.kept ≡ Some WriteFault → (front last : List Entry) × (count : ℕ)
-            × (more ≡ front ++ last) × (length last ≤ 1)
-            × (length (sent_in (steps_of m) state front) ≤ count)
+        short_write : new.kept ≡ Some WriteFault → (prefix last : List Entry) × (count : ℕ)
+            × (more ≡ prefix ++ last) × (length last ≤ 1)
+            × (length (sent_in (steps_of m) state prefix) ≤ count)
             × WentOn (l.sent opening.link) (take count (sent_in (steps_of m) state more)) (l.sent new.link)
         short_write f = (
           J,
@@ -443,7 +443,7 @@ module _ {M L C K : Type 0} (m : MachineGhosts M) (l : LinkGhosts L) (c : ClockG
         ahead_more (inr (inr f)) =
             ahead_behind
             (λ some. gone_later (d.outbox opening.recorder) (d.outbox old.recorder) (d.outbox new.recorder)
-            (texts d r.ahead.written) (k.front f).went.gathered.gone (r.ahead.gone some) (k.front f).went.gathered.given)
+            (texts d r.ahead.written) (k.prefix f).went.gathered.gone (r.ahead.gone some) (k.prefix f).went.gathered.given)
             (λ other. absurd (other f))
             (λ _. sent_none (k.none f) (sent_in (steps_of m) state r.ahead.written) (r.ahead.sent ok))
 
@@ -488,7 +488,7 @@ module _ {M L C K : Type 0} (m : MachineGhosts M) (l : LinkGhosts L) (c : ClockG
             entries = All-push (IsEntryWithin (m.thread_count opening.machine)) J kept_entry h.entries
                 (below', k.gives.cut);
             written = written_more;
-            front = front_written;
+            prefix = prefix_written;
             replay = λ state stood. replays_more state stood which;
             received = WentOn-along (l.received opening.link) (l.received k.between) (l.received new.link)
                 (got_in J ++ option_to_list k.got) (got_in (J ++ kept_entry ∷ []))
@@ -511,7 +511,7 @@ module _ {M L C K : Type 0} (m : MachineGhosts M) (l : LinkGhosts L) (c : ClockG
               | inr f ↦ elim f [
                 | inl x ↦ subst (EndIs m l d opening kept_station) (sym x.0)
                     (rose_later (l.faults opening.link) (l.faults old.link) (l.faults new.link) h.faults x.1)
-                | inr x ↦ subst (EndIs m l d opening kept_station) (sym x) (front_written x).rose
+                | inr x ↦ subst (EndIs m l d opening kept_station) (sym x) (prefix_written x).rose
               ]
             ];
           })
@@ -572,7 +572,7 @@ goes_threads m l c d thread old new (Ended NoMemory) k = ap (λ b. m.thread_coun
 
 -- a station that was just made
 pub opened_facts : {M L C K : Type 0} (m : MachineGhosts M) (l : LinkGhosts L) (c : ClockGhosts C)
-    (d : RecorderGhosts K) (opening : Opening M L C K) → Facts m l c d opening [] (opened opening)
+    (d : RecorderGhosts K) (opening : Opening M L C K) → Facts m l c d opening [] (new_station opening)
 opened_facts m l c d opening = record {
   threads = refl;
   patience = refl;
@@ -580,7 +580,7 @@ opened_facts m l c d opening = record {
   within = omega arith;
   entries = All-nil (IsEntryWithin (m.thread_count opening.machine));
   written = λ _. gathers_none (d.outbox opening.recorder);
-  front = λ f. absurd (cc f);
+  prefix = λ f. absurd (cc f);
   replay = λ state stood. record {
     machine = stood;
     sent = λ _. WentOn-none (l.sent opening.link) (l.sent opening.link) refl;
@@ -608,13 +608,13 @@ opened_facts m l c d opening = record {
 
 module _ {M L C K : Type 0} (m : MachineGhosts M) (l : LinkGhosts L) (c : ClockGhosts C) (d : RecorderGhosts K)
     (station : StationState M L C K) where
-  pub opened_count : (o : Option (Opening M L C K)) → IsSomeAnd o (λ x. station ≡ opened x) → station.count ≡ 0
+  pub opened_count : (o : Option (Opening M L C K)) → IsSomeAnd o (λ x. station ≡ new_station x) → station.count ≡ 0
   opened_count None h = absurd h
   opened_count (Some x) h = ap (λ b. b.count) h
 
-  pub opened_has : (o : Option (Opening M L C K)) → IsSomeAnd o (λ x. station ≡ opened x) → (x : Opening M L C K)
+  pub opened_has : (o : Option (Opening M L C K)) → IsSomeAnd o (λ x. station ≡ new_station x) → (x : Opening M L C K)
       → o ≡ Some x → HasFacts m l c d x station
   opened_has o h x e = (
     [],
-    subst (Facts m l c d x []) (sym (subst (λ o'. IsSomeAnd o' (λ y. station ≡ opened y)) e h)) (opened_facts m l c d x),
+    subst (Facts m l c d x []) (sym (subst (λ o'. IsSomeAnd o' (λ y. station ≡ new_station y)) e h)) (opened_facts m l c d x),
   )

@@ -93,7 +93,7 @@ module _ {M L C K : Type 0} (m : MachineGhosts M) (l : LinkGhosts L) (c : ClockG
     within = h.within;
     entries = h.entries;
     written = λ other. h.written (λ f. other (told WriteFault f));
-    front = λ is. h.front (is_kept WriteFault is (λ e. absurd (cc e)));
+    prefix = λ is. h.prefix (is_kept WriteFault is (λ e. absurd (cc e)));
     replay = leaves_replay;
     received = h.received;
     bound = h.bound;

@@ -99,7 +99,7 @@ records_after d entry sends old middle new wrote.Done h f = record {
 records_after d entry sends old middle new wrote.Fault h f = record {
   rest = [];
   went = record {
-    front = d.text entry;
+    prefix = d.text entry;
     whole = sym (append-nil (d.text entry));
     gathered = subst (Gathers (d.outbox old) (d.outbox new)) (append-nil (d.text entry))
         (gathers_more (d.outbox old) (d.outbox middle) (d.outbox new) (d.text entry) [] h f.gathered);

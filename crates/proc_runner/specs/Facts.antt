@@ -4,14 +4,14 @@ use Rattle.std.specs.Prelude.{List, ◌++◌, length, All, take, Option, Some, N
 use Rattle.std.specs.List.{flat_map}
 use Rattle.std.specs.Option.{ForSome}
 use Rattle.std.specs.Io.KnownBytes.{Appends}
-use Rattle.base_io.specs.Buffered.{Outbox, Gathers, GathersFront}
+use Rattle.base_io.specs.Buffered.{Outbox, Gathers, GathersPrefix}
 use Rattle.base_io.specs.Faults.{Rose}
 use Rattle.base_io.specs.Told.{and_all, IsEmptyWhereTold}
 use Rattle.base_io.specs.declared.link.Link.{Ghosts as LinkGhosts}
 use Rattle.base_io.specs.declared.clock.Clock.{Ghosts as ClockGhosts}
 use Rattle.base_turns.specs.declared.entry.Entry.{Entry}
 use Rattle.base_turns.specs.declared.turns.Machine.{Ghosts as MachineGhosts}
-use Rattle.base_turns.specs.Replay.{steps_of, replayed, got_in, sent_in, quiet_tail}
+use Rattle.base_turns.specs.Replay.{steps_of, replay_state, got_in, sent_in, quiet_tail}
 use Rattle.proc_runner.specs.declared.ends.StationEnd.{StationEnd}
 use Rattle.proc_runner.specs.declared.ends.StationEnd.TheVariants.{Over, Stuck, LinkFault, WriteFault, JournalFull, NoMemory}
 use Rattle.proc_runner.specs.declared.recorder.Recorder.{Ghosts as RecorderGhosts}
@@ -47,9 +47,9 @@ WentOn before more now = now ≡ and_all before more
 abbrev pub SentShort : {M L : Type 0} → (machines : MachineGhosts M) → LinkGhosts L → machines.State → L → List Entry
     → L → Type 0
 SentShort machines links state first journal link =
-    (front last : List Entry) × (count : ℕ)
-    × (journal ≡ front ++ last) × (length last ≤ 1)
-    × (length (sent_in (steps_of machines) state front) ≤ count)
+    (prefix last : List Entry) × (count : ℕ)
+    × (journal ≡ prefix ++ last) × (length last ≤ 1)
+    × (length (sent_in (steps_of machines) state prefix) ≤ count)
     × WentOn (links.sent first) (take count (sent_in (steps_of machines) state journal)) (links.sent link)
 
 -- the last entry is quiet; or a turn of some thread, at what the clock said last and with nothing got, is empty
@@ -58,7 +58,8 @@ abbrev pub LastWasQuiet : {M C : Type 0} → (machines : MachineGhosts M) → Cl
 LastWasQuiet machines clocks state journal machine clock =
     (0 < quiet_tail (steps_of machines) state 0 journal)
     ⊎ ((thread : ℕ) × (thread < machines.thread_count machine)
-    × ((machines.turned (replayed (steps_of machines) state journal) thread (clocks.said clock) None).changed ≡ false))
+    × ((machines.turned (replay_state (steps_of machines) state journal) thread (clocks.said clock) None).changed
+    ≡ false))
 
 -- every thread polls
 abbrev pub AllPoll : {M : Type 0} → MachineGhosts M → M → Type 0
@@ -78,7 +79,8 @@ abbrev pub IsCut : Option StationEnd → Type 0
 IsCut kept = (kept ≡ Some LinkFault) ⊎ (kept ≡ Some WriteFault)
 
 -- what was written when something was sent: entries of the journal, up to some place, whose bytes have gone on to the
--- sink behind. The link was sent nothing but what their turns gave, and those behind them gave nothing, unless the sink failed
+-- sink behind. The link was sent nothing but what their turns gave, and those behind them gave nothing, unless the sink
+-- failed
 pub record Ahead {M L K : Type 0} (machines : MachineGhosts M) (links : LinkGhosts L) (recorders : RecorderGhosts K)
     (state : machines.State) (first last : L) (before now : K) (journal : List Entry) (kept : Option StationEnd) : Type 0 where
   pub written : List Entry
@@ -108,7 +110,7 @@ pub record Replays {M L C K : Type 0} (machines : MachineGhosts M) (links : Link
     (recorders : RecorderGhosts K) (opening : Opening M L C K) (state : machines.State) (journal : List Entry)
     (station : StationState M L C K) : Type 0 where
   -- the machine stands for the replay
-  pub machine : machines.stands station.machine (replayed (steps_of machines) state journal)
+  pub machine : machines.stands station.machine (replay_state (steps_of machines) state journal)
   -- where the link tells them, the datagrams sent are those that the turns of the journal gave
   pub sent : ¬ IsCut station.kept
       → WentOn (links.sent opening.link) (sent_in (steps_of machines) state journal) (links.sent station.link)
@@ -134,11 +136,11 @@ pub record Facts {M L C K : Type 0} (machines : MachineGhosts M) (links : LinkGh
   pub count : station.count ≡ length journal
   pub within : length journal ≤ entry_limit
   pub entries : All (IsEntryWithin (machines.thread_count opening.machine)) journal
-  -- the bytes of all entries went into the recorder, or at its fault a front of them
+  -- the bytes of all entries went into the recorder, or at its fault a prefix of them
   pub written : station.kept ≢ Some WriteFault
       → Gathers (recorders.outbox opening.recorder) (recorders.outbox station.recorder) (texts recorders journal)
-  pub front : station.kept ≡ Some WriteFault
-      → GathersFront (recorders.outbox opening.recorder) (recorders.outbox station.recorder) (texts recorders journal)
+  pub prefix : station.kept ≡ Some WriteFault
+      → GathersPrefix (recorders.outbox opening.recorder) (recorders.outbox station.recorder) (texts recorders journal)
   -- for each state for which the machine stood, machine and journal are its replay
   pub replay : (state : machines.State) → machines.stands opening.machine state
       → Replays machines links clocks recorders opening state journal station

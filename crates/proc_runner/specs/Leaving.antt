@@ -1,14 +1,14 @@
 -- What the threads of a station leave, once they have ended.
 use Rattle.std.specs.Prelude.{◌≡◌, ◌≢◌, ◌+◌, ◌≤◌, ◌⊎◌, true, false, length, List, All, Some, unwrap_or}
 use Rattle.std.specs.Option.{ForSome}
-use Rattle.base_io.specs.Buffered.{Gathers, GathersFront}
+use Rattle.base_io.specs.Buffered.{Gathers, GathersPrefix}
 use Rattle.base_io.specs.Faults.{Rose}
 use Rattle.base_io.specs.Told.{IsEmptyWhereTold}
 use Rattle.base_io.specs.declared.link.Link.{Ghosts as LinkGhosts}
 use Rattle.base_io.specs.declared.clock.Clock.{Ghosts as ClockGhosts}
 use Rattle.base_turns.specs.declared.entry.Entry.{Entry}
 use Rattle.base_turns.specs.declared.turns.Machine.{Ghosts as MachineGhosts}
-use Rattle.base_turns.specs.Replay.{steps_of, replayed, got_in, sent_in, quiet_tail}
+use Rattle.base_turns.specs.Replay.{steps_of, replay_state, got_in, sent_in, quiet_tail}
 use Rattle.proc_runner.specs.declared.ends.StationEnd.{StationEnd}
 use Rattle.proc_runner.specs.declared.ends.StationEnd.TheVariants.{Over, Stuck, LinkFault, WriteFault, JournalFull, NoMemory}
 use Rattle.proc_runner.specs.declared.ends.EndedStation.{EndedStation}
@@ -40,7 +40,7 @@ pub record LeavesReplay {M L C K : Type 0} (machines : MachineGhosts M) (links :
     (recorders : RecorderGhosts K) (opening : Opening M L C K) (state : machines.State) (journal : List Entry)
     (left : EndedStation M L C K) : Type 0 where
   -- the machine stands for the replay
-  pub machine : machines.stands left.machine (replayed (steps_of machines) state journal)
+  pub machine : machines.stands left.machine (replay_state (steps_of machines) state journal)
   -- where the link tells them, the datagrams sent are those that the turns of the journal gave
   pub sent : ¬ IsShort left.end
       → WentOn (links.sent opening.link) (sent_in (steps_of machines) state journal) (links.sent left.link)
@@ -60,11 +60,11 @@ pub record StationLeaves {M L C K : Type 0} (machines : MachineGhosts M) (links 
   -- the bounds of the journal and of its entries
   pub within : length journal ≤ entry_limit
   pub entries : All (IsEntryWithin (machines.thread_count opening.machine)) journal
-  -- the bytes of all entries went into the recorder, or at its fault a front of them
+  -- the bytes of all entries went into the recorder, or at its fault a prefix of them
   pub written : left.end ≢ WriteFault
       → Gathers (recorders.outbox opening.recorder) (recorders.outbox left.recorder) (texts recorders journal)
-  pub front : left.end ≡ WriteFault
-      → GathersFront (recorders.outbox opening.recorder) (recorders.outbox left.recorder) (texts recorders journal)
+  pub prefix : left.end ≡ WriteFault
+      → GathersPrefix (recorders.outbox opening.recorder) (recorders.outbox left.recorder) (texts recorders journal)
   -- for each state for which the machine stood, machine and journal are its replay
   pub replay : (state : machines.State) → machines.stands opening.machine state
       → LeavesReplay machines links clocks recorders opening state journal left

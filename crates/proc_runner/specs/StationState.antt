@@ -29,8 +29,8 @@ opened_with machine link clock recorder patience =
     record { machine = machine; link = link; clock = clock; recorder = recorder; patience = patience }
 
 -- a station that was just made
-abbrev pub opened : {M L C K : Type 0} → Opening M L C K → StationState M L C K
-opened opening = record {
+abbrev pub new_station : {M L C K : Type 0} → Opening M L C K → StationState M L C K
+new_station opening = record {
   machine = opening.machine;
   link = opening.link;
   clock = opening.clock;

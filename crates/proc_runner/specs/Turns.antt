@@ -2,7 +2,7 @@
 use Rattle.std.specs.Prelude.{◌≡◌, ◌≢◌, ℕ, ◌+◌, ◌^◌, ◌<◌, ◌≤◌, ◌⊎◌, Bool, ◌&&◌, not, true, false, if◌then◌else◌}
 use Rattle.std.specs.Prelude.{List, [], ◌∷◌, ◌++◌, length, take, Option, Some, None, is_none}
 use Rattle.std.specs.Option.{ForSome, option_to_list}
-use Rattle.base_io.specs.Buffered.{Gathers, GathersFront}
+use Rattle.base_io.specs.Buffered.{Gathers, GathersPrefix}
 use Rattle.base_io.specs.Faults.{Rose, one_more}
 use Rattle.base_io.specs.Told.{IsEmptyWhereTold, IsFirstWhereTold, rest_of}
 use Rattle.base_io.specs.declared.link.Link.{Ghosts as LinkGhosts}
@@ -102,11 +102,11 @@ pub record Records {K : Type 0} (recorders : RecorderGhosts K) (entry : Entry) (
   pub gathered : Gathers (recorders.outbox old) (recorders.outbox new) (recorders.text entry)
   pub flushed : 0 < sends → (recorders.outbox new).pending ≡ []
 
--- by the answer; at a fault a front of it went in
+-- by the answer; at a fault a prefix of it went in
 abbrev pub RecordsAs : {K : Type 0} → RecorderGhosts K → Entry → (sends : ℕ) → (old new : K) → Wrote → Type 0
 RecordsAs recorders entry sends old new wrote.Done = Records recorders entry sends old new
 RecordsAs recorders entry sends old new wrote.Fault =
-    GathersFront (recorders.outbox old) (recorders.outbox new) (recorders.text entry)
+    GathersPrefix (recorders.outbox old) (recorders.outbox new) (recorders.text entry)
 
 -- a turn that keeps its entry: something was got or changed; the entry went into the recorder, and then its datagrams
 -- were sent, all unless one failed, and none where the recorder did
@@ -126,8 +126,8 @@ pub record KeepsEntry {M L C K : Type 0} (machines : MachineGhosts M) (links : L
   pub turns : Turns machines (made_entry thread now got) told old.machine new.machine
   pub records : new.kept ≢ Some WriteFault
       → Records recorders (made_entry thread now got) told.sends old.recorder new.recorder
-  pub front : new.kept ≡ Some WriteFault
-      → GathersFront (recorders.outbox old.recorder) (recorders.outbox new.recorder)
+  pub prefix : new.kept ≡ Some WriteFault
+      → GathersPrefix (recorders.outbox old.recorder) (recorders.outbox new.recorder)
       (recorders.text (made_entry thread now got))
   pub sends : Sends links given between new.link
   pub given_is : (state : machines.State) → machines.stands old.machine state
@@ -245,12 +245,12 @@ abbrev pub SendsOn : {M L C K : Type 0} → MachineGhosts M → LinkGhosts L →
 SendsOn machines links turn = SendsAll machines links turn turn.end
 
 -- a station whose recorder was handed one more entry
-abbrev pub recorded : {M L C K : Type 0} → StationState M L C K → K → StationState M L C K
-recorded station recorder = record station { recorder = recorder; count = station.count + 1 }
+abbrev pub with_entry : {M L C K : Type 0} → StationState M L C K → K → StationState M L C K
+with_entry station recorder = record station { recorder = recorder; count = station.count + 1 }
 
 -- the turn with its entry recorded
 abbrev pub sending : {M L C K : Type 0} → SendingTurn M L C K → SendingTurn M L C K
-sending turn = record turn { before = recorded turn.before turn.after.recorder }
+sending turn = record turn { before = with_entry turn.before turn.after.recorder }
 
 -- the entry went into the recorder, and then the datagrams were sent, or one failed; or the recorder failed, and none was
 abbrev pub FinishesAs : {M L C K : Type 0} → MachineGhosts M → LinkGhosts L → RecorderGhosts K → Entry
@@ -263,9 +263,9 @@ FinishesAs machines links recorders entry turn (Ended LinkFault) =
     Records recorders entry turn.sends turn.before.recorder turn.after.recorder
     × SendsAll machines links (sending turn) (Ended LinkFault)
 FinishesAs machines links recorders entry turn (Ended WriteFault) =
-    GathersFront (recorders.outbox turn.before.recorder) (recorders.outbox turn.after.recorder)
+    GathersPrefix (recorders.outbox turn.before.recorder) (recorders.outbox turn.after.recorder)
     (recorders.text entry)
-    × (turn.after ≡ ended_with (recorded turn.before turn.after.recorder) WriteFault)
+    × (turn.after ≡ ended_with (with_entry turn.before turn.after.recorder) WriteFault)
 FinishesAs machines links recorders entry turn (Ended Over) = ⊥
 FinishesAs machines links recorders entry turn (Ended Stuck) = ⊥
 FinishesAs machines links recorders entry turn (Ended JournalFull) = ⊥

@@ -2,7 +2,7 @@
 
 ghost use Rattle.std.specs.Prelude.{◌≡◌, ◌+◌, ◌<◌, ◌↔◌, ℕ, IsSomeAnd, IsTrue};
 ghost use Rattle.std.specs.Option.{ForSome};
-ghost use Rattle.proc_runner.specs.StationState.{opened};
+ghost use Rattle.proc_runner.specs.StationState.{new_station};
 ghost use Rattle.proc_runner.specs.Facts.{HasFacts};
 ghost use Rattle.proc_runner.specs.Turns.{CountsAtMostOne, TakesTurn};
 
@@ -68,7 +68,7 @@ impl<N: StationName<M, L, C, K>, M: Machine, L: Link, C: Clock, K: Recorder> Mod
 impl<N: StationName<M, L, C, K>, M: Machine, L: Link, C: Clock, K: Recorder> Held<N, M, L, C, K> {
     /// Puts a new station under its name, with a new ledger. The share has all parts of it, and nothing is booked.
     pub fn open(station: Station<M, L, C, K>, blank: Blank) -> (Held<N, M, L, C, K>, Share<N>)
-        requires opened { IsSomeAnd N.opening (λ opening. station ≡ opened opening) }
+        requires opened { IsSomeAnd N.opening (λ opening. station ≡ new_station opening) }
         requires threads { M.thread_count station.machine ≡ N.threads }
         requires name { blank.name ≡ N.name }
         requires parts { blank.parts ≡ N.parts }

@@ -21,7 +21,7 @@
 //!   [`facts`: `Facts`]: for each state for which the machine stood at the opening, machine and journal are its replay
 //!   (`Replays`); the datagrams received are the journal's, and those sent are what the replayed turns gave, where the
 //!   link tells them (at `LinkFault` and `WriteFault` without those of the last turn that weren't sent); the bytes of
-//!   all entries went into the recorder (at `WriteFault` a front of them); what was sent was given by entries that had
+//!   all entries went into the recorder (at `WriteFault` a prefix of them); what was sent was given by entries that had
 //!   gone on to the sink before (`Ahead`); the bounds of the journal; how often the clock was asked; why an end is kept.
 //! - `Held::turn` is the station's turn [`turn`], and raises the share that it is handed by one exactly where an entry
 //!   was recorded [`booked`]; `Held::close` gives a station of which the facts hold [`facts`], for a journal that is as

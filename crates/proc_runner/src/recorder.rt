@@ -17,7 +17,7 @@ pub trait Recorder {
     /// Takes an entry.
     ///
     /// `Done` means that all of its bytes went in. `Fault` comes only where the count of faults of the sink behind rose
-    /// (or stands at its last value); a front of its bytes went in then.
+    /// (or stands at its last value); a prefix of its bytes went in then.
     fn record(&mut self, entry: &Entry) -> Wrote
         ensures { GathersAll (outbox self.old) (outbox self.new) (text entry.entry.now) result };
 

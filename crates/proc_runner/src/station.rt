@@ -3,7 +3,7 @@
 ghost use Rattle.std.specs.Prelude.{◌≡◌, ◌≢◌, ◌≤◌, ◌<◌, ◌+◌, List, [], true, false, if◌then◌else◌};
 ghost use Rattle.std.specs.Prelude.{None, IfOk, MatchResult};
 ghost use Rattle.std.specs.Option.{ForSome};
-ghost use Rattle.proc_runner.specs.StationState.{Opening, opened_with, opened, ended_with};
+ghost use Rattle.proc_runner.specs.StationState.{Opening, opened_with, new_station, ended_with};
 ghost use Rattle.proc_runner.specs.Facts.{Facts, IsJournalFull};
 ghost use Rattle.proc_runner.specs.Turns.{GoesTurn, SendsOn, Finishes, KeepsFacts, CountsAtMostOne};
 ghost use Rattle.base_turns.specs.declared.entry.Entry.{Entry as EntryState};
@@ -125,9 +125,9 @@ impl<M: Machine, L: Link, C: Clock, K: Recorder> Station<M, L, C, K> {
     ) -> Result<Station<M, L, C, K>, EndedStation<M, L, C, K>>
         requires { 1 ≤ patience }
         ensures made { MatchResult result
-            (λ station. station ≡ opened (opened_with machine link clock recorder patience))
+            (λ station. station ≡ new_station (opened_with machine link clock recorder patience))
             (λ ended. ended
-            ≡ left_by_station (opened (opened_with machine link clock recorder patience))) }
+            ≡ left_by_station (new_station (opened_with machine link clock recorder patience))) }
         ensures facts { IfOk result (λ station.
             Facts M.Machine L.Link C.Clock K.Recorder
             (opened_with machine link clock recorder patience) [] station) }

@@ -2,7 +2,7 @@
 
 ghost use Rattle.std.specs.Prelude.{◌≡◌, ◌+◌, ◌≤◌, ◌<◌, IsSomeAnd};
 ghost use Rattle.std.specs.Option.{ForSome};
-ghost use Rattle.proc_runner.specs.StationState.{opened, opening_of};
+ghost use Rattle.proc_runner.specs.StationState.{new_station, opening_of};
 ghost use Rattle.proc_runner.specs.Facts.{HasFacts};
 ghost use Rattle.proc_runner.specs.Leaving.{StationLeaves};
 
@@ -159,7 +159,7 @@ fn run_named<
     threads: u16,
     waiter: &G,
 ) -> Station<M, L, C, K>
-    requires opened { IsSomeAnd N.opening (λ opening. station ≡ opened opening) }
+    requires opened { IsSomeAnd N.opening (λ opening. station ≡ new_station opening) }
     requires threads { (M.thread_count station.machine ≡ threads) × (N.threads ≡ threads) }
     requires name { blank.name ≡ N.name }
     requires parts { (blank.parts ≡ N.parts) × (blank.parts ≡ threads + 1) }
@@ -195,7 +195,7 @@ pub fn run_threads<
     threads: u16,
     waiter: &G,
 ) -> EndedStation<M, L, C, K>
-    requires new { (station ≡ opened (opening_of station)) × (1 ≤ station.patience) }
+    requires new { (station ≡ new_station (opening_of station)) × (1 ≤ station.patience) }
     requires threads { M.thread_count station.machine ≡ threads }
     ensures { StationLeaves M.Machine L.Link C.Clock K.Recorder (opening_of station) result }
 {

@@ -17,12 +17,12 @@ use Rattle.part_handlers.specs.declared.message.Replied.{Replied}
 use Rattle.part_handlers.specs.declared.message.Replied.TheVariants as replies_as
 use Rattle.part_handlers.specs.declared.table.EntryFault.{EntryFault}
 use Rattle.part_handlers.specs.Registered.{index_for}
-use Rattle.part_handlers.specs.Runs.{Arrival, Frame, Start, Outcome, answer, after_answer, untouched}
-use Rattle.part_collective_area.specs.Served.{header_at, header_for, number_at as header_number, stamped}
+use Rattle.part_handlers.specs.Runs.{Arrival, Frame, Start, Outcome, answer, after_answer, nothing_done}
+use Rattle.part_collective_area.specs.Served.{header_at, header_for, number_at as header_number, outcome_of_piece}
 use Rattle.node_atomics.specs.declared.word.WordOp.{WordOp}
 use Rattle.node_atomics.specs.BatchRequests.{BatchRequest, batch_handler}
 use Rattle.node_atomics.specs.Served.{after_batch, after_request, block_reply, change_of, changes_of, olds_of}
-use Rattle.node_atomics.specs.Served.{request_for, served, word_in}
+use Rattle.node_atomics.specs.Served.{request_for, outcome_of_batch, word_in}
 use Rattle.node_atomics.specs.Words.{applied_by}
 use Rattle.text_steps.specs.Bodies.{IsAction, IsReply}
 use Rattle.text_job.specs.JobText.{IsHandler}
@@ -43,7 +43,7 @@ use Rattle.text_script.specs.Bodies.{range_bytes, payload_bytes, kept_write, wri
 use Rattle.text_script.specs.Bodies.{act}
 use Rattle.text_script.specs.Bodies.{acts, is_for_batches, is_for_collectives, other_meaning, script_meaning}
 use Rattle.text_script.specs.LawfulBodies.{lawful-script}
-use Rattle.text_script.specs.Registration.{JobHandlers, Registry, with_index, register, in_turn, registered}
+use Rattle.text_script.specs.Registration.{JobHandlers, Registry, with_index, register, in_turn, registry_of}
 use Rattle.text_script.specs.Registration.{body_among, body_for, registered_first}
 use Rattle.law_traces.specs.Fitting.{AreNumbers, AreBytes, ContentFits, ReplyFits, FindsFitting, LeavesFitting}
 use Rattle.law_traces.specs.Fitting.{WriteBytes}
@@ -251,7 +251,7 @@ first_is true false = record { bodies = tt; places = refl }
 first_is false true = record { bodies = tt; places = refl }
 first_is false false = record { bodies = tt; places = refl }
 
-registered_is : (handlers : JobHandlers) → AllByRecursion IsHandler handlers.texts → IsRegistry (registered handlers)
+registered_is : (handlers : JobHandlers) → AllByRecursion IsHandler handlers.texts → IsRegistry (registry_of handlers)
 registered_is handlers is =
     all_are (registered_first handlers.atomics handlers.collect) (in_turn handlers.texts)
     (all_append IsHandler (filter _ handlers.texts) (filter _ handlers.texts)
@@ -296,7 +296,7 @@ batch_fits frame segment (Some request) outcome leaves =
     })
 
 served_fits : (handler : ℕ) (frame : Frame) (start : Start) (outcome : Outcome) → LeavesFitting outcome
-    → LeavesFitting (served handler frame start outcome)
+    → LeavesFitting (outcome_of_batch handler frame start outcome)
 served_fits handler frame start outcome leaves = by_handler (handler == batch_handler)
   where
     by_handler : (requests : Bool)
@@ -319,7 +319,7 @@ header_fits segment args (Some place) =
     by_test false = tt
 
 stamped_fits : (frame : Frame) (start : Start) (outcome : Outcome) → LeavesFitting outcome
-    → LeavesFitting (stamped frame start outcome)
+    → LeavesFitting (outcome_of_piece frame start outcome)
 stamped_fits frame start outcome leaves = record {
   cells = leaves.cells;
   writes = all_append (λ (write : Write). AreBytes write.bytes) outcome.writes
@@ -331,36 +331,36 @@ stamped_fits frame start outcome leaves = record {
 -- ---- handlers
 
 other_fits : (handlers : JobHandlers) → AllByRecursion IsHandler handlers.texts → (index : ℕ) (frame : Frame)
-    (start : Start) → FindsFitting frame start → LeavesFitting (untouched start)
+    (start : Start) → FindsFitting frame start → LeavesFitting (nothing_done start)
     → LeavesFitting (other_meaning handlers index frame start)
 other_fits handlers is index frame start finds nothing = by_handler (is_for_collectives handlers index)
   where
     by_handler : (collective : Bool)
         → LeavesFitting
-        (if collective then stamped frame start (untouched start)
-        else acts frame start (untouched start) (body_for handlers index))
-    by_handler true = stamped_fits frame start (untouched start) nothing
+        (if collective then outcome_of_piece frame start (nothing_done start)
+        else acts frame start (nothing_done start) (body_for handlers index))
+    by_handler true = stamped_fits frame start (nothing_done start) nothing
     by_handler false =
-        acts_fit frame start (untouched start) (body_for handlers index)
-        (body_is (registered handlers).bodies index (registered_is handlers is).bodies) finds nothing
+        acts_fit frame start (nothing_done start) (body_for handlers index)
+        (body_is (registry_of handlers).bodies index (registered_is handlers is).bodies) finds nothing
 
 pub handlers_fit : (handlers : JobHandlers) → AllByRecursion IsHandler handlers.texts
     → IsFittingMeaning (script_meaning handlers)
 handlers_fit handlers is index frame start finds = by_handler (is_for_batches handlers index)
   where
-    nothing : LeavesFitting (untouched start)
+    nothing : LeavesFitting (nothing_done start)
     nothing = record { cells = finds.cells; writes = tt; reply = tt }
 
     by_handler : (batches : Bool)
         → LeavesFitting
-        (if batches then served index frame start (untouched start) else other_meaning handlers index frame start)
-    by_handler true = served_fits index frame start (untouched start) nothing
+        (if batches then outcome_of_batch index frame start (nothing_done start) else other_meaning handlers index frame start)
+    by_handler true = served_fits index frame start (nothing_done start) nothing
     by_handler false = other_fits handlers is index frame start finds nothing
 
 pub job_fits : (settings : Parameters) (handlers : JobHandlers)
     → AreInRange settings → settings.job < 2 ^ 64 → settings.last < 2 ^ 64
     → AllByRecursion IsHandler handlers.texts
-    → IsFittingJob settings (registered handlers).table (script_meaning handlers)
+    → IsFittingJob settings (registry_of handlers).table (script_meaning handlers)
 job_fits settings handlers range job last is = record {
   range = range;
   job = job;

@@ -11,7 +11,7 @@ use Rattle.text_job.specs.JobText.{IsHandler}
 use Rattle.text_calls.specs.declared.scheduled.ScheduledCall.{ScheduledCall}
 use Rattle.text_calls.specs.declared.scope.Scope.{Scope}
 use Rattle.text_script.specs.Bodies.{script_meaning}
-use Rattle.text_script.specs.Registration.{JobHandlers, registered}
+use Rattle.text_script.specs.Registration.{JobHandlers, registry_of}
 use Rattle.text_script.specs.ScheduledCalls.{meant_by}
 use Rattle.law_traces.specs.Fitting.{AreNumbers, CallFits, IsFittingMeaning, IsFittingJob}
 
@@ -26,7 +26,7 @@ JobsFit =
     (settings : Parameters) (handlers : JobHandlers)
     → AreInRange settings → settings.job < 2 ^ 64 → settings.last < 2 ^ 64
     → AllByRecursion IsHandler handlers.texts
-    → IsFittingJob settings (registered handlers).table (script_meaning handlers)
+    → IsFittingJob settings (registry_of handlers).table (script_meaning handlers)
 
 -- what a call that can be said says and writes fits, where the cells of its node are numbers of 32 bits
 abbrev pub CallsFit : Type 0
@@ -38,16 +38,16 @@ CallsFit =
 abbrev pub BatchesAreServed : Type 0
 BatchesAreServed =
     (handlers : JobHandlers) → handlers.atomics ≡ true
-    → HasBatches (registered handlers).table × ServesBatches (script_meaning handlers)
+    → HasBatches (registry_of handlers).table × ServesBatches (script_meaning handlers)
 
 -- so the laws of batches hold of every run with its handlers, where its settings are in range
 abbrev pub BatchesHold : Type 0
 BatchesHold =
     (settings : Parameters) (handlers : JobHandlers) → AreInRange settings → handlers.atomics ≡ true
-    → AtomicsHold settings (registered handlers).table (script_meaning handlers)
+    → AtomicsHold settings (registry_of handlers).table (script_meaning handlers)
 
 -- where a job has an area of collectives, their handler is registered, and run as collectives are served
 abbrev pub CollectivesAreServed : Type 0
 CollectivesAreServed =
     (handlers : JobHandlers) → handlers.collect ≡ true
-    → HasCollectives (registered handlers).table × ServesCollectives (script_meaning handlers)
+    → HasCollectives (registry_of handlers).table × ServesCollectives (script_meaning handlers)

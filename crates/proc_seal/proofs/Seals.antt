@@ -16,7 +16,7 @@ use Rattle.base_io.specs.Link.{SentTold}
 use Rattle.base_io.specs.declared.link.LinkAnswer.{LinkAnswer}
 use Rattle.base_io.specs.declared.link.LinkAnswer.TheVariants as answer
 use Rattle.proc_seal.specs.Hmac.{hmac}
-use Rattle.proc_seal.specs.Seal.{tag, sealed_under, front, behind, is_sealed, opened_under, unsealed, heard}
+use Rattle.proc_seal.specs.Seal.{tag, sealed_under, prefix, behind, is_sealed, opened_under, without_tag, opened_datagrams}
 
 -- a tag has 16 bytes
 pub length-tag : (key datagram : List ℕ) → length (tag key datagram) ≡ 16
@@ -29,8 +29,8 @@ length-sealed key datagram =
 before : (key datagram : List ℕ) → length (sealed_under key datagram) - 16 ≡ length datagram
 before key datagram = ap (λ n. n - 16) (length-sealed key datagram) ∙ omega arith
 
-pub front-sealed : (key datagram : List ℕ) → front (sealed_under key datagram) ≡ datagram
-front-sealed key datagram =
+pub prefix-sealed : (key datagram : List ℕ) → prefix (sealed_under key datagram) ≡ datagram
+prefix-sealed key datagram =
     ap (λ n. take n (sealed_under key datagram)) (before key datagram) ∙ take-append_seam datagram (tag key datagram)
 
 pub behind-sealed : (key datagram : List ℕ) → behind (sealed_under key datagram) ≡ tag key datagram
@@ -43,34 +43,34 @@ is_sealed-sealed key datagram short =
     let size = length-sealed key datagram in
     let least : 16 ≤ length datagram + 16 = omega arith in
     let most : length datagram + 16 ≤ 8312 = omega arith in
-    let same : behind whole ≡ tag key (front whole) =
-    behind-sealed key datagram ∙ ap (tag key) (sym (front-sealed key datagram)) in
+    let same : behind whole ≡ tag key (prefix whole) =
+    behind-sealed key datagram ∙ ap (tag key) (sym (prefix-sealed key datagram)) in
     both_true (both_true (ap (nat_le 16) size ∙ le-leb 16 (length datagram + 16) least)
     (ap (λ n. nat_le n 8312) size ∙ le-leb (length datagram + 16) 8312 most))
-    ((bytes_eq-Decides (behind whole) (tag key (front whole))).1 same)
+    ((bytes_eq-Decides (behind whole) (tag key (prefix whole))).1 same)
 
 -- what is sealed is opened as it was
 pub opens : (key datagram : List ℕ) → length datagram ≤ 8296
     → opened_under key (sealed_under key datagram) ≡ Some datagram
 opens key datagram short =
-    ap (λ b. if b then Some (front (sealed_under key datagram)) else None) (is_sealed-sealed key datagram short)
-    ∙ ap Some (front-sealed key datagram)
+    ap (λ b. if b then Some (prefix (sealed_under key datagram)) else None) (is_sealed-sealed key datagram short)
+    ∙ ap Some (prefix-sealed key datagram)
 
 -- a datagram that was sent sealed is told without its tag
 pub told_sent : (key datagram : List ℕ) (to : ℕ) (told : Option (List (ℕ × List ℕ)))
-    → option_map (map unsealed) (and_then told (to, sealed_under key datagram))
-    ≡ and_then (option_map (map unsealed) told) (to, datagram)
+    → option_map (map without_tag) (and_then told (to, sealed_under key datagram))
+    ≡ and_then (option_map (map without_tag) told) (to, datagram)
 told_sent key datagram to None = refl
 told_sent key datagram to (Some list) =
-    ap Some (map_push unsealed list (to, sealed_under key datagram)
-    ∙ ap (λ d. map unsealed list ++ (to, d) ∷ []) (front-sealed key datagram))
+    ap Some (map_push without_tag list (to, sealed_under key datagram)
+    ∙ ap (λ d. map without_tag list ++ (to, d) ∷ []) (prefix-sealed key datagram))
 
 -- so a link before one that was sent it sealed tells that it was sent
 pub told_unsealed : (key datagram : List ℕ) (to : ℕ) (result : LinkAnswer) (old new : Option (List (ℕ × List ℕ)))
     → SentTold result (to, sealed_under key datagram) old new
-    → SentTold result (to, datagram) (option_map (map unsealed) old) (option_map (map unsealed) new)
-told_unsealed key datagram to answer.Done old new h = ap (option_map (map unsealed)) h ∙ told_sent key datagram to old
-told_unsealed key datagram to answer.Failed old new h = ap (option_map (map unsealed)) h
+    → SentTold result (to, datagram) (option_map (map without_tag) old) (option_map (map without_tag) new)
+told_unsealed key datagram to answer.Done old new h = ap (option_map (map without_tag)) h ∙ told_sent key datagram to old
+told_unsealed key datagram to answer.Failed old new h = ap (option_map (map without_tag)) h
 
 -- two lists of bytes are the same up to a place, and at that place
 same_snoc : (xs ys : List ℕ) (x y : ℕ) → length xs ≡ length ys
@@ -113,14 +113,14 @@ told_more key whole (Some list) =
 -- a datagram that opens is heard as what it opens to
 pub heard_opened : (key whole datagram : List ℕ) (told : Option (List (List ℕ)))
     → Some datagram ≡ opened_under key whole
-    → heard key (and_then told whole) ≡ and_then (heard key told) datagram
+    → opened_datagrams key (and_then told whole) ≡ and_then (opened_datagrams key told) datagram
 heard_opened key whole datagram told found =
-    told_more key whole told ∙ ap (λ o. and_all (heard key told) (option_to_list o)) (sym found)
+    told_more key whole told ∙ ap (λ o. and_all (opened_datagrams key told) (option_to_list o)) (sym found)
 
 -- one that doesn't open isn't heard
 pub heard_dropped : (key whole : List ℕ) (told : Option (List (List ℕ))) → None ≡ opened_under key whole
-    → heard key (and_then told whole) ≡ heard key told
+    → opened_datagrams key (and_then told whole) ≡ opened_datagrams key told
 heard_dropped key whole told found =
     told_more key whole told
-    ∙ ap (λ o. and_all (heard key told) (option_to_list o)) (sym found)
-    ∙ nothing_more (heard key told)
+    ∙ ap (λ o. and_all (opened_datagrams key told) (option_to_list o)) (sym found)
+    ∙ nothing_more (opened_datagrams key told)

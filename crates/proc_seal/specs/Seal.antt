@@ -15,8 +15,8 @@ abbrev pub sealed_under : (key datagram : List ℕ) → List ℕ
 sealed_under key datagram = datagram ++ tag key datagram
 
 -- what stands before the tag
-abbrev pub front : (whole : List ℕ) → List ℕ
-front whole = take (length whole - 16) whole
+abbrev pub prefix : (whole : List ℕ) → List ℕ
+prefix whole = take (length whole - 16) whole
 
 -- the tag
 abbrev pub behind : (whole : List ℕ) → List ℕ
@@ -25,19 +25,19 @@ behind whole = drop (length whole - 16) whole
 -- it is a datagram of at most 8,296 bytes with its tag
 abbrev pub is_sealed : (key whole : List ℕ) → Bool
 is_sealed key whole =
-    nat_le 16 (length whole) && nat_le (length whole) 8312 && bytes_eq (behind whole) (tag key (front whole))
+    nat_le 16 (length whole) && nat_le (length whole) 8312 && bytes_eq (behind whole) (tag key (prefix whole))
 
 -- the datagram, where it is sealed under this key
 abbrev pub opened_under : (key whole : List ℕ) → Option (List ℕ)
-opened_under key whole = if is_sealed key whole then Some (front whole) else None
+opened_under key whole = if is_sealed key whole then Some (prefix whole) else None
 
 -- a datagram that was sent to a node, without its tag
-abbrev pub unsealed : ℕ × List ℕ → ℕ × List ℕ
-unsealed whole = (whole.0, front whole.1)
+abbrev pub without_tag : ℕ × List ℕ → ℕ × List ℕ
+without_tag whole = (whole.0, prefix whole.1)
 
 -- the datagrams among these that are sealed under this key, without their tags, where they are told
-abbrev pub heard : (key : List ℕ) → Option (List (List ℕ)) → Option (List (List ℕ))
-heard key told = option_map (filter_map (opened_under key)) told
+abbrev pub opened_datagrams : (key : List ℕ) → Option (List (List ℕ)) → Option (List (List ℕ))
+opened_datagrams key told = option_map (filter_map (opened_under key)) told
 
 -- what is told of one more datagram: as a link tells it, and of one that was dropped nothing
 abbrev pub OneTold : Option Received → List ℕ → Option (List (List ℕ)) → Option (List (List ℕ)) → Type 0

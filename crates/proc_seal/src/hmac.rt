@@ -29,8 +29,8 @@ fn filled(short: &[u8]) -> [u8; 64]
     ensures { result ≡ short.now ++ replicate (64 - length short.now) 0 }
 {
     let mut block = [0u8; 64];
-    let (front, _) = block.split_at_mut(short.len());
-    front.copy_from_slice(short);
+    let (prefix, _) = block.split_at_mut(short.len());
+    prefix.copy_from_slice(short);
     block
 }
 

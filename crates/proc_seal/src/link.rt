@@ -4,7 +4,7 @@ ghost use Rattle.std.specs.Prelude.{◌≡◌, ◌≤◌, ◌+◌, length, take,
 ghost use Rattle.std.specs.Prelude.{IfOk, IfSome};
 ghost use Rattle.base_io.specs.Faults.{Rose};
 ghost use Rattle.base_io.specs.Link.{SentTold, IsFailed, IsReceiveFailed};
-ghost use Rattle.proc_seal.specs.Seal.{Sealing, sealed_under, opened_under, unsealed, heard, OneTold};
+ghost use Rattle.proc_seal.specs.Seal.{Sealing, sealed_under, opened_under, without_tag, opened_datagrams, OneTold};
 
 use crate::dropped::Dropped;
 use crate::key::{Key, TAG_BYTES};
@@ -70,7 +70,7 @@ impl<'a, L: Link> SealedLink<'a, L> {
     }
 }
 
-/// Seals a datagram into the front of a buffer, and answers how many bytes that are.
+/// Seals a datagram into the prefix of a buffer, and answers how many bytes that are.
 fn seal(key: &Key, datagram: &[u8], buffer: &mut [u8]) -> usize
     requires fits { length datagram.now ≤ MAX_DATAGRAM }
     requires room { length buffer.old ≡ 8313 }
@@ -85,7 +85,7 @@ fn seal(key: &Key, datagram: &[u8], buffer: &mut [u8]) -> usize
     len + TAG_BYTES
 }
 
-/// Copies a datagram to the front of a buffer, where it was sealed so, and answers how many bytes it has.
+/// Copies a datagram to the prefix of a buffer, where it was sealed so, and answers how many bytes it has.
 fn open(key: &Key, whole: &[u8], into: &mut [u8]) -> Option<usize>
     requires { MAX_DATAGRAM ≤ length into.old }
     ensures opened { option_map (λ len. take len into.new) result ≡ opened_under key.now whole.now }
@@ -105,7 +105,7 @@ fn open(key: &Key, whole: &[u8], into: &mut [u8]) -> Option<usize>
     Some(len)
 }
 
-/// Receives one datagram by a link, and opens it into the front of a buffer. None where it is unsealed.
+/// Receives one datagram by a link, and opens it into the prefix of a buffer. None where it is unsealed.
 fn receive_one<L: Link>(
     link: &mut L,
     key: &Key,
@@ -113,8 +113,8 @@ fn receive_one<L: Link>(
     into: &mut [u8],
 ) -> Option<Received>
     requires space { MAX_DATAGRAM ≤ length into.old }
-    ensures received { OneTold result into.new (heard key.now (L.received link.old))
-        (heard key.now (L.received link.new)) }
+    ensures received { OneTold result into.new (opened_datagrams key.now (L.received link.old))
+        (opened_datagrams key.now (L.received link.new)) }
     ensures bound { L.bound link.new ≡ L.bound link.old }
     ensures sent { L.sent link.new ≡ L.sent link.old }
     ensures later { L.faults link.old ≤ L.faults link.new }
@@ -156,13 +156,13 @@ impl<L: Link> SealedLink<'_, L> {
 
 impl<L: Link> Link for SealedLink<'_, L> {
     ghost use Rattle.std.specs.Prelude.{◌+◌, None, option_map, map};
-    ghost use Rattle.proc_seal.specs.Seal.{heard, unsealed};
+    ghost use Rattle.proc_seal.specs.Seal.{opened_datagrams, without_tag};
 
     ghost bound = { λ s. L.bound s.inner };
 
-    ghost sent = { λ s. option_map (map unsealed) (L.sent s.inner) };
+    ghost sent = { λ s. option_map (map without_tag) (L.sent s.inner) };
 
-    ghost received = { λ s. heard s.key (L.received s.inner) };
+    ghost received = { λ s. opened_datagrams s.key (L.received s.inner) };
 
     ghost waiting = { λ _. None };
 
@@ -176,11 +176,11 @@ impl<L: Link> Link for SealedLink<'_, L> {
     /// Sends a datagram sealed by the link behind.
     fn send(&mut self, to: u16, bytes: &[u8]) -> LinkAnswer
         ensures sent { SentTold result (to, bytes.now)
-            (option_map (map unsealed) (L.sent self.old.inner))
-            (option_map (map unsealed) (L.sent self.new.inner)) }
+            (option_map (map without_tag) (L.sent self.old.inner))
+            (option_map (map without_tag) (L.sent self.new.inner)) }
         ensures bound { L.bound self.new.inner ≡ L.bound self.old.inner }
-        ensures received { heard self.new.key (L.received self.new.inner)
-            ≡ heard self.old.key (L.received self.old.inner) }
+        ensures received { opened_datagrams self.new.key (L.received self.new.inner)
+            ≡ opened_datagrams self.old.key (L.received self.old.inner) }
         ensures later { L.faults self.old.inner + self.old.refused
             ≤ L.faults self.new.inner + self.new.refused }
         ensures cause { IsFailed result

@@ -2,7 +2,7 @@
 use Rattle.std.proofs.Common.{◌≡◌, ◌≢◌, ℕ, List, [], ◌∷◌, ◌++◌, true, false, true≢false, refl, sym, ap, ◌∙◌, subst}
 use Rattle.std.proofs.Common.{append_assoc}
 use Rattle.std.specs.Prelude.{map, codes}
-use Rattle.base_io.specs.Buffered.{Outbox, Gathers, GathersUpTo, GathersFront, GathersAll}
+use Rattle.base_io.specs.Buffered.{Outbox, Gathers, GathersUpTo, GathersPrefix, GathersAll}
 use Rattle.base_io.specs.declared.sink.Sink.{Ghosts as SinkGhosts}
 use Rattle.base_io.specs.declared.writing.Wrote.{Wrote}
 use Rattle.base_io.specs.declared.writing.Wrote.TheVariants as wrotes
@@ -51,8 +51,8 @@ module _ {K : Type 0} (k : SinkGhosts K) where
 
   -- the sink failed within the first lines
   pub head_cut : (settings : Parameters) (rank : ℕ) (o n : Outbox)
-      → GathersFront o n (head_text settings.version settings.job rank) → GathersFront o n (whole_text settings rank [])
-  head_cut settings rank o n h = subst (GathersFront o n) (sym (whole_is settings rank []))
+      → GathersPrefix o n (head_text settings.version settings.job rank) → GathersPrefix o n (whole_text settings rank [])
+  head_cut settings rank o n h = subst (GathersPrefix o n) (sym (whole_is settings rank []))
       (gathers_first o n (head_text settings.version settings.job rank) (texts (tracing k) [] ++ codes "end\n") h)
 
   module _ (settings : Parameters) (rank : ℕ) (J : List Entry) (o before now new : Outbox) (wrote : Wrote)
@@ -71,17 +71,17 @@ module _ {K : Type 0} (k : SinkGhosts K) where
         headed some) line
 
     pub writes : (end : StationEnd) → (end ≢ WriteFault → Gathers before now (texts (tracing k) J))
-        → (end ≡ WriteFault → GathersFront before now (texts (tracing k) J)) → EndLine now new end wrote
+        → (end ≡ WriteFault → GathersPrefix before now (texts (tracing k) J)) → EndLine now new end wrote
         → WritesAt settings rank J o new end wrote
-    writes Over some front line = ended (some (λ e. absurd (cc e))) line
-    writes Stuck some front line = ended (some (λ e. absurd (cc e))) line
-    writes LinkFault some front line = ended (some (λ e. absurd (cc e))) line
-    writes JournalFull some front line = ended (some (λ e. absurd (cc e))) line
-    writes WriteFault some front line =
-        subst (λ n. GathersFront o n all) (sym line)
+    writes Over some prefix line = ended (some (λ e. absurd (cc e))) line
+    writes Stuck some prefix line = ended (some (λ e. absurd (cc e))) line
+    writes LinkFault some prefix line = ended (some (λ e. absurd (cc e))) line
+    writes JournalFull some prefix line = ended (some (λ e. absurd (cc e))) line
+    writes WriteFault some prefix line =
+        subst (λ n. GathersPrefix o n all) (sym line)
         (past_fault o before now all (texts (tracing k) J) (codes "end\n") (texts (tracing k) J ++ codes "end\n") refl
-        headed (front refl))
-    writes NoMemory some front line =
+        headed (prefix refl))
+    writes NoMemory some prefix line =
         subst (λ n. Gathers o n (open_text settings rank J)) (sym line)
         (subst (Gathers o now) (sym (open_is settings rank J))
         (gathers_more o before now (head_text settings.version settings.job rank) (texts (tracing k) J) head
@@ -147,7 +147,7 @@ module _ {M L C K : Type 0} (m : MachineGhosts M) (l : LinkGhosts L) (c : ClockG
   written J (inl ran) =
       subst (λ j. WritesAt node.settings node.address.rank j (at sink) (at after.recorder) left.end f.wrote) ran.1
       (writes k node.settings node.address.rank ran.0.leaves.journal (at sink) (at opened) (at left.recorder) (at after.recorder) f.wrote
-      head left.end ran.0.leaves.written ran.0.leaves.front f.line)
+      head left.end ran.0.leaves.written ran.0.leaves.prefix f.line)
   written J (inr un) =
       let u = un.0 in
       let same : left.recorder ≡ opened = ap (λ w. w.recorder) u.left_is in

@@ -1,7 +1,7 @@
 -- How a node runs, and what it writes as it does.
 -- Origin: this project's profile.
 use Rattle.std.specs.Prelude.{◌≡◌, ◌≤◌, ◌⊎◌, ℕ, Bool, true, false, List, [], ◌++◌, codes, map, Some}
-use Rattle.base_io.specs.Buffered.{Gathering, Outbox, Gathers, GathersFront, GathersAll, outbox}
+use Rattle.base_io.specs.Buffered.{Gathering, Outbox, Gathers, GathersPrefix, GathersAll, outbox}
 use Rattle.base_io.specs.Faults.{Rose}
 use Rattle.base_io.specs.declared.link.Link.{Ghosts as LinkGhosts}
 use Rattle.base_io.specs.declared.clock.Clock.{Ghosts as ClockGhosts}
@@ -91,11 +91,11 @@ abbrev pub open_text : Parameters → (rank : ℕ) → List Entry → List ℕ
 open_text settings rank journal = spell (open_lines settings rank journal)
 
 -- by the end, and by whether the last line was written: the whole text; without its last line, where memory ran out; and
--- at a fault of the sink a front of it
+-- at a fault of the sink a prefix of it
 abbrev pub WritesAt : Parameters → (rank : ℕ) → List Entry → (old new : Outbox) → StationEnd → Wrote
     → Type 0
 WritesAt settings rank journal old new NoMemory wrote = Gathers old new (open_text settings rank journal)
-WritesAt settings rank journal old new WriteFault wrote = GathersFront old new (whole_text settings rank journal)
+WritesAt settings rank journal old new WriteFault wrote = GathersPrefix old new (whole_text settings rank journal)
 WritesAt settings rank journal old new Over wrote = GathersAll old new (whole_text settings rank journal) wrote
 WritesAt settings rank journal old new Stuck wrote = GathersAll old new (whole_text settings rank journal) wrote
 WritesAt settings rank journal old new LinkFault wrote = GathersAll old new (whole_text settings rank journal) wrote
@@ -161,7 +161,7 @@ pub record IsUnopened {M L C K : Type 0} (k : SinkGhosts K) (node : Node M L C) 
     recorder = after.recorder;
     end = WriteFault;
   }
-  pub written : GathersFront (outbox k.taken k.faults sink) (outbox k.taken k.faults after.recorder)
+  pub written : GathersPrefix (outbox k.taken k.faults sink) (outbox k.taken k.faults after.recorder)
       (whole_text node.settings node.address.rank [])
 
 abbrev pub RunsStation : {M L C K : Type 0} → MachineGhosts M → LinkGhosts L → ClockGhosts C → SinkGhosts K → Node M L C

@@ -17,7 +17,7 @@ use Rattle.law_traces.specs.Actions.{Form, StepContext, collectives_after}
 use Rattle.law_traces.specs.Scripts.{ThreadCall}
 use Rattle.text_script.specs.ScheduledCalls.{meant_by}
 use Rattle.proc_steps.specs.Forms.{IsPlain, call_form, plan_form, step_form, tried_while, waiting_form, waiting_in, waits_of}
-use Rattle.proc_steps.specs.Tries.{AreThere, Found, IsAtSameNode, Tries, TriesForm, TriesFound, context_here, read_as}
+use Rattle.proc_steps.specs.Tries.{AreThere, FoundNode, IsAtSameNode, Tries, TriesForm, TriesFound, context_here, read_as}
 use Rattle.proc_steps.specs.Tries.{step_here}
 use Rattle.proc_steps.specs.declared.trial.Trial.{Trial}
 use Rattle.proc_steps.specs.declared.trial.Tried.{Tried}
@@ -35,7 +35,7 @@ kept_there old new (Some it) same there = record {
 }
 
 -- a step that is read so, and found so
-pub found_attempted : (meaning : Meaning) (old new : Found) (trial : Trial) (tried : Tried) (one : ScriptStep)
+pub found_attempted : (meaning : Meaning) (old new : FoundNode) (trial : Trial) (tried : Tried) (one : ScriptStep)
     → trial.step.now ≡ one → TriesFound meaning old trial (step_form one) tried new → Tries meaning old trial tried new
 found_attempted meaning old new trial tried one is found =
     tries_step meaning old new trial tried

@@ -44,7 +44,7 @@ use Rattle.node_rules.specs.TransferCalls.{Caller, TransferCall, transfer_does, 
 use Rattle.node_rules.specs.TransferCalls.{SyncImplicit, transfer_kind, handle_in, emptied_by, whole_registers}
 use Rattle.node_rules.specs.Called.{Requests, Performs, node_event}
 use Rattle.node_rules.specs.EndpointLocal.{EndpointLocal, with_core}
-use Rattle.node_rules.specs.EndpointRules.{OnCore, OnBarrier, asked_answer, told, job_of}
+use Rattle.node_rules.specs.EndpointRules.{OnCore, OnBarrier, asked_answer, answer_told, job_of}
 use Rattle.node_rules.specs.EndpointRules.{unless_forbidden}
 use Rattle.node_rules.specs.EndpointRules.{with_barrier}
 use Rattle.node_rules.specs.declared.answer.Answer.{Answer}
@@ -87,7 +87,7 @@ abbrev job_at : TryContext → EndpointJob
 job_at place = job_of place.settings place.table place.meaning
 
 abbrev answer_of : TryContext → Node EndpointLocal → ThreadCall → Answer
-answer_of place node made = told (node_answer (job_at place) place.me node place.now (node_event place.thread made))
+answer_of place node made = answer_told (node_answer (job_at place) place.me node place.now (node_event place.thread made))
 
 abbrev after_of : TryContext → Node EndpointLocal → ThreadCall → Node EndpointLocal
 after_of place node made = node_after (job_at place) place.me node place.now (node_event place.thread made)

@@ -20,7 +20,7 @@ use Rattle.proc_collective_steps.specs.Tries.{AreOf, IsPartTried, IsSameCore, co
 use Rattle.proc_collective_steps.specs.declared.tries.AtThread.{AtThread}
 use Rattle.proc_collective_steps.specs.declared.tries.PartTried.{PartTried}
 use Rattle.proc_steps.specs.Forms.{call_part, collective_form, in_one_try, nothing_part, nothing_there, whole_form}
-use Rattle.proc_steps.specs.Tries.{AreThere, Found, FormTrial, IsAtSameNode, TriesForm, TriesFound, begun_by, context_here}
+use Rattle.proc_steps.specs.Tries.{AreThere, FoundNode, FormTrial, IsAtSameNode, TriesForm, TriesFound, begun_by, context_here}
 use Rattle.proc_steps.specs.Tries.{no_collectives, of_part, read_as, step_here}
 use Rattle.proc_steps.specs.declared.trial.Trial.{Trial}
 use Rattle.proc_steps.specs.declared.trial.Tried.{Tried}
@@ -269,7 +269,7 @@ at_thread trial = record { thread = trial.thread; now = trial.time }
 
 -- a try of a thread, told so
 pub told_so : (meaning : Meaning) (old : EndpointState) (collectives : Option CollectivesState) (it : CollectivesState)
-    (trial : Trial) (form : StepContext → Node EndpointLocal → Form EndpointLocal) (tried told : Tried) (new : Found)
+    (trial : Trial) (form : StepContext → Node EndpointLocal → Form EndpointLocal) (tried told : Tried) (new : FoundNode)
     → collectives ≡ Some it → tried ≡ told
     → TriesFound meaning (record { endpoint = old; collectives = Some it }) trial form told new
     → TriesFound meaning (record { endpoint = old; collectives = collectives }) trial form tried new

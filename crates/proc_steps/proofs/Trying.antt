@@ -15,7 +15,7 @@ use Rattle.node_core.specs.CoreState.{CoreState}
 use Rattle.node_core.specs.CoreContracts.{IsSameNode}
 use Rattle.node_rules.specs.Called.{node_event}
 use Rattle.node_rules.specs.EndpointLocal.{EndpointLocal, IsEndpointKept}
-use Rattle.node_rules.specs.EndpointRules.{told, transition}
+use Rattle.node_rules.specs.EndpointRules.{answer_told, transition}
 use Rattle.node_rules.specs.Sends.{sends}
 use Rattle.node_rules.specs.declared.answer.Answer.{Answer}
 use Rattle.node_endpoint.specs.EndpointState.{EndpointState, EndpointStands, ForItsRecord, NodeSteps, job_here}
@@ -26,13 +26,13 @@ use Rattle.law_traces.specs.Actions.{begins, moves}
 use Rattle.law_traces.specs.Actions.{progress_after, tried_form}
 use Rattle.law_traces.specs.Outgoing.{slot_of_packet, StaysWell}
 use Rattle.law_traces.specs.declared.script_answer.ScriptAnswer.{ScriptAnswer}
-use Rattle.law_traces.specs.Scripts.{ThreadCall, Tried as FormTried}
+use Rattle.law_traces.specs.Scripts.{ThreadCall, TryResult as FormTried}
 use Rattle.law_traces.specs.Turn.{node_run, node_sends, events_of, first_answer}
-use Rattle.proc_steps.specs.Tries.{IsAtSameNode, Made}
+use Rattle.proc_steps.specs.Tries.{IsAtSameNode, MadeCall}
 use Rattle.proc_steps.specs.Tries.{Makes}
 use Rattle.proc_steps.specs.Tries.{FormTrial}
 use Rattle.proc_steps.specs.Tries.{trial_calls, trial_answer, trial_after, begun_by, moved_by}
-use Rattle.proc_steps.specs.Tries.{Found, IsFar, TriesForm, as_form, as_tried, Tries}
+use Rattle.proc_steps.specs.Tries.{FoundNode, IsFar, TriesForm, as_form, as_tried, Tries}
 use Rattle.proc_steps.specs.declared.trial.Trial.{Trial}
 use Rattle.proc_steps.specs.declared.trial.Tried.{Tried}
 
@@ -69,7 +69,7 @@ at_same old new Holds same holds =
     subst (λ me. Holds old.settings me) same.me_is (subst (λ settings. Holds settings new.me) same.settings holds)
 
 -- a call of a thread
-pub call_made : (meaning : Meaning) (old new : EndpointState) (made : Made)
+pub call_made : (meaning : Meaning) (old new : EndpointState) (made : MadeCall)
     → NodeSteps meaning old (transition made.now (node_event made.thread made.meant) made.answer) new
     → NodeSends meaning old (transition made.now (node_event made.thread made.meant) made.answer)
     → Makes meaning old made new
@@ -98,7 +98,7 @@ call_made meaning old new made steps sent =
 -- ---- a try that makes a call, and one that makes none
 
 -- the call of a try, by every record for which the endpoint stood
-pub record Calls (old : EndpointState) (trial : FormTrial) (tried : Tried) (made : Made) (new : EndpointState) : Type 0
+pub record Calls (old : EndpointState) (trial : FormTrial) (tried : Tried) (made : MadeCall) (new : EndpointState) : Type 0
   where
     pub now_is : made.now ≡ trial.now
     pub thread_is : made.thread ≡ trial.thread
@@ -138,7 +138,7 @@ goes_so meaning old new trial tried same all =
       went = λ node stands. let it = all node stands in record { ended = it.3; began = it.4 };
     }
 
-pub tries_call : (meaning : Meaning) (old new : EndpointState) (trial : FormTrial) (tried : Tried) (made : Made)
+pub tries_call : (meaning : Meaning) (old new : EndpointState) (trial : FormTrial) (tried : Tried) (made : MadeCall)
     → Makes meaning old made new → Calls old trial tried made new → TriesForm meaning old trial tried new
 tries_call meaning old new trial tried made makes calls =
     goes_so meaning old new trial tried makes.happen.same
@@ -290,7 +290,7 @@ told_so form trial tried after answer ended began says rest =
     (ap (λ (o : Option Answer). ended_by form o after answer) (sym none) ∙ (sym ended ∙ open_)))
     ∙ ap (as_told tried.ended) (ap begun (sym (moved_is form trial.began tried.ended)) ∙ sym began))
 
-pub tries_step : (meaning : Meaning) (old new : Found) (trial : Trial) (tried : Tried)
+pub tries_step : (meaning : Meaning) (old new : FoundNode) (trial : Trial) (tried : Tried)
     → ForItsRecord old.endpoint (λ node. HasFirst ((as_form meaning old trial).form node))
     → TriesForm meaning old.endpoint (as_form meaning old trial) tried new.endpoint
     → ForItsRecord old.endpoint (IsFar meaning old trial new.collectives) → Tries meaning old trial tried new
@@ -312,7 +312,7 @@ tries_step meaning old new trial tried has_first tries far =
 
     told_of : Node EndpointLocal → ThreadCall → Answer
     told_of node call =
-        told (node_answer (job_here meaning old.endpoint) me node trial.time (node_event trial.thread call))
+        answer_told (node_answer (job_here meaning old.endpoint) me node trial.time (node_event trial.thread call))
 
     answered : (node : Node EndpointLocal) (form : Form EndpointLocal)
         → (call : ThreadCall) × (slice_get (calls_of form None) 0 ≡ Some call) → trial.began ≡ None

@@ -74,10 +74,10 @@ is_not_ready _ = false
 -- ---- answers that end a step which looks at the local node
 
 -- ok, where the cell that was read is at least the value
-abbrev pub reached : (value : ℤ) → Answer → Option ScriptAnswer
-reached value (answers.Local (local.Cell number)) =
+abbrev pub cell_reached : (value : ℤ) → Answer → Option ScriptAnswer
+cell_reached value (answers.Local (local.Cell number)) =
     if int_le value number then Some (said.Call (answers.Local local.Done)) else None
-reached value _ = None
+cell_reached value _ = None
 
 -- ok, where the word that was read is this number; and a refusal of the place
 abbrev pub word_reached : (number : ℕ) → Answer → Option ScriptAnswer
@@ -198,7 +198,7 @@ whole_form shape from dest at node = elim at.collectives [
 -- how a step that scripts alone have is tried, by the cells of its node
 abbrev pub waiting_form : (cells : List ℤ) → WaitingStep → Form EndpointLocal
 waiting_form cells (waiting.Until cell operand) =
-    Until (Performs (OnCore (Cell cell))) (reached (operand_value cells [] operand))
+    Until (Performs (OnCore (Cell cell))) (cell_reached (operand_value cells [] operand))
 waiting_form cells (waiting.UntilWord offset number) =
     Until (Performs (OnCore (OnSegment (LoadWord offset)))) (word_reached number)
 -- gasnet_put, gasnet_get and gasnet_memset: the operation is begun without a register

@@ -10,7 +10,7 @@ use Rattle.spec_node.specs.declared.answer.SlotRef.{SlotRef}
 use Rattle.node_core.specs.CoreState.{CoreState}
 use Rattle.node_rules.specs.Called.{node_event}
 use Rattle.node_rules.specs.EndpointLocal.{EndpointLocal, IsEndpointKept}
-use Rattle.node_rules.specs.EndpointRules.{OtherCall, RecordEvent, told}
+use Rattle.node_rules.specs.EndpointRules.{OtherCall, RecordEvent, answer_told}
 use Rattle.node_rules.specs.Sends.{sends}
 use Rattle.node_rules.specs.declared.answer.Answer.{Answer}
 use Rattle.node_endpoint.specs.EndpointState.{EndpointState, EndpointStands, ForItsRecord, job_here}
@@ -24,7 +24,7 @@ use Rattle.law_traces.specs.Actions.{Form, Several, Progress, StepContext, calls
 use Rattle.law_traces.specs.Actions.{step_part_of, tried_form, unless}
 use Rattle.law_traces.specs.Outgoing.{slot_of_packet, StaysWell}
 use Rattle.law_traces.specs.declared.script_answer.ScriptAnswer.{ScriptAnswer}
-use Rattle.law_traces.specs.Scripts.{ThreadCall, Tried as FormTried, TryContext}
+use Rattle.law_traces.specs.Scripts.{ThreadCall, TryResult as FormTried, TryContext}
 use Rattle.law_traces.specs.Turn.{node_run, node_sends, events_of, first_answer}
 use Rattle.node_vis.specs.Beginning.{BeginCall, calls_made, vis_answer}
 use Rattle.node_vis.specs.declared.shapes.Vis.{Vis}
@@ -67,14 +67,14 @@ pub record Happen (meaning : Meaning) (old : EndpointState) (happening : Happeni
     pub happened : ForItsRecord old (λ node. HasHappened (job_here meaning old) old.core.me happening node new)
 
 -- a call of a thread at a time, with its answer
-pub record Made : Type 0 where
+pub record MadeCall : Type 0 where
   pub now : ℕ
   pub thread : ℕ
   pub meant : ThreadCall
   pub answer : Answer
 
 -- its event, and the slot of what it sent
-abbrev pub made_happening : Made → Happening
+abbrev pub made_happening : MadeCall → Happening
 made_happening made = record {
   now = made.now;
   events = λ node. node_event made.thread made.meant ∷ [];
@@ -82,11 +82,11 @@ made_happening made = record {
 }
 
 -- the endpoint was asked this, and answered so
-pub record Makes (meaning : Meaning) (old : EndpointState) (made : Made) (new : EndpointState) : Type 0 where
+pub record Makes (meaning : Meaning) (old : EndpointState) (made : MadeCall) (new : EndpointState) : Type 0 where
   pub happen : Happen meaning old (made_happening made) new
   pub answered : ForItsRecord old (λ node.
       made.answer
-      ≡ told (node_answer (job_here meaning old) old.core.me node made.now (node_event made.thread made.meant)))
+      ≡ answer_told (node_answer (job_here meaning old) old.core.me node made.now (node_event made.thread made.meant)))
 
 -- ---- the try of a step that has a form
 
@@ -135,8 +135,8 @@ pub record WentSo (job : EndpointJob) (me : ℕ) (trial : FormTrial) (tried : Tr
         ≡ begun_by (trial.form node) trial.began tried.ended (trial_answer job me trial node)
 
 -- a look at what the answer with which a step began is about: it ends the step where all of that is sent
-abbrev pub looked : (first : Answer) → Node EndpointLocal → Tried
-looked first node = record { sent = None; ended = unless (not (is_sent first node)) first; began = None }
+abbrev pub look_result : (first : Answer) → Node EndpointLocal → Tried
+look_result first node = record { sent = None; ended = unless (not (is_sent first node)) first; began = None }
 
 -- the events of the try, and the slot of what they sent
 abbrev pub trial_happening : FormTrial → Tried → Happening
@@ -153,7 +153,7 @@ pub record TriesForm
 -- ---- the try of a step
 
 -- a call of the thread, with its answer
-abbrev pub made_by : Trial → (meant : ThreadCall) → Answer → Made
+abbrev pub made_by : Trial → (meant : ThreadCall) → Answer → MadeCall
 made_by trial meant answer =
     record { now = trial.time; thread = trial.thread; meant = meant; answer = answer }
 
@@ -174,7 +174,7 @@ context_here meaning endpoint thread now = record {
 }
 
 -- what a try finds: the endpoint of the node, and how far the node's collectives are
-pub record Found : Type 0 where
+pub record FoundNode : Type 0 where
   pub endpoint : EndpointState
   pub collectives : Option CollectivesState
 
@@ -183,12 +183,12 @@ abbrev pub AreThere : EndpointState → Option CollectivesState → Type 0
 AreThere endpoint None = Unit {0}
 AreThere endpoint (Some it) = AreOf endpoint.core it
 
-abbrev pub step_here : Meaning → Found → (thread now : ℕ) → StepContext
+abbrev pub step_here : Meaning → FoundNode → (thread now : ℕ) → StepContext
 step_here meaning found thread now =
     record { place = context_here meaning found.endpoint thread now; collectives = found.collectives }
 
 -- the step, as it is read there
-abbrev pub as_form : Meaning → Found → Trial → FormTrial
+abbrev pub as_form : Meaning → FoundNode → Trial → FormTrial
 as_form meaning found trial = read_as trial (step_form trial.step.now (step_here meaning found trial.thread trial.time))
 
 -- what is left of the script whose step was tried, and behind which this is left
@@ -203,7 +203,7 @@ as_tried trial tried rest =
     record { left = rest_left trial tried rest; ended = tried.ended; began = is_some tried.began }
 
 -- of a record that the try found: it went as the step's form says
-abbrev pub IsTriedSo : Meaning → Found → Trial → Tried → Node EndpointLocal → Type 0
+abbrev pub IsTriedSo : Meaning → FoundNode → Trial → Tried → Node EndpointLocal → Type 0
 IsTriedSo meaning old trial tried node =
     let job = job_here meaning old.endpoint in
     let me = old.endpoint.core.me in
@@ -214,13 +214,13 @@ IsTriedSo meaning old trial tried node =
     ≡ as_tried trial tried rest
 
 -- how far the node's collectives are after the try, of a record that it found
-abbrev pub IsFar : Meaning → Found → Trial → (next : Option CollectivesState) → Node EndpointLocal → Type 0
+abbrev pub IsFar : Meaning → FoundNode → Trial → (next : Option CollectivesState) → Node EndpointLocal → Type 0
 IsFar meaning old trial next node =
     next ≡ collectives_after ((as_form meaning old trial).form node) trial.began old.collectives
 
 -- a step was tried: of every record for which the endpoint stood, the try made the calls that the step's form makes, in
 -- order, and went as the form says
-pub record Tries (meaning : Meaning) (old : Found) (trial : Trial) (tried : Tried) (new : Found) : Type 0 where
+pub record Tries (meaning : Meaning) (old : FoundNode) (trial : Trial) (tried : Tried) (new : FoundNode) : Type 0 where
   pub happen : Happen meaning old.endpoint (trial_happening (as_form meaning old trial) tried) new.endpoint
   pub tried_so : ForItsRecord old.endpoint (IsTriedSo meaning old trial tried)
   pub far : ForItsRecord old.endpoint (IsFar meaning old trial new.collectives)
@@ -240,8 +240,8 @@ abbrev pub no_collectives : Tried
 no_collectives = record { sent = None; ended = Some (said.Step steps.Nothing); began = None }
 
 -- a step that is read so was tried, and the collectives are as far as its form says
-pub record TriesFound (meaning : Meaning) (old : Found) (trial : Trial)
-    (form : StepContext → Node EndpointLocal → Form EndpointLocal) (tried : Tried) (new : Found) : Type 0 where
+pub record TriesFound (meaning : Meaning) (old : FoundNode) (trial : Trial)
+    (form : StepContext → Node EndpointLocal → Form EndpointLocal) (tried : Tried) (new : FoundNode) : Type 0 where
   pub tries : TriesForm meaning old.endpoint (read_as trial (form (step_here meaning old trial.thread trial.time)))
       tried new.endpoint
   pub far : ForItsRecord old.endpoint (λ node.

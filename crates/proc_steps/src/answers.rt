@@ -2,7 +2,7 @@
 
 ghost use Rattle.std.specs.Prelude.{◌≡◌};
 ghost use Rattle.proc_steps.specs.Forms.{begun_handle, is_held, is_not_ready, is_put_off, as_synced};
-ghost use Rattle.proc_steps.specs.Forms.{reached, waits_at, word_reached};
+ghost use Rattle.proc_steps.specs.Forms.{cell_reached, waits_at, word_reached};
 
 use law_traces::ScriptAnswer;
 use node_core::Asked;
@@ -53,7 +53,7 @@ pub(crate) fn waits_at(call: &ScheduledCall, answer: &Answer) -> bool
 
 /// The answer of the step of an `until`, where the number of the cell that was read ends it.
 pub(crate) fn reached(value: i32, answer: &Answer) -> Option<ScriptAnswer>
-    ensures { result ≡ reached value answer.now }
+    ensures { result ≡ cell_reached value answer.now }
 {
     match answer {
         Answer::Local(Local::Cell(number)) if value <= *number => {

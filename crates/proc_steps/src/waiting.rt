@@ -8,7 +8,7 @@ ghost use Rattle.text_steps.specs.declared.steps.WaitingStep.{WaitingStep};
 ghost use Rattle.law_traces.specs.Actions.{Again, Looks};
 ghost use Rattle.text_script.specs.Callable.{IsCallable};
 ghost use Rattle.proc_steps.specs.Forms.{IsPlain, IsPut, IsSync, is_not_ready, is_sent, put_of, waiting_form};
-ghost use Rattle.proc_steps.specs.Tries.{TriesForm, read_as, looked};
+ghost use Rattle.proc_steps.specs.Tries.{TriesForm, read_as, look_result};
 
 use crate::answers::{as_synced, begun_handle, is_not_ready, reached, word_reached};
 use crate::making::{is_sent, make};
@@ -165,7 +165,7 @@ fn put_call(step: &WaitingStep) -> Call<'_>
 
 /// A later try of such a put, which began with this answer: it looks whether all its chunks are issued.
 fn look(endpoint: &Endpoint, first: &Answer) -> Tried
-    ensures { ForItsRecord endpoint.now (λ node. result ≡ looked first.now node) }
+    ensures { ForItsRecord endpoint.now (λ node. result ≡ look_result first.now node) }
 {
     if is_sent(endpoint, first) {
         Tried {

@@ -1,7 +1,7 @@
 -- What a step of a world says of a call of a node's thread.
 use Rattle.std.proofs.Common.{◌≡◌, ℕ, true, refl, ◌∙◌}
 use Rattle.part_handlers.specs.Runs.{Meaning}
-use Rattle.node_rules.specs.EndpointRules.{Records, timed, transition}
+use Rattle.node_rules.specs.EndpointRules.{Records, timed_event, transition}
 use Rattle.node_rules.specs.Called.{Meant, Requests, Performs, event_at}
 use Rattle.node_rules.specs.declared.answer.Answer.{Answer}
 use Rattle.spec_network.specs.World.{world_answer}
@@ -21,7 +21,7 @@ pub told_so : (at : Site) (records : Records) (call : ThreadCall)
 told_so at records call = by_kind call.call
   where
     by_kind : (kind : Meant)
-        → world_told (world_answer (job_at at) records (timed at.now (event_at at.node call.thread kind)))
+        → world_told (world_answer (job_at at) records (timed_event at.now (event_at at.node call.thread kind)))
         ≡ answers.Node (answer_at at (records at.node) (record { thread = call.thread; call = kind }))
     by_kind (Requests to asking) = refl
     by_kind (Performs other) = refl

@@ -1,8 +1,8 @@
 -- What a caller at a node of a world stands for, and what calls make of it.
 use Rattle.std.specs.Prelude.{ℕ, List, [], ◌∷◌}
-use Rattle.node_rules.specs.EndpointRules.{OtherCall, Records, timed}
+use Rattle.node_rules.specs.EndpointRules.{OtherCall, Records, timed_event}
 use Rattle.node_rules.specs.Called.{event_at}
-use Rattle.spec_network.specs.World.{Timed, world_after}
+use Rattle.spec_network.specs.World.{EventAt, world_after}
 use Rattle.spec_network.specs.MostHeld.{most_then}
 use Rattle.node_caller.specs.Sites.{Site, ThreadCall, job_at}
 
@@ -12,8 +12,8 @@ pub record WorldWhole : Type 0 where
   pub most : ℕ → ℕ
 
 -- a call of a thread, as an event of the world
-abbrev pub event_of_call : Site → ThreadCall → Timed OtherCall
-event_of_call site call = timed site.now (event_at site.node call.thread call.call)
+abbrev pub event_of_call : Site → ThreadCall → EventAt OtherCall
+event_of_call site call = timed_event site.now (event_at site.node call.thread call.call)
 
 -- the records that it leaves
 abbrev pub records_then : Site → Records → ThreadCall → Records
@@ -27,6 +27,6 @@ whole_then site whole call = record {
 }
 
 -- calls of threads of the node, one after another, as events of the world
-abbrev pub events_of : Site → List ThreadCall → List (Timed OtherCall)
+abbrev pub events_of : Site → List ThreadCall → List (EventAt OtherCall)
 events_of site [] = []
 events_of site (call ∷ later) = event_of_call site call ∷ events_of site later

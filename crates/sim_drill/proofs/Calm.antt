@@ -7,9 +7,9 @@ use Rattle.wire_message.specs.Content.{Content, code, content_of, is_ack, is_req
 use Rattle.wire_message.specs.Message.{Message}
 use Rattle.part_handlers.specs.Registered.{entry_at, is_for_replies, is_for_requests}
 use Rattle.part_handlers.specs.Rules.{context_of, rule}
-use Rattle.part_handlers.specs.Runs.{Frame, Outcome, Start, after_answer, answer, closed, first_fault, judged}
+use Rattle.part_handlers.specs.Runs.{Frame, Outcome, Start, after_answer, answer, after_return, first_fault, judgement}
 use Rattle.part_handlers.specs.Runs.{passes_end}
-use Rattle.part_handlers.specs.Runs.{refusal, reply_faults, untouched}
+use Rattle.part_handlers.specs.Runs.{refusal, reply_faults, nothing_done}
 use Rattle.part_handlers.specs.declared.message.Replied.{Replied}
 use Rattle.part_handlers.specs.declared.message.Replied.TheVariants as replied
 use Rattle.part_handlers.specs.declared.message.Which.{Which}
@@ -34,11 +34,11 @@ use Rattle.spec_node.specs.NodeStep.{node_after, site_of}
 use Rattle.spec_node.specs.Record.{Node, Request, Run}
 use Rattle.spec_node.specs.Step.{Site, TickChoice, Retransmits, Sends, Rests, after_delivery, after_request, after_tick}
 use Rattle.spec_node.specs.Step.{claim_answer, first_why, is_exhausted, own_answer, request_answer, request_fault}
-use Rattle.spec_node.specs.Step.{said}
+use Rattle.spec_node.specs.Step.{request_content}
 use Rattle.spec_node.specs.Step.{unless_bad, unless_refused, unless_waiting, tick_choice, verdict, with_sender}
 use Rattle.spec_node.specs.Step.{Verdict, Refused, Duplicated, Passed, Runs, Missed, Returns, Waits}
 use Rattle.spec_node.specs.Step as step
-use Rattle.base_lists.specs.Numbered.{numbered}
+use Rattle.base_lists.specs.Numbered.{element_at}
 use Rattle.base_lists.specs.Put.{put}
 use Rattle.spec_network.specs.World.{Asks, Does, Ticks, after_at, reply_event, request_event}
 use Rattle.spec_network.specs.World.{world_after}
@@ -55,7 +55,7 @@ use Rattle.part_transfers.specs.declared.operation.ImplicitKinds.TheVariants as 
 use Rattle.part_transfers.specs.declared.operation.Transfer.{Transfer}
 use Rattle.part_transfers.specs.declared.operation.Transfer.TheVariants as transfers
 use Rattle.node_rules.specs.EndpointLocal.{EndpointLocal}
-use Rattle.node_rules.specs.EndpointRules.{OnTransfers, Records, endpoint_rules, job_of, timed}
+use Rattle.node_rules.specs.EndpointRules.{OnTransfers, Records, endpoint_rules, job_of, timed_event}
 use Rattle.node_rules.specs.EndpointRules.{unless_forbidden}
 use Rattle.node_rules.specs.TransferCalls.{BeginImplicit, Caller, SyncImplicit, after_beginning, begin_says}
 use Rattle.node_rules.specs.TransferCalls.{implicit_mode, transfer_does}
@@ -68,7 +68,7 @@ use Rattle.text_steps.specs.declared.steps.Action.TheVariants as action
 use Rattle.text_calls.specs.declared.values.Operand.TheVariants as operand
 use Rattle.text_steps.specs.declared.steps.ReplyAction.TheVariants as reply
 use Rattle.text_script.specs.Bodies.{act, acts, operand_at, operand_value, script_meaning}
-use Rattle.text_script.specs.Registration.{handlers_of, registered}
+use Rattle.text_script.specs.Registration.{handlers_of, registry_of}
 use Rattle.text_steps.specs.declared.steps.TimedEvent.{TimedEvent}
 use Rattle.sim_run.specs.Schedules.{Nodes, nodes_after, nodes_behind, opening_nodes, world_job}
 use Rattle.sim_run.proofs.LinesRun.{schedule_runs}
@@ -97,7 +97,7 @@ return_allowed role.Reply sent = refl
 abbrev pub IsQuiet : Outcome → Type 0
 IsQuiet outcome = (outcome.locks ≡ []) × (outcome.refused ≡ [])
 
-closed_quiet : (frame : Frame) (outcome : Outcome) → IsQuiet outcome → (closed frame outcome).refused ≡ []
+closed_quiet : (frame : Frame) (outcome : Outcome) → IsQuiet outcome → (after_return frame outcome).refused ≡ []
 closed_quiet frame outcome quiet =
     rw (quiet.0, quiet.1) (return_allowed frame.arrival.role _)
 
@@ -129,15 +129,15 @@ abbrev reply_body : List Action
 reply_body = action.Add 1 (operand.Argument 0) ∷ []
 
 abbrev added : Frame → Start → Outcome
-added frame start = act frame start (untouched start) (action.Add 0 (operand.Argument 0))
+added frame start = act frame start (nothing_done start) (action.Add 0 (operand.Argument 0))
 
 abbrev asked_reply : Frame → Start → Content
 asked_reply frame start = short_reply 129 (map (operand_at frame (added frame start)) (operand.Argument 0 ∷ []))
 
 request_quiet : (frame : Frame) (start : Start) → frame.arrival.role ≡ role.Request → start.locks ≡ []
-    → IsQuiet (acts frame start (untouched start) request_body)
+    → IsQuiet (acts frame start (nothing_done start) request_body)
 request_quiet frame start which locks =
-    let allowed : judged frame call.Reply (added frame start) ≡ Ok tt = rw (which, locks) refl in
+    let allowed : judgement frame call.Reply (added frame start) ≡ Ok tt = rw (which, locks) refl in
     let through : IsLetThrough (answer frame (asked_reply frame start) (added frame start)) = rw allowed
     (let_through (reply_faults frame.settings frame.table (asked_reply frame start))) in
     reply_quiet (answer frame (asked_reply frame start) (added frame start)) (asked_reply frame start)
@@ -146,7 +146,7 @@ request_quiet frame start which locks =
 -- a body by the index of its handler
 by_index : (frame : Frame) (start : Start) (first second : Bool) → (first ≡ true → frame.arrival.role ≡ role.Request)
     → start.locks ≡ []
-    → IsQuiet (acts frame start (untouched start) (cond first request_body (cond second reply_body [])))
+    → IsQuiet (acts frame start (nothing_done start) (cond first request_body (cond second reply_body [])))
 by_index frame start true second which locks = request_quiet frame start (which refl) locks
 by_index frame start false true which locks = (locks, refl)
 by_index frame start false false which locks = (locks, refl)
@@ -273,7 +273,7 @@ asks_clean table me node now ask other clean =
     let site = site_of (job table) me in
     let claim = claim_answer (limits_of drill_settings me ask.to) ask.to (node.asked ask.to) in
     let fault = request_fault drill_settings site.behaviour ask in
-    let here = own_answer (site.behaviour.busy (said site node ask) node.local) in
+    let here = own_answer (site.behaviour.busy (request_content site node ask) node.local) in
     let answer : request_answer site node ask ≡ unless_bad fault claim =
     answer_by (site.behaviour.judges ask.thread call.Request node.local) (eqb ask.to me) fault here claim
     (request_allowed ask.thread node.local.core clean.0) other in
@@ -418,25 +418,25 @@ put_clean : (records : Records) (node : ℕ) (new : Node EndpointLocal) → AreC
 put_clean records node new all one = λ other. put_by (eqb other node) new (records other) one (all other)
 
 asked_world : (table : List (Option Entry)) (w : Records) (now node : ℕ) (ask : Ask) → eqb ask.to node ≡ false
-    → AreClean w → AreClean (world_after (job table) w (timed now (Asks node ask)))
+    → AreClean w → AreClean (world_after (job table) w (timed_event now (Asks node ask)))
 asked_world table w now node ask other all =
     put_clean w node (node_after (job table) node (w node) now (NodeAsks ask)) all
     (asks_clean table node (w node) now ask other (all node))
 
 sync_world : (table : List (Option Entry)) (w : Records) (now node thread : ℕ) (some : ImplicitKinds) → AreClean w
-    → AreClean (world_after (job table) w (timed now (Does node thread (OnTransfers (SyncImplicit some)))))
+    → AreClean (world_after (job table) w (timed_event now (Does node thread (OnTransfers (SyncImplicit some)))))
 sync_world table w now node thread some all =
     put_clean w node (node_after (job table) node (w node) now (NodeDoes thread (OnTransfers (SyncImplicit some)))) all
     (sync_clean table node (w node) now thread some (all node))
 
 begin_world : (table : List (Option Entry)) (w : Records) (now node thread : ℕ) (transfer : Transfer) → AreClean w
-    → AreClean (world_after (job table) w (timed now (Does node thread (OnTransfers (BeginImplicit transfer)))))
+    → AreClean (world_after (job table) w (timed_event now (Does node thread (OnTransfers (BeginImplicit transfer)))))
 begin_world table w now node thread transfer all =
     put_clean w node (node_after (job table) node (w node) now (NodeDoes thread (OnTransfers (BeginImplicit transfer))))
     all (begin_clean table node (w node) now thread transfer (all node))
 
 tick_world : (table : List (Option Entry)) (w : Records) (now node : ℕ) → AreClean w
-    → AreClean (world_after (job table) w (timed now (Ticks node)))
+    → AreClean (world_after (job table) w (timed_event now (Ticks node)))
 tick_world table w now node all =
     put_clean w node (node_after (job table) node (w node) now NodeTicks) all
     (tick_by table node (w node) now (tick_choice (site_of (job table) node) (w node) now) (all node))
@@ -475,7 +475,7 @@ deed_clean table time deeds.Short round before nodes none other all =
     asked_world table w time round.from (record { thread = 0; to = round.to; what = asking }) other all
 deed_clean table time deeds.Put round before nodes none other all =
     let w = nodes.group.records in
-    let tried = world_after (job table) w (timed time (Does round.from 0 (OnTransfers (SyncImplicit some.All)))) in
+    let tried = world_after (job table) w (timed_event time (Does round.from 0 (OnTransfers (SyncImplicit some.All)))) in
     begin_world table tried time round.from 0 (transfers.Put round.to (round.rest % 8 * 4096) 0 4096)
     (sync_world table w time round.from 0 some.All all)
 deed_clean table time deeds.Tick round before nodes none other all =
@@ -483,7 +483,7 @@ deed_clean table time deeds.Tick round before nodes none other all =
 deed_clean table time deeds.Request round before nodes none other all =
     let w = nodes.group.records in
     let number = delivered_number round before.group.records in
-    request_by table w time round.from round.to number (numbered ((w round.from).asked round.to) number) none all
+    request_by table w time round.from round.to number (element_at ((w round.from).asked round.to) number) none all
 deed_clean table time deeds.Reply round before nodes none other all =
     let w = nodes.group.records in
     reply_by table w time round.from round.to
@@ -523,5 +523,5 @@ unfolding drill_schedule
 drill_calm seed =
     none_noted (run_records (drill_job seed)) 0 4
     (subst AreClean (schedule_runs (world_job bare_job) (drill_schedule seed) (opening_nodes bare_job))
-    (rounds_clean (registered (handlers_of bare_job)).table seed 20000 (opening_nodes bare_job) refl
+    (rounds_clean (registry_of (handlers_of bare_job)).table seed 20000 (opening_nodes bare_job) refl
     (λ node. (refl, refl))))

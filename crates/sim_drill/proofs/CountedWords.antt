@@ -68,7 +68,7 @@ asked_counted asked.NotYet = each _ refl refl refl refl refl refl refl refl refl
 
 delivered_counted : (answer : Delivered) → AreCountedAs (delivered_words answer) (delivered_as answer)
 delivered_counted (delivered.Ran at) = each _ refl refl refl refl refl refl refl refl refl refl
-delivered_counted (delivered.Noted at note) = each _ refl refl refl refl refl refl refl refl refl refl
+delivered_counted (delivered.Notified at notification) = each _ refl refl refl refl refl refl refl refl refl refl
 delivered_counted (delivered.Duplicate at) = each _ refl refl refl refl refl refl refl refl refl refl
 delivered_counted delivered.Stale = each _ refl refl refl refl refl refl refl refl refl refl
 delivered_counted (delivered.Returned to slot number) = each _ refl refl refl refl refl refl refl refl refl refl
@@ -79,7 +79,7 @@ delivered_counted (delivered.Refused reason) = each _ refl refl refl refl refl r
 ticked_counted : (numbers : SlotRef → ℕ) (answer : Ticked)
     → AreCountedAs (ticked_words numbers answer) (ticked_as answer)
 ticked_counted numbers (ticked.Retransmission at) = each _ refl refl refl refl refl refl refl refl refl refl
-ticked_counted numbers (ticked.Note at) = each _ refl refl refl refl refl refl refl refl refl refl
+ticked_counted numbers (ticked.Notification at) = each _ refl refl refl refl refl refl refl refl refl refl
 ticked_counted numbers (ticked.Chunk at) = each _ refl refl refl refl refl refl refl refl refl refl
 ticked_counted numbers ticked.Nothing = each _ refl refl refl refl refl refl refl refl refl refl
 

@@ -4,8 +4,8 @@ use Rattle.std.proofs.Common.{arith}
 use Rattle.wire_message.specs.Parameters.{Parameters}
 use Rattle.part_handlers.specs.declared.table.Entry.{Entry}
 use Rattle.part_handlers.specs.Runs.{Meaning}
-use Rattle.spec_network.specs.World.{Timed, world_after, world_answer}
-use Rattle.node_rules.specs.EndpointRules.{OtherCall, Records, RecordsEvent, at_the_opening, job_of, timed}
+use Rattle.spec_network.specs.World.{EventAt, world_after, world_answer}
+use Rattle.node_rules.specs.EndpointRules.{OtherCall, Records, RecordsEvent, at_the_opening, job_of, timed_event}
 use Rattle.node_rules.specs.EndpointRules.{transition}
 use Rattle.sim_world.specs.Events.{ForItsRecords, StepsInWorld, job_in}
 use Rattle.sim_world.specs.Settling.{WorldJob}
@@ -83,7 +83,7 @@ lines_then job lines more old mid new h k = λ nodes most stands.
 -- ---- events
 
 -- an event happened, and its answer was counted
-counted_event : (meaning : Meaning) (old new : DrillStage) (event : Timed OtherCall) (answer : WorldAnswer)
+counted_event : (meaning : Meaning) (old new : DrillStage) (event : EventAt OtherCall) (answer : WorldAnswer)
     → ForItsRecords old.world (λ records most.
     (answer ≡ world_told (world_answer (job_in meaning old.world) records event))
     × StandsAfter (job_in meaning old.world) new.world (event ∷ []) records most)
@@ -101,11 +101,11 @@ counted_event meaning old new event answer steps tallies = λ nodes most stands.
 pub event_counts : (meaning : Meaning) (old new : DrillStage) (now : ℕ) (event : RecordsEvent) (answer : WorldAnswer)
     → (answer ≡ answers.NoMemory → ⊥) → StepsInWorld meaning old.world (transition now event answer) new.world
     → ((sight : Sight) → Tallies old.counts new.counts (world_words sight answer ∷ []))
-    → CountsEvent (job_in meaning old.world) (timed now event) old new
+    → CountsEvent (job_in meaning old.world) (timed_event now event) old new
 event_counts meaning old new now event (answers.Node answer) n steps tallies =
-    counted_event meaning old new (timed now event) (answers.Node answer) steps tallies
+    counted_event meaning old new (timed_event now event) (answers.Node answer) steps tallies
 event_counts meaning old new now event answers.Unsent n steps tallies =
-    counted_event meaning old new (timed now event) answers.Unsent steps tallies
+    counted_event meaning old new (timed_event now event) answers.Unsent steps tallies
 event_counts meaning old new now event answers.NoMemory n steps tallies = absurd (n refl)
 
 -- a message whose number the records decide

@@ -53,7 +53,7 @@ asked_as _ = None
 -- that to a delivery
 abbrev pub delivered_as : Delivered → Option Counted
 delivered_as (delivered.Ran at) = Some counted.Ran
-delivered_as (delivered.Noted at note) = Some counted.Ran
+delivered_as (delivered.Notified at notification) = Some counted.Ran
 delivered_as (delivered.Duplicate at) = Some counted.Duplicate
 delivered_as delivered.Stale = Some counted.Stale
 delivered_as (delivered.Returned to slot number) = Some counted.Returned

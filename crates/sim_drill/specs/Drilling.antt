@@ -2,7 +2,7 @@
 use Rattle.std.specs.Prelude.{◌≡◌, ℕ, List, ◌∷◌, []}
 use Rattle.wire_message.specs.Parameters.{Parameters}
 use Rattle.part_handlers.specs.Runs.{Meaning}
-use Rattle.spec_network.specs.World.{Timed}
+use Rattle.spec_network.specs.World.{EventAt}
 use Rattle.node_rules.specs.EndpointRules.{OtherCall}
 use Rattle.sim_world.specs.Events.{job_in}
 use Rattle.sim_world.specs.Settling.{WorldJob}
@@ -12,7 +12,7 @@ use Rattle.text_job.specs.declared.job.Job.{Job as JobState}
 use Rattle.text_steps.specs.declared.steps.TimedEvent.{TimedEvent}
 use Rattle.text_script.specs.Bodies.{script_meaning}
 use Rattle.base_text.specs.LineTexts.{Line}
-use Rattle.text_script.specs.Registration.{handlers_of, registered}
+use Rattle.text_script.specs.Registration.{handlers_of, registry_of}
 use Rattle.sim_run.specs.Schedules.{Nodes, schedule_events}
 use Rattle.sim_run.specs.RunText.{event_words}
 use Rattle.sim_run.specs.ScheduleRun.{StandsAfter}
@@ -30,7 +30,7 @@ drill_stage world counts = record { world = world; counts = counts }
 
 -- of all nodes for whose records the world stood: it stands for those after these events, and their answers were
 -- counted
-abbrev pub Counts : WorldJob → (events : Nodes → List (Timed OtherCall)) → (answers : Nodes → List Line)
+abbrev pub Counts : WorldJob → (events : Nodes → List (EventAt OtherCall)) → (answers : Nodes → List Line)
     → (old new : DrillStage) → Type 0
 Counts job events answers old new =
     (nodes : Nodes) (most : ℕ → ℕ) → WorldStands old.world nodes.group.records most
@@ -38,7 +38,7 @@ Counts job events answers old new =
     × Tallies old.counts new.counts (answers nodes)
 
 -- so of one event
-abbrev pub CountsEvent : WorldJob → Timed OtherCall → (old new : DrillStage) → Type 0
+abbrev pub CountsEvent : WorldJob → EventAt OtherCall → (old new : DrillStage) → Type 0
 CountsEvent job event = Counts job (λ nodes. event ∷ []) (λ nodes. event_words job nodes.group.records event ∷ [])
 
 -- and of lines of a schedule, which the nodes decide
@@ -53,4 +53,4 @@ job_by text world = job_in (script_meaning (handlers_of text)) world
 -- the world is one of the drill
 pub record IsDrilled (world : WorldState) : Type 0 where
   pub settings : world.settings ≡ drill_settings
-  pub table : world.table ≡ (registered (handlers_of bare_job)).table
+  pub table : world.table ≡ (registry_of (handlers_of bare_job)).table

@@ -104,7 +104,7 @@ fn of_delivered(delivered: &Delivered) -> Option<Counted>
     ensures { result ≡ delivered_as delivered.now }
 {
     match delivered {
-        Delivered::Ran(_) | Delivered::Noted(_, _) => Some(Counted::Ran),
+        Delivered::Ran(_) | Delivered::Notified(_, _) => Some(Counted::Ran),
         Delivered::Duplicate(_) => Some(Counted::Duplicate),
         Delivered::Stale => Some(Counted::Stale),
         Delivered::Returned { .. } => Some(Counted::Returned),

@@ -3,7 +3,7 @@
 ghost use Rattle.std.specs.Prelude.{◌≡◌, ◌<◌, ◌+◌, ◌-◌, ◌^◌, ℕ, false, IfOk, OnOk};
 ghost use Rattle.wire_message.specs.Parameters.{Parameters};
 ghost use Rattle.base_io.specs.Buffered.{outbox};
-ghost use Rattle.node_rules.specs.EndpointRules.{at_the_opening, timed};
+ghost use Rattle.node_rules.specs.EndpointRules.{at_the_opening, timed_event};
 ghost use Rattle.sim_world.specs.Aims.{MayFall};
 ghost use Rattle.sim_world.specs.Events.{ForItsRecords, event_of};
 ghost use Rattle.sim_world.specs.Stands.{WorldStands};
@@ -85,7 +85,7 @@ fn run_event(
     ensures table { world.new.table ≡ world.old.table }
     ensures few { (most : ℕ) → AreAtMost most counts.old → AreAtMost (most + 1) counts.new }
     ensures runs { OnOk result (CountsEvent (job_by script.now world.old)
-        (timed now (event_of event.now)) (drill_stage world.old counts.old)
+        (timed_event now (event_of event.now)) (drill_stage world.old counts.old)
         (drill_stage world.new counts.new)) }
 {
     match world.step(script.handlers(), now, event) {

@@ -2,9 +2,9 @@
 use Rattle.std.proofs.Common.{◌≡◌, ℕ, zero, suc, Bool, true, false, List, [], ◌∷◌, map, Option, Some, None, refl}
 use Rattle.std.specs.Prelude.{if◌then◌else◌}
 use Rattle.part_segment.specs.Image.{Write}
-use Rattle.spec_network.specs.World.{Asks, Does, Timed, run, world_after, world_answer}
+use Rattle.spec_network.specs.World.{Asks, Does, EventAt, run, world_after, world_answer}
 use Rattle.node_rules.specs.CoreCalls.{Poll}
-use Rattle.node_rules.specs.EndpointRules.{OnCore, OtherCall, Records, timed}
+use Rattle.node_rules.specs.EndpointRules.{OnCore, OtherCall, Records, timed_event}
 use Rattle.law_transfers.specs.Chunks.{EndpointJob}
 use Rattle.part_collective_area.specs.Area.{Area}
 use Rattle.part_collective_area.specs.declared.shape.Shape.{Shape}
@@ -29,8 +29,8 @@ start_runs : (job : EndpointJob) (area : Area) (group : Group) (now node thread 
 start_runs job area group now node thread shape from =
     by_refusal (start_refusal area job.settings.segment (group.progress node) shape from)
   where
-    event : Timed OtherCall
-    event = timed now (Asks node (start_ask area node thread (group.progress node) shape from))
+    event : EventAt OtherCall
+    event = timed_event now (Asks node (start_ask area node thread (group.progress node) shape from))
 
     answer : StartAnswer
     answer = start_answer (asked_in (world_answer job group.records event))
@@ -41,7 +41,7 @@ start_runs job area group now node thread shape from =
       | None ↦ (answer, started_group job group node shape from answer (world_after job group.records event))
     ]
 
-    calls : Option StartAnswer → List (Timed OtherCall)
+    calls : Option StartAnswer → List (EventAt OtherCall)
     calls refusal = elim refusal [ Some first ↦ [] | None ↦ event ∷ [] ]
 
     by_refusal : (refusal : Option StartAnswer) → (does refusal).1.records ≡ run job (calls refusal) group.records
@@ -63,8 +63,8 @@ step_runs job area now node thread to (suc many) group =
         (later : Group) → (step_from job area later now node thread (suc to) many).1.records
         ≡ run job (calls_from job area later now node thread (suc to) many) later.records
 
-    event : Timed OtherCall
-    event = timed now (Asks node (step_ask area node thread to (group.progress node)))
+    event : EventAt OtherCall
+    event = timed_event now (Asks node (step_ask area node thread to (group.progress node)))
 
     records : Records
     records = world_after job group.records event
@@ -76,7 +76,7 @@ step_runs job area now node thread to (suc many) group =
           thread (suc to) many
     ]
 
-    calls : StepGoes → List (Timed OtherCall)
+    calls : StepGoes → List (EventAt OtherCall)
     calls goes = elim goes [
       | Stops answer progress ↦ []
       | GoesOn progress ↦ calls_from job area (with_progress (record group { records = records }) node progress) now node
@@ -116,8 +116,8 @@ end_runs : (job : EndpointJob) (area : Area) (group : Group) (now node thread de
 end_runs job area group now node thread dest =
     by_refusal (end_refusal area job.settings.segment node (group.progress node) dest)
   where
-    poll : Timed OtherCall
-    poll = timed now (Does node thread (OnCore Poll))
+    poll : EventAt OtherCall
+    poll = timed_event now (Does node thread (OnCore Poll))
 
     polled : Records
     polled = world_after job group.records poll
@@ -131,7 +131,7 @@ end_runs job area group now node thread dest =
       | None ↦ (answer, ended_group job area group now node thread dest polled answer)
     ]
 
-    calls : Option EndAnswer → List (Timed OtherCall)
+    calls : Option EndAnswer → List (EventAt OtherCall)
     calls refusal = elim refusal [
       | Some first ↦ []
       | None ↦ poll ∷ calls_behind job area group now node thread dest answer

@@ -4,7 +4,7 @@ use Rattle.wire_message.specs.Parameters.{AreInRange, Parameters}
 use Rattle.part_handlers.specs.declared.table.Entry.{Entry}
 use Rattle.part_handlers.specs.Runs.{Meaning, IsLawfulMeaning}
 use Rattle.spec_network.specs.MostHeld.{most_then}
-use Rattle.spec_network.specs.World.{Timed, world_after}
+use Rattle.spec_network.specs.World.{EventAt, world_after}
 use Rattle.node_rules.specs.EndpointRules.{OtherCall, job_of, transition}
 use Rattle.sim_world.specs.Events.{StepsInWorld, job_in}
 use Rattle.sim_world.specs.declared.event.WorldAnswer.{WorldAnswer}
@@ -159,7 +159,7 @@ step_grows meaning old new trying (step_answers.Forbidden forbidden) same may do
     (_, (does history.area (left_by meaning old history) is.is_left.0 is.is_left.1).1)
 
 -- an event of the world
-pub beside_grows : (meaning : Meaning) (old new : GroupState) (event : Timed OtherCall) (answer : WorldAnswer)
+pub beside_grows : (meaning : Meaning) (old new : GroupState) (event : EventAt OtherCall) (answer : WorldAnswer)
     → IsSameJob old new → new.nodes ≡ old.nodes
     → StepsInWorld meaning old.world (transition event.now event.event answer) new.world
     → GrowsBeside meaning old event answer new

@@ -12,7 +12,7 @@ use Rattle.spec_node.specs.declared.answer.Asked.{Asked as Told}
 use Rattle.spec_node.specs.declared.answer.Asked.TheVariants as told
 use Rattle.spec_node.specs.Behaviour.{Ask}
 use Rattle.spec_network.specs.World.{Asks, world_answer, world_after}
-use Rattle.node_rules.specs.EndpointRules.{asked_answer, timed}
+use Rattle.node_rules.specs.EndpointRules.{asked_answer, timed_event}
 use Rattle.node_caller.specs.Sites.{Site, answer_at, job_at}
 use Rattle.sim_caller.specs.Wholes.{records_then}
 use Rattle.part_collective_area.specs.Area.{Area}
@@ -21,7 +21,7 @@ use Rattle.node_collectives.specs.declared.answers.StepAnswer.TheVariants as ste
 use Rattle.node_collectives.specs.Progress.{Progress, start_answer, start_ask, start_refusal, step_ask}
 use Rattle.node_collectives.specs.CollectivesState.{CollectivesState, has, progress_of}
 use Rattle.node_collectives.specs.Starts.{StartAsked, call_of, start_told}
-use Rattle.node_collectives.specs.Steps.{noted, step_told}
+use Rattle.node_collectives.specs.Steps.{after_ask, step_told}
 use Rattle.law_collectives.specs.Groups.{Group, Stops, GoesOn, asked_in, started_group, step_goes}
 use Rattle.sim_group.specs.OfGroups.{IsAt, StartIsOfGroup, StepIsOfGroup, goes_by}
 
@@ -41,7 +41,7 @@ abbrev starts_by : Site → Group → Area → StartAsked → (me : ℕ) → Pro
 starts_by site group area asked me progress refusal = elim refusal [
   | Some first ↦ (first, group)
   | None ↦ (
-      let event = timed site.now (Asks site.node
+      let event = timed_event site.now (Asks site.node
       (start_ask area me asked.thread progress asked.shape asked.from)) in
       let answer = start_answer (asked_in (world_answer (job_at site) group.records event)) in (
         answer,
@@ -63,7 +63,7 @@ starts_as site group area asked me progress =
 both_ways : (site : Site) (group : Group) (area : Area) (asked : StartAsked) (me : ℕ) (progress : Progress)
     → starts_by site group area asked me progress None ≡ starts_as site group area asked me progress
 both_ways site group area asked me progress =
-    let event = timed site.now (Asks site.node
+    let event = timed_event site.now (Asks site.node
     (start_ask area me asked.thread progress asked.shape asked.from)) in
     let answer = asked_in (world_answer (job_at site) group.records event) in
     ap (λ (one : StartAnswer). (
@@ -105,7 +105,7 @@ has_set marks to value low = fun_ext (λ other. elim (cases_eq other to) [
 
 goes_same : (it : CollectivesState) (to : ℕ) (answer : Told) → to < length it.sent → to < length it.exhausted
     → step_goes (progress_of it) to answer
-    ≡ goes_by (step_told to (Some (asked_answer answer))) (progress_of (noted it to (Some (asked_answer answer))))
+    ≡ goes_by (step_told to (Some (asked_answer answer))) (progress_of (after_ask it to (Some (asked_answer answer))))
 goes_same it to (told.Accepted there slot number) low exhausted_low =
     ap (λ (sent : ℕ → Bool). Stops (step_answers.Sent to) (record (progress_of it) { sent = sent }))
     (sym (has_set it.sent to true low))
@@ -128,11 +128,11 @@ step_is_of_group site group it thread to at low =
     let exhausted = at.good.exhausted_long in
     let ask_is = ap₂ (λ (me : ℕ) (progress : Progress). step_ask it.area me thread to progress) at.me_is
     (sym at.progress_is) in
-    let here = asked_in (world_answer (job_at site) group.records (timed site.now (Asks site.node
+    let here = asked_in (world_answer (job_at site) group.records (timed_event site.now (Asks site.node
     (step_ask it.area it.me thread to (progress_of it))))) in
     record {
       event = ap (λ (ask : Ask). records_then site group.records (call_of ask)) ask_is;
       goes = ap₂ (λ (progress : Progress) (ask : Ask). step_goes progress to (asked_in
-          (world_answer (job_at site) group.records (timed site.now (Asks site.node ask))))) at.progress_is (sym ask_is)
+          (world_answer (job_at site) group.records (timed_event site.now (Asks site.node ask))))) at.progress_is (sym ask_is)
           ∙ goes_same it to here (omega (arith, low, few, sent)) (omega (arith, low, few, exhausted));
     }

@@ -6,9 +6,9 @@ use Rattle.base_lists.proofs.Put.{put_same, put_other}
 use Rattle.part_handlers.specs.Runs.{Meaning}
 use Rattle.spec_node.specs.declared.answer.Asked.{Asked as Told}
 use Rattle.spec_node.specs.declared.answer.Asked.TheVariants as told
-use Rattle.spec_network.specs.World.{Asks, Timed, world_answer}
+use Rattle.spec_network.specs.World.{Asks, EventAt, world_answer}
 use Rattle.spec_network.specs.MostHeld.{most_after}
-use Rattle.node_rules.specs.EndpointRules.{OtherCall, Records, asked_answer, timed}
+use Rattle.node_rules.specs.EndpointRules.{OtherCall, Records, asked_answer, timed_event}
 use Rattle.node_rules.specs.declared.answer.Answer.{Answer}
 use Rattle.law_transfers.specs.Chunks.{EndpointJob}
 use Rattle.sim_world.specs.Stands.{WorldStands}
@@ -198,17 +198,17 @@ left_set old world node it next area group left most low nodes area_is stands fa
 
 -- so it does for what an event leaves, by the group and the calls that the event comes to
 pub is_left_by : (job : EndpointJob) (area : Area) (group : Group) (most : ℕ → ℕ) (event : GroupEvent)
-    (new : GroupState) (left : Group) (calls : List (Timed OtherCall)) → (group_does job area group event).1 ≡ left
+    (new : GroupState) (left : Group) (calls : List (EventAt OtherCall)) → (group_does job area group event).1 ≡ left
     → calls_of job area group event ≡ calls → StandsFor new area left (most_after job calls group.records most)
     → IsLeft job area group most event new
 is_left_by job area group most event new left calls same calls_are stands =
-    subst₂ (λ (one : Group) (made : List (Timed OtherCall)).
+    subst₂ (λ (one : Group) (made : List (EventAt OtherCall)).
     StandsFor new area one (most_after job made group.records most)) (sym same) (sym calls_are) stands
 
 -- ---- the calls of a start
 
 abbrev calls_by : Site → Group → Area → StartAsked → (me : ℕ) → Progress → Option StartAnswer
-    → List (Timed OtherCall)
+    → List (EventAt OtherCall)
 calls_by site group area asked me progress refusal = elim refusal [
   | Some first ↦ []
   | None ↦ event_of_call site (call_of (start_ask area me asked.thread progress asked.shape asked.from)) ∷ []
@@ -278,7 +278,7 @@ start_done meaning old world now node it next asked answer group most is stands 
     ∙ sym (ap progress_of (next_is ∙ ap (λ (one : StartAnswer). started_then one it asked.shape) answer_is)))
     (started_others (job_at site) group node asked.shape asked.from left.records said) in
     does_then meaning old new it.area group most event answer
-    (λ lacked. absurd (never_lacks (asked_in (world_answer (job_at site) group.records (timed now (Asks node
+    (λ lacked. absurd (never_lacks (asked_in (world_answer (job_at site) group.records (timed_event now (Asks node
     (start_ask it.area it.me asked.thread (progress_of it) asked.shape asked.from)))))
     (sym answer_is ∙ lacked))) (
       ap OfStart (answer_is ∙ sym (ap (λ (both : StartAnswer × Group). both.0) same)),

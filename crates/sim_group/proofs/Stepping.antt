@@ -9,9 +9,9 @@ use Rattle.wire_message.specs.Parameters.{Parameters}
 use Rattle.part_handlers.specs.Runs.{Meaning}
 use Rattle.spec_node.specs.declared.answer.Asked.{Asked as Told}
 use Rattle.spec_node.specs.declared.answer.Asked.TheVariants as told
-use Rattle.spec_network.specs.World.{Asks, Timed, world_answer, world_after}
+use Rattle.spec_network.specs.World.{Asks, EventAt, world_answer, world_after}
 use Rattle.spec_network.specs.MostHeld.{most_after}
-use Rattle.node_rules.specs.EndpointRules.{OtherCall, Records, asked_answer, timed}
+use Rattle.node_rules.specs.EndpointRules.{OtherCall, Records, asked_answer, timed_event}
 use Rattle.node_rules.specs.declared.answer.Answer.{Answer}
 use Rattle.law_transfers.specs.Chunks.{EndpointJob}
 use Rattle.sim_world.specs.Stands.{WorldStands}
@@ -25,7 +25,7 @@ use Rattle.node_collectives.specs.declared.answers.StepAnswer.{StepAnswer}
 use Rattle.node_collectives.specs.declared.answers.StepAnswer.TheVariants as step_answers
 use Rattle.node_collectives.specs.Progress.{Progress, is_left, is_open, step_ask}
 use Rattle.node_collectives.specs.CollectivesState.{CollectivesState, IsSameNode, Stands, progress_of}
-use Rattle.node_collectives.specs.Steps.{Rests, Sends, Steps, StepsFrom, noted, step_call, step_told}
+use Rattle.node_collectives.specs.Steps.{Rests, Sends, Steps, StepsFrom, after_ask, step_call, step_told}
 use Rattle.law_collectives.specs.Groups.{GoesOn, Group, OfStep, Step, StepGoes, Stops, asked_in, does_step, step_from}
 use Rattle.law_collectives.specs.Groups.{step_goes, with_progress}
 use Rattle.sim_group.specs.GroupState.{GroupState}
@@ -67,8 +67,8 @@ StepCame Whole stood told after thread to (suc many) whole it answer next =
     let said = Some (told whole call) in
     ByLeft (StepCame Whole stood told after thread (suc to) many whole it answer next)
     (Ended Whole stood whole step_answers.NoMemory answer it next
-    ⊎ ByTold Whole stood (after whole call) answer (noted it to said) next
-    (StepCame Whole stood told after thread (suc to) many (after whole call) (noted it to said) answer next)
+    ⊎ ByTold Whole stood (after whole call) answer (after_ask it to said) next
+    (StepCame Whole stood told after thread (suc to) many (after whole call) (after_ask it to said) answer next)
     (step_told to said))
     (is_left it.me to (progress_of it))
 
@@ -115,15 +115,15 @@ abbrev Behind : {K : Type 0} → (caller : Ghosts K) → Site → (thread to man
 Behind caller site thread to many new whole it answer next stop =
     let call = step_call it thread to in
     let said = Some (answer_at site (caller.record_in site whole) call) in
-    ByTold caller.Whole (caller.stands new) (caller.after site whole call) answer (noted it to said) next
-    (StepCameAt caller site thread (suc to) many new (caller.after site whole call) (noted it to said) answer next) stop
+    ByTold caller.Whole (caller.stands new) (caller.after site whole call) answer (after_ask it to said) next
+    (StepCameAt caller site thread (suc to) many new (caller.after site whole call) (after_ask it to said) answer next) stop
 
 came_behind : {K : Type 0} (caller : Ghosts K) (site : Site) (thread to many : ℕ) (it : CollectivesState)
     (answer : StepAnswer) (next : CollectivesState) (new : K) (whole : caller.Whole) (between : K)
     → Again caller site thread (suc to) many answer next new → caller.site between ≡ site
     → caller.stands between (caller.after site whole (step_call it thread to)) → (stop : Option StepAnswer)
     → StepRest caller thread to many
-    (noted it to (Some (answer_at site (caller.record_in site whole) (step_call it thread to)))) between answer next new
+    (after_ask it to (Some (answer_at site (caller.record_in site whole) (step_call it thread to)))) between answer next new
     stop
     → Behind caller site thread to many new whole it answer next stop
 came_behind {K} caller site thread to many it answer next new whole between again same stood (Some end) rest = record {
@@ -133,7 +133,7 @@ came_behind {K} caller site thread to many it answer next new whole between agai
       stood;
 }
 came_behind caller site thread to many it answer next new whole between again same stood None rest =
-    again (noted it to (Some (answer_at site (caller.record_in site whole) (step_call it thread to)))) between
+    again (after_ask it to (Some (answer_at site (caller.record_in site whole) (step_call it thread to)))) between
     (caller.after site whole (step_call it thread to)) stood same rest
 
 came_told : {K : Type 0} (caller : Ghosts K) (site : Site) (thread to many : ℕ) (it : CollectivesState) (old : K)
@@ -141,7 +141,7 @@ came_told : {K : Type 0} (caller : Ghosts K) (site : Site) (thread to many : ℕ
     (stop : Option StepAnswer) (after : CollectivesState)
     → Again caller site thread (suc to) many answer next new → caller.stands old whole → caller.site old ≡ site
     → caller.site between ≡ site → MakesOne caller old (step_call it thread to) one between → stop ≡ step_told to one
-    → after ≡ noted it to one → StepRest caller thread to many after between answer next new stop
+    → after ≡ after_ask it to one → StepRest caller thread to many after between answer next new stop
     → Ended caller.Whole (caller.stands new) whole step_answers.NoMemory answer it next
     ⊎ Behind caller site thread to many new whole it answer next
     (step_told to (Some (answer_at site (caller.record_in site whole) (step_call it thread to))))
@@ -162,10 +162,10 @@ came_told {K} caller site thread to many it old answer next new whole between (S
     subst (λ (at : Site). one ≡ answer_at at (caller.record_in at whole) call) same (made.1 whole stands) in
     let stood : caller.stands between (caller.after site whole call) =
     subst (λ (at : Site). caller.stands between (caller.after at whole call)) same (made.0.whole whole stands) in
-    let goes : StepRest caller thread to many (noted it to (Some said)) between answer next new
+    let goes : StepRest caller thread to many (after_ask it to (Some said)) between answer next new
     (step_told to (Some said)) =
     subst (λ (other : CollectivesState). StepRest caller thread to many other between answer next new
-    (step_told to (Some said))) (after_is ∙ ap (λ (other : Answer). noted it to (Some other)) is)
+    (step_told to (Some said))) (after_is ∙ ap (λ (other : Answer). after_ask it to (Some other)) is)
     (subst (λ (other : Option StepAnswer). StepRest caller thread to many after between answer next new other)
     (stop_is ∙ ap (λ (other : Answer). step_told to (Some other)) is) rest) in
     inr (came_behind caller site thread to many it answer next new whole between again same_between stood
@@ -213,7 +213,7 @@ goes_then job area group now node thread to many records goes = elim goes [
 
 asks_left : (job : EndpointJob) (area : Area) (group : Group) (now node thread to many : ℕ)
     → is_left node to (group.progress node) ≡ true
-    → let event = timed now (Asks node (step_ask area node thread to (group.progress node))) in
+    → let event = timed_event now (Asks node (step_ask area node thread to (group.progress node))) in
     step_from job area group now node thread to (suc many)
     ≡ goes_then job area group now node thread to many (world_after job group.records event)
     (step_goes (group.progress node) to (asked_in (world_answer job group.records event)))
@@ -221,7 +221,7 @@ asks_left job area group now node thread to many is = rw is refl
 
 -- and the calls behind it
 abbrev calls_then : EndpointJob → Area → Group → (now node thread to many : ℕ) → Records → StepGoes
-    → List (Timed OtherCall)
+    → List (EventAt OtherCall)
 calls_then job area group now node thread to many records goes = elim goes [
   | Stops answer progress ↦ []
   | GoesOn progress ↦ calls_from job area (with_progress (record group { records = records }) node progress) now node
@@ -230,7 +230,7 @@ calls_then job area group now node thread to many records goes = elim goes [
 
 calls_left : (job : EndpointJob) (area : Area) (group : Group) (now node thread to many : ℕ)
     → is_left node to (group.progress node) ≡ true
-    → let event = timed now (Asks node (step_ask area node thread to (group.progress node))) in
+    → let event = timed_event now (Asks node (step_ask area node thread to (group.progress node))) in
     calls_from job area group now node thread to (suc many)
     ≡ event ∷ calls_then job area group now node thread to many (world_after job group.records event)
     (step_goes (group.progress node) to (asked_in (world_answer job group.records event)))
@@ -277,7 +277,7 @@ with_marks it sent exhausted good sent_long exhausted_long = record {
 }
 
 noted_stands : (it : CollectivesState) (to : ℕ) (answer : Told) → Stands it
-    → Stands (noted it to (Some (asked_answer answer)))
+    → Stands (after_ask it to (Some (asked_answer answer)))
 noted_stands it to (told.Accepted there slot number) good =
     with_marks it (slice_set it.sent to true) it.exhausted good (length-set it.sent to true ∙ good.sent_long) good.exhausted_long
 noted_stands it to (told.Forbidden forbidden) good = good
@@ -327,11 +327,11 @@ tries_from site area group most thread to among =
     most)
 
 -- the same answer and group by the same calls
-same_tries : (does other : StepAnswer × Group) (calls later : List (Timed OtherCall)) (job : EndpointJob)
+same_tries : (does other : StepAnswer × Group) (calls later : List (EventAt OtherCall)) (job : EndpointJob)
     (records : Records) (most : ℕ → ℕ) → does ≡ other → calls ≡ later
     → trying does (most_after job calls records most) ≡ trying other (most_after job later records most)
 same_tries does other calls later job records most same calls_are =
-    ap₂ (λ (one : StepAnswer × Group) (made : List (Timed OtherCall)). trying one (most_after job made records most)) same
+    ap₂ (λ (one : StepAnswer × Group) (made : List (EventAt OtherCall)). trying one (most_after job made records most)) same
     calls_are
 
 -- the caller stands for the group that a step leaves which is the same
@@ -386,14 +386,14 @@ said_in site group it thread to = Some (answer_at site (group.records site.node)
 -- and as the records have it
 abbrev told_in : Site → Group → CollectivesState → (thread to : ℕ) → Told
 told_in site group it thread to =
-    asked_in (world_answer (job_at site) group.records (timed site.now (Asks site.node
+    asked_in (world_answer (job_at site) group.records (timed_event site.now (Asks site.node
     (step_ask it.area it.me thread to (progress_of it)))))
 
 -- the group behind that request
 abbrev behind : Site → Group → CollectivesState → (thread to : ℕ) → Group
 behind site group it thread to =
     with_progress (record group { records = records_then site group.records (step_call it thread to) }) site.node
-    (progress_of (noted it to (said_in site group it thread to)))
+    (progress_of (after_ask it to (said_in site group it thread to)))
 
 -- all that it leaves
 abbrev left_whole : Site → Group → (ℕ → ℕ) → CollectivesState → (thread to : ℕ) → WorldWhole
@@ -406,7 +406,7 @@ goes_so : (site : Site) (group : Group) (it : CollectivesState) (thread to among
     → step_from (job_at site) it.area group site.now site.node thread to (suc among)
     ≡ goes_then (job_at site) it.area group site.now site.node thread to among
     (records_then site group.records (step_call it thread to))
-    (goes_by stop (progress_of (noted it to (said_in site group it thread to))))
+    (goes_by stop (progress_of (after_ask it to (said_in site group it thread to))))
 goes_so site group it thread to among stop at low left stop_is =
     let is = step_is_of_group site group it thread to at low in
     asks_left (job_at site) it.area group site.now site.node thread to among (same_left site group it to at ∙ left)
@@ -414,14 +414,14 @@ goes_so site group it thread to among stop at low left stop_is =
     among records goes) (sym is.event) is.goes
     ∙ ap (λ (one : Option StepAnswer). goes_then (job_at site) it.area group site.now site.node thread to among
     (records_then site group.records (step_call it thread to))
-    (goes_by one (progress_of (noted it to (said_in site group it thread to))))) stop_is)
+    (goes_by one (progress_of (after_ask it to (said_in site group it thread to))))) stop_is)
 
 -- its calls, as those of the group
 first_call : (site : Site) (group : Group) (it : CollectivesState) (thread to : ℕ) → IsAt site group it
-    → timed site.now (Asks site.node (step_ask it.area site.node thread to (group.progress site.node)))
+    → timed_event site.now (Asks site.node (step_ask it.area site.node thread to (group.progress site.node)))
     ≡ event_of_call site (step_call it thread to)
 first_call site group it thread to at =
-    ap₂ (λ (me : ℕ) (progress : Progress). timed site.now (Asks site.node (step_ask it.area me thread to progress)))
+    ap₂ (λ (me : ℕ) (progress : Progress). timed_event site.now (Asks site.node (step_ask it.area me thread to progress)))
     (sym at.me_is) at.progress_is
 
 calls_so : (site : Site) (group : Group) (it : CollectivesState) (thread to among : ℕ) (stop : Option StepAnswer)
@@ -430,40 +430,40 @@ calls_so : (site : Site) (group : Group) (it : CollectivesState) (thread to amon
     → calls_from (job_at site) it.area group site.now site.node thread to (suc among)
     ≡ event_of_call site (step_call it thread to) ∷ calls_then (job_at site) it.area group site.now site.node thread to
     among (records_then site group.records (step_call it thread to))
-    (goes_by stop (progress_of (noted it to (said_in site group it thread to))))
+    (goes_by stop (progress_of (after_ask it to (said_in site group it thread to))))
 calls_so site group it thread to among stop at low left stop_is =
     let is = step_is_of_group site group it thread to at low in
     calls_left (job_at site) it.area group site.now site.node thread to among (same_left site group it to at ∙ left)
-    ∙ ap₂ (λ (one : Timed OtherCall) (later : List (Timed OtherCall)). one ∷ later) (first_call site group it thread to at)
+    ∙ ap₂ (λ (one : EventAt OtherCall) (later : List (EventAt OtherCall)). one ∷ later) (first_call site group it thread to at)
     (ap₂ (λ (records : Records) (goes : StepGoes). calls_then (job_at site) it.area group site.now site.node thread to
     among records goes) (sym is.event) is.goes
     ∙ ap (λ (one : Option StepAnswer). calls_then (job_at site) it.area group site.now site.node thread to among
     (records_then site group.records (step_call it thread to))
-    (goes_by one (progress_of (noted it to (said_in site group it thread to))))) stop_is)
+    (goes_by one (progress_of (after_ask it to (said_in site group it thread to))))) stop_is)
 
 behind_at : (site : Site) (group : Group) (it : CollectivesState) (thread to : ℕ) → IsAt site group it
-    → IsAt site (behind site group it thread to) (noted it to (said_in site group it thread to))
+    → IsAt site (behind site group it thread to) (after_ask it to (said_in site group it thread to))
 behind_at site group it thread to at = record {
   good = noted_stands it to (told_in site group it thread to) at.good;
   settings_are = at.settings_are;
   me_is = at.me_is;
-  progress_is = put_same group.progress site.node (progress_of (noted it to (said_in site group it thread to)));
+  progress_is = put_same group.progress site.node (progress_of (after_ask it to (said_in site group it thread to)));
 }
 
 behind_others : (site : Site) (group : Group) (it : CollectivesState) (thread to other : ℕ) → other ≢ site.node
     → (behind site group it thread to).progress other ≡ group.progress other
 behind_others site group it thread to other apart =
-    put_other group.progress site.node (progress_of (noted it to (said_in site group it thread to))) other apart
+    put_other group.progress site.node (progress_of (after_ask it to (said_in site group it thread to))) other apart
 
 done_behind : (site : Site) (stood : WorldWhole → Type 0) (thread to many : ℕ) (group : Group) (most : ℕ → ℕ)
     (it : CollectivesState) (answer : StepAnswer) (next : CollectivesState) (stop : Option StepAnswer)
-    → DoneAgain site stood thread (suc to) many answer next (noted it to (said_in site group it thread to))
+    → DoneAgain site stood thread (suc to) many answer next (after_ask it to (said_in site group it thread to))
     → IsAt site group it → to < it.settings.nodes → is_left it.me to (progress_of it) ≡ true
     → step_told to (said_in site group it thread to) ≡ stop
     → ByTold WorldWhole stood (left_whole site group most it thread to) answer
-    (noted it to (said_in site group it thread to)) next
+    (after_ask it to (said_in site group it thread to)) next
     (CameAt site stood thread (suc to) many (left_whole site group most it thread to)
-    (noted it to (said_in site group it thread to)) answer next) stop
+    (after_ask it to (said_in site group it thread to)) answer next) stop
     → StepLeft site stood group (tries_from site it.area group most thread to) (suc many) answer next
 done_behind site stood thread to many group most it answer next (Some end) again at low left is ended =
     let call = event_of_call site (step_call it thread to) in
@@ -500,9 +500,9 @@ done_left : (site : Site) (stood : WorldWhole → Type 0) (thread to many : ℕ)
     → ByLeft (CameAt site stood thread (suc to) many (record { records = group.records; most = most }) it answer next)
     (Ended WorldWhole stood (record { records = group.records; most = most }) step_answers.NoMemory answer it next
     ⊎ ByTold WorldWhole stood (left_whole site group most it thread to) answer
-    (noted it to (said_in site group it thread to)) next
+    (after_ask it to (said_in site group it thread to)) next
     (CameAt site stood thread (suc to) many (left_whole site group most it thread to)
-    (noted it to (said_in site group it thread to)) answer next) (step_told to (said_in site group it thread to))) left
+    (after_ask it to (said_in site group it thread to)) answer next) (step_told to (said_in site group it thread to))) left
     → StepLeft site stood group (tries_from site it.area group most thread to) (suc many) answer next
 done_left site stood thread to many group most it answer next false again at low is passed =
     let left = same_left site group it to at ∙ is in
@@ -520,7 +520,7 @@ done_left site stood thread to many group most it answer next true again at low 
     })
 done_left site stood thread to many group most it answer next true again at low is (inr goes) =
     done_behind site stood thread to many group most it answer next (step_told to (said_in site group it thread to))
-    (again (noted it to (said_in site group it thread to)) refl) at low is refl goes
+    (again (after_ask it to (said_in site group it thread to)) refl) at low is refl goes
 
 nothing_lacks : step_answers.Nothing ≡ step_answers.NoMemory → ⊥
 nothing_lacks is = cc
@@ -577,7 +577,7 @@ does_by site area group thread among open_now =
     else (step_answers.Nothing, group)
 
 -- the calls of a step, by whether a phase is open
-abbrev called_by : Site → Area → Group → (thread among : ℕ) → Bool → List (Timed OtherCall)
+abbrev called_by : Site → Area → Group → (thread among : ℕ) → Bool → List (EventAt OtherCall)
 called_by site area group thread among open_now =
     if open_now then calls_from (job_at site) area group site.now site.node thread 0 among else []
 

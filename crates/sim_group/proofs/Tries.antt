@@ -8,9 +8,9 @@ use Rattle.part_handlers.specs.declared.rules.Forbidden.{Forbidden}
 use Rattle.spec_node.specs.NodeStep.{OfCall}
 use Rattle.node_core.specs.Kept.{Local}
 use Rattle.node_core.specs.ClientRules.{rules}
-use Rattle.spec_network.specs.World.{Does, OfNode, Timed, run, world_after, world_answer}
+use Rattle.spec_network.specs.World.{Does, OfNode, EventAt, run, world_after, world_answer}
 use Rattle.node_rules.specs.CoreCalls.{Poll, if_allowed}
-use Rattle.node_rules.specs.EndpointRules.{OnCore, OtherCall, Records, timed}
+use Rattle.node_rules.specs.EndpointRules.{OnCore, OtherCall, Records, timed_event}
 use Rattle.node_rules.specs.declared.answer.Answer.TheVariants as answers
 use Rattle.node_caller.specs.Sites.{Site, job_at}
 use Rattle.sim_caller.specs.Wholes.{events_of}
@@ -30,7 +30,7 @@ use Rattle.sim_group.specs.OfGroups.{IsAt, EndIsOfGroup}
 -- the records that its poll leaves
 abbrev polled : Site → Group → EndAsked → Records
 polled site group asked =
-    world_after (job_at site) group.records (timed site.now (Does site.node asked.thread (OnCore Poll)))
+    world_after (job_at site) group.records (timed_event site.now (Does site.node asked.thread (OnCore Poll)))
 
 first_is : (site : Site) (group : Group) (it : CollectivesState) (asked : EndAsked) → IsAt site group it
     → end_refusal it.area site.settings.segment site.node (group.progress site.node) asked.dest
@@ -127,11 +127,11 @@ others_by site group it asked end_answers.NoMemory other apart = refl
 -- ---- the calls
 
 -- by the refusal that comes first, if one does
-abbrev calls_by : Site → Group → Area → EndAsked → Option EndAnswer → List (Timed OtherCall)
+abbrev calls_by : Site → Group → Area → EndAsked → Option EndAnswer → List (EventAt OtherCall)
 calls_by site group area asked refusal = elim refusal [
   | Some first ↦ []
   | None ↦ (
-      let poll = timed site.now (Does site.node asked.thread (OnCore Poll)) in
+      let poll = timed_event site.now (Does site.node asked.thread (OnCore Poll)) in
       poll ∷ calls_behind (job_at site) area group site.now site.node asked.thread asked.dest
       (end_by (job_at site) area group site.now site.node asked.thread asked.dest
       (world_answer (job_at site) group.records poll)))
@@ -147,17 +147,17 @@ writes_called : (site : Site) (thread : ℕ) (writes : List Write)
     → map (write_event site.now site.node thread) writes ≡ events_of site (map (set_call thread) writes)
 writes_called site thread [] = refl
 writes_called site thread (write ∷ later) =
-    ap (λ (calls : List (Timed OtherCall)). write_event site.now site.node thread write ∷ calls)
+    ap (λ (calls : List (EventAt OtherCall)). write_event site.now site.node thread write ∷ calls)
     (writes_called site thread later)
 
 behind_called : (site : Site) (group : Group) (it : CollectivesState) (asked : EndAsked) (answer : EndAnswer)
     → IsAt site group it
-    → timed site.now (Does site.node asked.thread (OnCore Poll))
+    → timed_event site.now (Does site.node asked.thread (OnCore Poll))
     ∷ calls_behind (job_at site) it.area group site.now site.node asked.thread asked.dest answer
     ≡ events_of site (end_calls it (segment_in site (group.records site.node)) asked answer)
 behind_called site group it asked end_answers.Ended at =
     let segment = segment_in site (group.records site.node) in
-    ap (λ (calls : List (Timed OtherCall)). timed site.now (Does site.node asked.thread (OnCore Poll)) ∷ calls)
+    ap (λ (calls : List (EventAt OtherCall)). timed_event site.now (Does site.node asked.thread (OnCore Poll)) ∷ calls)
     (ap (λ (all : List (List ℕ)). map (write_event site.now site.node asked.thread) (writes_from asked.dest all))
     (pieces_are site group it at)
     ∙ writes_called site asked.thread (writes_from asked.dest (result_in it segment)))
@@ -176,7 +176,7 @@ pub all_called : (site : Site) (group : Group) (it : CollectivesState) (asked : 
     (tried_answer site (group.records site.node) it asked.thread))
 all_called site group it asked at none =
     ap (calls_by site group it.area asked) (first_is site group it asked at ∙ none)
-    ∙ (ap (λ (answer : EndAnswer). timed site.now (Does site.node asked.thread (OnCore Poll))
+    ∙ (ap (λ (answer : EndAnswer). timed_event site.now (Does site.node asked.thread (OnCore Poll))
     ∷ calls_behind (job_at site) it.area group site.now site.node asked.thread asked.dest answer)
     (by_judged site group it asked _ (group.records site.node).local.core at)
     ∙ behind_called site group it asked (tried_answer site (group.records site.node) it asked.thread) at)

@@ -2,7 +2,7 @@
 use Rattle.std.specs.Prelude.{ℕ, ◌≡◌, ◌≤◌, ◌<◌, List, [], ◌∷◌, ◌++◌}
 use Rattle.part_handlers.specs.Runs.{Meaning, IsLawfulMeaning}
 use Rattle.node_rules.specs.EndpointRules.{OtherCall}
-use Rattle.spec_network.specs.World.{Timed}
+use Rattle.spec_network.specs.World.{EventAt}
 use Rattle.sim_world.specs.Events.{job_in}
 use Rattle.sim_world.specs.declared.event.WorldAnswer.{WorldAnswer}
 use Rattle.sim_world.specs.declared.event.WorldAnswer.TheVariants as world_answers
@@ -58,7 +58,7 @@ Stays meaning old new = (history : History) → IsHistory meaning old history �
 
 -- an event of the world that is one of a group: the areas are written by collectives alone, and nobody else calls
 -- their handler
-abbrev pub GrowsBeside : Meaning → GroupState → Timed OtherCall → WorldAnswer → GroupState → Type 0
+abbrev pub GrowsBeside : Meaning → GroupState → EventAt OtherCall → WorldAnswer → GroupState → Type 0
 GrowsBeside meaning old event world_answers.NoMemory new = Stays meaning old new
 GrowsBeside meaning old event answer new =
     (history : History) → IsHistory meaning old history

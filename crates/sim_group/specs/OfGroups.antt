@@ -1,7 +1,7 @@
 -- What the calls of a collective at a node of a world are to a group of nodes that run collectives.
 use Rattle.std.specs.Prelude.{ℕ, ◌≡◌, ◌≢◌, ◌<◌, Option, None, Some}
 use Rattle.spec_network.specs.World.{Asks, run, world_answer, world_after}
-use Rattle.node_rules.specs.EndpointRules.{timed}
+use Rattle.node_rules.specs.EndpointRules.{timed_event}
 use Rattle.node_caller.specs.Sites.{Site, answer_at, job_at}
 use Rattle.sim_caller.specs.Wholes.{events_of, records_then}
 use Rattle.node_collectives.specs.declared.answers.StartAnswer.{StartAnswer}
@@ -10,7 +10,7 @@ use Rattle.node_collectives.specs.declared.answers.StepAnswer.{StepAnswer}
 use Rattle.node_collectives.specs.Progress.{Progress, end_refusal, start_refusal, step_ask}
 use Rattle.node_collectives.specs.CollectivesState.{CollectivesState, Stands, progress_of}
 use Rattle.node_collectives.specs.Starts.{StartAsked, start_call, start_told}
-use Rattle.node_collectives.specs.Steps.{noted, step_call, step_told}
+use Rattle.node_collectives.specs.Steps.{after_ask, step_call, step_told}
 use Rattle.node_collectives.specs.Ends.{EndAsked, end_calls, ended_then, segment_in, tried_answer}
 use Rattle.law_collectives.specs.Groups.{Group, StepGoes, Stops, GoesOn, asked_in, does_end, does_start}
 use Rattle.law_collectives.specs.Groups.{started_group, step_goes}
@@ -55,11 +55,11 @@ goes_by None progress = GoesOn progress
 pub record StepIs (site : Site) (group : Group) (it : CollectivesState) (thread to : ℕ) : Type 0 where
   pub event : records_then site group.records (step_call it thread to)
       ≡ world_after (job_at site) group.records
-      (timed site.now (Asks site.node (step_ask it.area site.node thread to (group.progress site.node))))
+      (timed_event site.now (Asks site.node (step_ask it.area site.node thread to (group.progress site.node))))
   pub goes : let told = Some (answer_at site (group.records site.node) (step_call it thread to)) in
       step_goes (group.progress site.node) to (asked_in (world_answer (job_at site) group.records
-      (timed site.now (Asks site.node (step_ask it.area site.node thread to (group.progress site.node))))))
-      ≡ goes_by (step_told to told) (progress_of (noted it to told))
+      (timed_event site.now (Asks site.node (step_ask it.area site.node thread to (group.progress site.node))))))
+      ≡ goes_by (step_told to told) (progress_of (after_ask it to told))
 
 abbrev pub StepIsOfGroup : Type 0
 StepIsOfGroup =

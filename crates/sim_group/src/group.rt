@@ -1,7 +1,7 @@
 //! A world of endpoints whose nodes run collectives.
 
 ghost use Rattle.std.specs.Prelude.{◌≡◌, ◌<◌, [], length, IfOk};
-ghost use Rattle.node_rules.specs.EndpointRules.{timed, transition};
+ghost use Rattle.node_rules.specs.EndpointRules.{timed_event, transition};
 ghost use Rattle.spec_network.specs.World.{IsAmong};
 ghost use Rattle.sim_world.specs.Aims.{MayFall};
 ghost use Rattle.sim_world.specs.Events.{StepsInWorld, event_of};
@@ -92,7 +92,7 @@ impl Group {
         ensures steps { StepsInWorld (H.meaning handlers.now) self.old.world
             (transition now (event_of event.now) result) self.new.world }
         ensures same { self.new.nodes ≡ self.old.nodes }
-        ensures history { GrowsBeside (H.meaning handlers.now) self.old (timed now (event_of event.now))
+        ensures history { GrowsBeside (H.meaning handlers.now) self.old (timed_event now (event_of event.now))
             result self.new }
     {
         self.nodes.world.step(handlers, now, event)

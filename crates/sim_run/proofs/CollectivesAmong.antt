@@ -3,9 +3,9 @@ use Rattle.std.proofs.Common.{ℕ, zero, suc, ◌<◌, Bool, true, false, List, 
 use Rattle.std.specs.Prelude.{if◌then◌else◌}
 use Rattle.part_segment.specs.Image.{Write}
 use Rattle.wire_message.specs.Parameters.{Parameters}
-use Rattle.spec_network.specs.World.{Asks, Does, Timed, world_after, world_answer}
+use Rattle.spec_network.specs.World.{Asks, Does, EventAt, world_after, world_answer}
 use Rattle.node_rules.specs.CoreCalls.{Poll}
-use Rattle.node_rules.specs.EndpointRules.{OnCore, OtherCall, timed}
+use Rattle.node_rules.specs.EndpointRules.{OnCore, OtherCall, timed_event}
 use Rattle.sim_world.specs.Settling.{WorldJob}
 use Rattle.sim_world.proofs.Among.{AreAmong}
 use Rattle.part_collective_area.specs.Area.{Area}
@@ -27,10 +27,10 @@ start_among : (job : WorldJob) (area : Area) (group : Group) (now node thread : 
 start_among job area group now node thread shape from low =
     by_refusal (start_refusal area job.settings.segment (group.progress node) shape from)
   where
-    calls : Option StartAnswer → List (Timed OtherCall)
+    calls : Option StartAnswer → List (EventAt OtherCall)
     calls refusal = elim refusal [
       | Some first ↦ []
-      | None ↦ timed now (Asks node (start_ask area node thread (group.progress node) shape from)) ∷ []
+      | None ↦ timed_event now (Asks node (start_ask area node thread (group.progress node) shape from)) ∷ []
     ]
 
     by_refusal : (refusal : Option StartAnswer) → AreAmong job.settings (calls refusal)
@@ -47,10 +47,10 @@ steps_among job area now node thread to (suc many) group low =
     Again : Type 0
     Again = (later : Group) → AreAmong job.settings (calls_from job area later now node thread (suc to) many)
 
-    event : Timed OtherCall
-    event = timed now (Asks node (step_ask area node thread to (group.progress node)))
+    event : EventAt OtherCall
+    event = timed_event now (Asks node (step_ask area node thread to (group.progress node)))
 
-    calls : StepGoes → List (Timed OtherCall)
+    calls : StepGoes → List (EventAt OtherCall)
     calls goes = elim goes [
       | Stops answer progress ↦ []
       | GoesOn progress ↦ calls_from job area
@@ -87,13 +87,13 @@ end_among : (job : WorldJob) (area : Area) (group : Group) (now node thread dest
 end_among job area group now node thread dest low =
     by_refusal (end_refusal area job.settings.segment node (group.progress node) dest)
   where
-    poll : Timed OtherCall
-    poll = timed now (Does node thread (OnCore Poll))
+    poll : EventAt OtherCall
+    poll = timed_event now (Does node thread (OnCore Poll))
 
     answer : EndAnswer
     answer = end_by job area group now node thread dest (world_answer job group.records poll)
 
-    calls : Option EndAnswer → List (Timed OtherCall)
+    calls : Option EndAnswer → List (EventAt OtherCall)
     calls refusal = elim refusal [
       | Some first ↦ []
       | None ↦ poll ∷ calls_behind job area group now node thread dest answer

@@ -12,7 +12,7 @@ use Rattle.text_job.specs.JobReading.{lines_of}
 use Rattle.text_job.specs.declared.job.Job.{Job as JobState}
 use Rattle.text_script.specs.Bodies.{script_meaning}
 use Rattle.base_text.specs.LineTexts.{spell}
-use Rattle.text_script.specs.Registration.{handlers_of, registered}
+use Rattle.text_script.specs.Registration.{handlers_of, registry_of}
 use Rattle.sim_run.specs.LinesWritten.{OnDone, SaysLines, said_of}
 use Rattle.sim_run.specs.RunText.{answer_lines, end_lines, run_lines, run_most, run_records}
 use Rattle.sim_run.specs.ScheduleRun.{NodesStage, RunsLines, StandsAfter, StandsForRun, WritesText, nodes_text}
@@ -29,7 +29,7 @@ Ran job text old new said =
     (opening_nodes text).group.records (λ i. 0))
 
 pub job_ran : (text : JobState) (old new : NodesStage) (said : Said)
-    → old.nodes.world.settings ≡ text.settings → old.nodes.world.table ≡ (registered (handlers_of text)).table
+    → old.nodes.world.settings ≡ text.settings → old.nodes.world.table ≡ (registry_of (handlers_of text)).table
     → StandsFor old.nodes (opening_nodes text).area (opening_nodes text).group (λ i. 0)
     → RunsLines (job_in (script_meaning (handlers_of text)) old.nodes.world) (lines_of text.schedule) old new said
     → Ran (world_job text) text old new said
@@ -65,7 +65,7 @@ job_said text old new last said how wrote done how_is same it writes =
 
 pub job_stands : (text : JobState) (old new : NodesStage) (said how : Said) (wrote : Wrote)
     → said ≡ Done → how ≡ said_of wrote → new.nodes.world.settings ≡ text.settings
-    → new.nodes.world.table ≡ (registered (handlers_of text)).table
+    → new.nodes.world.table ≡ (registry_of (handlers_of text)).table
     → Ran (world_job text) text old new said → OnDone how (StandsForRun text new.nodes.world)
 job_stands text old new said how wrote done how_is settings table it =
     let ran = subst (Ran (world_job text) text old new) done it in

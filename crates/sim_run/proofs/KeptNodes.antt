@@ -5,7 +5,7 @@ use Rattle.sim_world.specs.WorldState.{WorldState}
 use Rattle.node_collectives.specs.CollectivesState.{CollectivesState}
 use Rattle.sim_group.specs.GroupState.{AreAt, GroupState, IsGroup}
 use Rattle.text_job.specs.declared.job.Job.{Job as JobState}
-use Rattle.sim_run.specs.ScheduleRun.{GroupStood, IsOfSameNodes, Stood}
+use Rattle.sim_run.specs.ScheduleRun.{GroupStood, IsOfSameNodes, WorldRecords}
 
 -- they are those of another world with the same settings
 pub same_group : (old new : WorldState) (nodes : List CollectivesState) → new.settings ≡ old.settings
@@ -25,7 +25,7 @@ world_alone text old new nodes settings table = record {
 }
 
 -- the world stands for some records
-pub world_stood : (it : GroupState) → GroupStood it → Stood it.world
+pub world_stood : (it : GroupState) → GroupStood it → WorldRecords it.world
 world_stood it stood = record {
   records = stood.nodes.group.records;
   most = stood.most;

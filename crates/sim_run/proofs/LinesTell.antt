@@ -6,17 +6,17 @@ use Rattle.std.specs.List.{slice_get}
 use Rattle.std.proofs.lemmas.Option.{same_Some}
 use Rattle.wire_message.specs.Parameters.{Parameters}
 use Rattle.wire_message.specs.Message.{Message}
-use Rattle.spec_node.specs.Record.{Request, Run, numbered}
+use Rattle.spec_node.specs.Record.{Request, Run, element_at}
 use Rattle.spec_node.specs.Executed.{run_of}
 use Rattle.node_rules.specs.EndpointLocal.{nothing_begun}
 use Rattle.spec_node.specs.declared.answer.Delivered.{Delivered}
 use Rattle.spec_node.specs.declared.answer.Delivered.TheVariants as delivered
 use Rattle.spec_node.specs.NodeStep.{Comes, OfDelivery}
-use Rattle.spec_network.specs.World.{RequestComes, ReplyComes, Timed, Fall, WorldAnswer, OfNode, request_event}
+use Rattle.spec_network.specs.World.{RequestComes, ReplyComes, EventAt, Fall, WorldAnswer, OfNode, request_event}
 use Rattle.spec_network.specs.World.{reply_event, falls, answer_at, world_after, run, answers_of}
-use Rattle.spec_network.specs.PlainStep.{named}
+use Rattle.spec_network.specs.PlainStep.{request_name}
 use Rattle.spec_network.specs.Headline.{Headline, after_first, Happens, IsRanAnswer, IsReturned}
-use Rattle.node_rules.specs.EndpointRules.{OtherCall, Records, RecordsEvent, at_the_opening, timed}
+use Rattle.node_rules.specs.EndpointRules.{OtherCall, Records, RecordsEvent, at_the_opening, timed_event}
 use Rattle.sim_world.specs.WorldTold.{world_told}
 use Rattle.node_rules.specs.declared.answer.Answer.{Answer}
 use Rattle.base_text.specs.LineTexts.{Line}
@@ -40,7 +40,7 @@ use Rattle.base_lists.proofs.Appended.{get-append_kept, get-append_right}
 -- ---- lists
 
 -- the records after all of some events and the first of those that follow them
-after_past : (job : WorldJob) (xs ys : List (Timed OtherCall)) (w : Records) (count : ℕ)
+after_past : (job : WorldJob) (xs ys : List (EventAt OtherCall)) (w : Records) (count : ℕ)
     → after_first job (xs ++ ys) w (length xs + count) ≡ after_first job ys (run job xs w) count
 after_past job [] ys w count = ap (after_first job ys w) (omega arith)
 after_past job (x ∷ xs) ys w count =
@@ -68,9 +68,9 @@ record LineTold (job : WorldJob) (es : List TimedEvent) (nodes : Nodes) (first l
   pub after : after_first job (schedule_events job es nodes) nodes.group.records (events_before job es nodes line)
       ≡ records
   pub is : scheduled_event records e.event ≡ Some event
-  pub at : slice_get (schedule_events job es nodes) (events_before job es nodes line) ≡ Some (timed e.time event)
+  pub at : slice_get (schedule_events job es nodes) (events_before job es nodes line) ≡ Some (timed_event e.time event)
   pub told : slice_get (answer_lines job first es nodes) line
-      ≡ Some (decimal (line + first) ∷ event_words job records (timed e.time event))
+      ≡ Some (decimal (line + first) ∷ event_words job records (timed_event e.time event))
 
 -- the first line
 told_first : (job : WorldJob) (e : TimedEvent) (es : List TimedEvent) (nodes : Nodes) (first : ℕ) → IsOneEvent e.event
@@ -85,9 +85,9 @@ told_first job e es nodes first one =
       event = x.0;
       after = refl;
       is = x.1;
-      at = ap (λ (xs : List (Timed OtherCall)). slice_get (xs ++ more) 0) (one_event job nodes e.time e.event x.0 x.1);
+      at = ap (λ (xs : List (EventAt OtherCall)). slice_get (xs ++ more) 0) (one_event job nodes e.time e.event x.0 x.1);
       told = ap (λ (words : Line). Some (decimal first ∷ words)) (one_answer job nodes e.time e.event x.0 x.1)
-          ∙ ap (λ (n : ℕ). Some (decimal n ∷ event_words job w (timed e.time x.0))) number;
+          ∙ ap (λ (n : ℕ). Some (decimal n ∷ event_words job w (timed_event e.time x.0))) number;
     }
 
 -- a line after the first
@@ -107,7 +107,7 @@ told_next job f es nodes first line e h =
           ∙ (ap (λ (w : Records). after_first job more w before) (sym (line_runs job nodes f)) ∙ h.after);
       is = h.is;
       at = get-append_right events more before ∙ h.at;
-      told = h.told ∙ ap (λ (n : ℕ). Some (decimal n ∷ event_words job h.records (timed e.time h.event))) number;
+      told = h.told ∙ ap (λ (n : ℕ). Some (decimal n ∷ event_words job h.records (timed_event e.time h.event))) number;
     }
 
 -- each line that is one event
@@ -129,7 +129,7 @@ lines_tell j line e h one =
     let a = line_told job (lines_of j.schedule) (opening_nodes j) 1 line e h one in
     let told = get-append_kept (answer_lines job 1 (lines_of j.schedule) (opening_nodes j))
     (end_lines j.settings (run_records j) (run_most j)) line
-    (decimal (line + 1) ∷ event_words job a.records (timed e.time a.event)) a.told in
+    (decimal (line + 1) ∷ event_words job a.records (timed_event e.time a.event)) a.told in
     record {
       place = event_place j line;
       place_is = refl;
@@ -137,7 +137,7 @@ lines_tell j line e h one =
       is = ap (λ (w : Records). scheduled_event w e.event) a.after ∙ a.is;
       at = a.at;
       told = told
-          ∙ ap (λ (w : Records). Some (decimal (line + 1) ∷ event_words job w (timed e.time a.event))) (sym a.after);
+          ∙ ap (λ (w : Records). Some (decimal (line + 1) ∷ event_words job w (timed_event e.time a.event))) (sym a.after);
     }
 
 -- the events of later lines of a schedule stand later
@@ -230,18 +230,18 @@ told_delivers j headline line e words x one event message sent h =
     let w = records_at j place in
     let a = lines_tell j line (record { time = h.time; event = e }) h.line one in
     let same : a.event ≡ x = same_Some a.event x (sym a.is ∙ event w) in
-    let at : slice_get (run_events j) place ≡ Some (timed h.time x) =
-    a.at ∙ ap (λ (y : RecordsEvent). Some (timed h.time y)) same
+    let at : slice_get (run_events j) place ≡ Some (timed_event h.time x) =
+    a.at ∙ ap (λ (y : RecordsEvent). Some (timed_event h.time y)) same
     in
     let line_is = a.told in
     let told = h.told in
-    let words_are : event_words job w (timed h.time a.event) ≡ words = cc in
-    let is : event_words job w (timed h.time x) ≡ words =
-    ap (λ (y : RecordsEvent). event_words job w (timed h.time y)) (sym same) ∙ words_are
+    let words_are : event_words job w (timed_event h.time a.event) ≡ words = cc in
+    let is : event_words job w (timed_event h.time x) ≡ words =
+    ap (λ (y : RecordsEvent). event_words job w (timed_event h.time y)) (sym same) ∙ words_are
     in
-    let sight = sight_of job.settings (node_of_event x) (world_after job w (timed h.time x) (node_of_event x)) in
+    let sight = sight_of job.settings (node_of_event x) (world_after job w (timed_event h.time x) (node_of_event x)) in
     let d = message_answer job w h.time sight (falls job.settings w x) words (message w) sent is in
-    let answer = (headline.steps place (timed h.time x) at).answer in
+    let answer = (headline.steps place (timed_event h.time x) at).answer in
     record {
       answer = d.0;
       says = d.2;
@@ -266,7 +266,7 @@ same_line j line other e words one h k same =
 -- an answer of the word `ran` says that a request was run
 ran_says : (d : Delivered) → delivered_words d ≡ codes "ran" ∷ [] → IsRanAnswer d
 ran_says (delivered.Ran at) e = (at, refl)
-ran_says (delivered.Noted at note) e = (at, refl)
+ran_says (delivered.Notified at notification) e = (at, refl)
 ran_says (delivered.Duplicate at) e = absurd (cc)
 ran_says delivered.Stale e = absurd (cc)
 ran_says (delivered.Returned to slot number) e = absurd (cc)
@@ -277,7 +277,7 @@ ran_says (delivered.Refused reason) e = absurd (cc)
 -- an answer of the word `returned` says that a reply was taken
 returned_says : (d : Delivered) → delivered_words d ≡ codes "returned" ∷ [] → IsReturned d
 returned_says (delivered.Ran at) e = absurd (cc)
-returned_says (delivered.Noted at note) e = absurd (cc)
+returned_says (delivered.Notified at notification) e = absurd (cc)
 returned_says (delivered.Duplicate at) e = absurd (cc)
 returned_says delivered.Stale e = absurd (cc)
 returned_says (delivered.Returned to slot number) e = tt
@@ -299,7 +299,7 @@ request_ran j headline from to number place h =
     let x = RequestComes from to number in
     says_more j x (λ d. delivered_words d ≡ codes "ran" ∷ []) IsRanAnswer (event_place j place) ran_says
     (told_delivers j headline place (scheduled.Request from to number) (codes "ran" ∷ []) x tt (λ w. refl)
-    (λ w. request_or_none j.settings from to number (numbered ((w from).asked to) number)) (λ e. absurd (cc)) h)
+    (λ w. request_or_none j.settings from to number (element_at ((w from).asked to) number)) (λ e. absurd (cc)) h)
 
 -- the reply of a line that is told `returned` brings its request back
 reply_returned : (j : JobState) → Headline (world_job j) (λ i. nothing_begun j.settings) (run_events j)
@@ -318,7 +318,7 @@ ran_told_once j headline from to number place other h k =
     let a = request_ran j headline from to number place h in
     let b = request_ran j headline from to number other k in
     same_line j place other (scheduled.Request from to number) (codes "ran" ∷ []) tt h k
-    (headline.once (named from to number) (event_place j place) (event_place j other) a b)
+    (headline.once (request_name from to number) (event_place j place) (event_place j other) a b)
 
 -- of the lines that deliver one reply at most one is told that it brought its request back
 pub returned_told_once : (j : JobState) → Headline (world_job j) (λ i. nothing_begun j.settings) (run_events j)
@@ -327,4 +327,4 @@ returned_told_once j headline from to number place other h k =
     let a = reply_returned j headline from to number place h in
     let b = reply_returned j headline from to number other k in
     same_line j place other (scheduled.Reply from to number) (codes "returned" ∷ []) tt h k
-    (headline.taken.once (named from to number) (event_place j place) (event_place j other) a b)
+    (headline.taken.once (request_name from to number) (event_place j place) (event_place j other) a b)

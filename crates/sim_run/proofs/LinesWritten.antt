@@ -18,40 +18,40 @@ one_more lines line =
 
 -- nothing went in yet
 pub no_lines_yet : (a : Outbox) (all : List Line) → LinesUpTo a a all all
-no_lines_yet a all = record { front = []; whole = refl; gathered = gathers_none a }
+no_lines_yet a all = record { prefix = []; whole = refl; gathered = gathers_none a }
 
 -- the next lines went in
 pub lines_done : (a b c : Outbox) (all rest x y : List Line) → rest ≡ x ++ y → LinesUpTo a b all rest
     → Gathers b c (spell x) → LinesUpTo a c all y
 lines_done a b c all rest x y e h k = record {
-  front = h.front ++ x;
-  whole = h.whole ∙ ap (λ z. h.front ++ z) e ∙ sym (append_assoc h.front x y);
-  gathered = rw (flat_map-append line_text h.front x) (gathers_more a b c (spell h.front) (spell x) h.gathered k);
+  prefix = h.prefix ++ x;
+  whole = h.whole ∙ ap (λ z. h.prefix ++ z) e ∙ sym (append_assoc h.prefix x y);
+  gathered = rw (flat_map-append line_text h.prefix x) (gathers_more a b c (spell h.prefix) (spell x) h.gathered k);
 }
 
 -- no line is left
 pub lines_all : (a b : Outbox) (all rest : List Line) → rest ≡ [] → LinesUpTo a b all rest → Gathers a b (spell all)
 lines_all a b all rest e h =
-    subst (λ z. Gathers a b (spell z)) (sym (h.whole ∙ ap (λ z. h.front ++ z) e ∙ append-nil h.front)) h.gathered
+    subst (λ z. Gathers a b (spell z)) (sym (h.whole ∙ ap (λ z. h.prefix ++ z) e ∙ append-nil h.prefix)) h.gathered
 
 -- the next lines were said, and not all of them
 pub lines_said : (a b c : Outbox) (all rest x y : List Line) (said : Said) → (said ≡ Done → ⊥) → rest ≡ x ++ y
     → LinesUpTo a b all rest → SaysLines b c x said → SaysLines a c all said
 lines_said a b c all rest x y Done n e h k = absurd (n refl)
 lines_said a b c all rest x y Fault n e h k =
-    let whole : spell all ≡ spell h.front ++ (spell x ++ spell y) =
-    ap spell (h.whole ∙ ap (λ z. h.front ++ z) e) ∙ flat_map-append line_text h.front (x ++ y)
-    ∙ ap (λ z. spell h.front ++ z) (flat_map-append line_text x y) in
-    rw whole (gathers_then a b c (spell h.front) (spell x ++ spell y) wrote.Fault h.gathered
+    let whole : spell all ≡ spell h.prefix ++ (spell x ++ spell y) =
+    ap spell (h.whole ∙ ap (λ z. h.prefix ++ z) e) ∙ flat_map-append line_text h.prefix (x ++ y)
+    ∙ ap (λ z. spell h.prefix ++ z) (flat_map-append line_text x y) in
+    rw whole (gathers_then a b c (spell h.prefix) (spell x ++ spell y) wrote.Fault h.gathered
     (gathers_first b c (spell x) (spell y) k))
 lines_said a b c all rest x y NoMemory n e h k = (
   k.0 ++ y,
   record {
-    front = h.front ++ k.1.front;
-    whole = h.whole ∙ ap (λ z. h.front ++ z) (e ∙ ap (λ z. z ++ y) k.1.whole ∙ append_assoc k.1.front k.0 y)
-        ∙ sym (append_assoc h.front k.1.front (k.0 ++ y));
-    gathered = rw (flat_map-append line_text h.front k.1.front)
-        (gathers_more a b c (spell h.front) (spell k.1.front) h.gathered k.1.gathered);
+    prefix = h.prefix ++ k.1.prefix;
+    whole = h.whole ∙ ap (λ z. h.prefix ++ z) (e ∙ ap (λ z. z ++ y) k.1.whole ∙ append_assoc k.1.prefix k.0 y)
+        ∙ sym (append_assoc h.prefix k.1.prefix (k.0 ++ y));
+    gathered = rw (flat_map-append line_text h.prefix k.1.prefix)
+        (gathers_more a b c (spell h.prefix) (spell k.1.prefix) h.gathered k.1.gathered);
   },
 )
 

@@ -4,7 +4,7 @@ use Rattle.std.proofs.Common.{codes, decimal}
 use Rattle.std.specs.List.{slice_get}
 use Rattle.std.proofs.lemmas.Option.{same_Some}
 use Rattle.base_lists.proofs.Appended.{get-append_kept}
-use Rattle.spec_network.specs.World.{Timed, run}
+use Rattle.spec_network.specs.World.{EventAt, run}
 use Rattle.node_rules.specs.EndpointRules.{OtherCall}
 use Rattle.sim_world.specs.Settling.{WorldJob}
 use Rattle.part_collective_area.specs.Area.{Area}
@@ -32,7 +32,7 @@ after_both job area group [] ys = refl
 after_both job area group (x ∷ xs) ys = after_both job area (group_does job area group x).1 xs ys
 
 -- events that no collective makes
-others_leave : (job : WorldJob) (area : Area) (group : Group) (events : List (Timed OtherCall))
+others_leave : (job : WorldJob) (area : Area) (group : Group) (events : List (EventAt OtherCall))
     → group_after job area group (map Other events) ≡ record group { records = run job events group.records }
 others_leave job area group [] = refl
 others_leave job area group (event ∷ events) = others_leave job area (group_does job area group (Other event)).1 events

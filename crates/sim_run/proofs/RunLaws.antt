@@ -15,7 +15,7 @@ use Rattle.text_job.specs.JobText.{IsJob}
 use Rattle.text_job.specs.declared.job.Job.{Job as JobState}
 use Rattle.text_script.specs.LawfulBodies.{lawful-script}
 use Rattle.text_script.specs.ScriptInvariant.{AreWithin}
-use Rattle.text_script.specs.Registration.{handlers_of, registered}
+use Rattle.text_script.specs.Registration.{handlers_of, registry_of}
 use Rattle.sim_run.specs.Schedules.{area_in, opening_nodes, world_job}
 use Rattle.sim_run.specs.RunText.{run_events}
 use Rattle.sim_run.specs.RunLaws.{RunLaws}
@@ -34,7 +34,7 @@ use Rattle.sim_run.proofs.LinesTell.{places_rise, lines_tell, ran_told_once, ret
 run_headline : (j : JobState) → AreInRange j.settings → AreWithin j.settings (lines_of j.schedule)
     → Headline (world_job j) (λ i. nothing_begun j.settings) (run_events j)
 run_headline j range within =
-    headline j.settings (registered (handlers_of j)).table (script_meaning (handlers_of j)) (run_events j) range
+    headline j.settings (registry_of (handlers_of j)).table (script_meaning (handlers_of j)) (run_events j) range
     (lawful-script (handlers_of j))
     (lines_among (world_job j) (lines_of j.schedule) (opening_nodes j) within)
 
@@ -48,7 +48,7 @@ group_holds j range collect has = by_area j.collect refl collect has
     by_area None same good some = absurd (cc)
     by_area (Some at) same good some =
         let collects : is_some j.collect ≡ true = ap is_some same in
-        collectives_hold j.settings (registered (handlers_of j)).table (script_meaning (handlers_of j))
+        collectives_hold j.settings (registry_of (handlers_of j)).table (script_meaning (handlers_of j))
         (area_of j.settings.nodes at) range (lawful-script (handlers_of j)) (has_collectives (handlers_of j) collects)
         (serves_collectives (handlers_of j) collects) good.area refl
 
@@ -62,14 +62,14 @@ laws_within j range collect within = record {
   rise = places_rise j;
   ran = ran_told_once j (run_headline j range within);
   returned = returned_told_once j (run_headline j range within);
-  most = run_greatest j.settings (registered (handlers_of j)).table (script_meaning (handlers_of j)) (run_events j);
-  transfers = transfers_hold j.settings (registered (handlers_of j)).table (script_meaning (handlers_of j)) range
+  most = run_greatest j.settings (registry_of (handlers_of j)).table (script_meaning (handlers_of j)) (run_events j);
+  transfers = transfers_hold j.settings (registry_of (handlers_of j)).table (script_meaning (handlers_of j)) range
       (lawful-script (handlers_of j));
-  plans = pairs_are_done j.settings (registered (handlers_of j)).table (script_meaning (handlers_of j)) range
+  plans = pairs_are_done j.settings (registry_of (handlers_of j)).table (script_meaning (handlers_of j)) range
       (lawful-script (handlers_of j));
-  barrier = barrier_holds j.settings (registered (handlers_of j)).table (script_meaning (handlers_of j)) range
+  barrier = barrier_holds j.settings (registry_of (handlers_of j)).table (script_meaning (handlers_of j)) range
       (lawful-script (handlers_of j));
-  atomics = λ has. atomics_hold j.settings (registered (handlers_of j)).table (script_meaning (handlers_of j)) range
+  atomics = λ has. atomics_hold j.settings (registry_of (handlers_of j)).table (script_meaning (handlers_of j)) range
       (lawful-script (handlers_of j)) (has_batches (handlers_of j) has) (serves_batches (handlers_of j) has);
   collectives = λ has. results_hold j (group_holds j range collect has);
 }

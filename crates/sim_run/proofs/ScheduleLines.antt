@@ -5,7 +5,7 @@ use Rattle.std.specs.List.{slice_get}
 use Rattle.std.specs.Option.{IfSome}
 use Rattle.std.proofs.lemmas.Option.{same_Some}
 use Rattle.sim_world.specs.Events.{event_of}
-use Rattle.node_rules.specs.EndpointRules.{Records, RecordsEvent, timed}
+use Rattle.node_rules.specs.EndpointRules.{Records, RecordsEvent, timed_event}
 use Rattle.sim_world.specs.declared.event.WorldEvent.{WorldEvent}
 use Rattle.sim_run.specs.ScheduleLine.{IsLine}
 use Rattle.sim_world.specs.Settling.{WorldJob}
@@ -84,12 +84,12 @@ never_none w o e read at is h = read_at w o e read None at is h
 
 -- the events of a line, by its one event
 pub one_event : (job : WorldJob) (nodes : Nodes) (now : ℕ) (e : ScheduledEvent) (x : RecordsEvent)
-    → scheduled_event nodes.group.records e ≡ Some x → line_events job nodes now e ≡ timed now x ∷ []
-one_event job nodes now (scheduled.Call node thread c) x h = ap (λ (y : RecordsEvent). timed now y ∷ []) (same_Some _ x h)
+    → scheduled_event nodes.group.records e ≡ Some x → line_events job nodes now e ≡ timed_event now x ∷ []
+one_event job nodes now (scheduled.Call node thread c) x h = ap (λ (y : RecordsEvent). timed_event now y ∷ []) (same_Some _ x h)
 one_event job nodes now (scheduled.Request from to number) x h =
-    ap (λ (y : RecordsEvent). timed now y ∷ []) (same_Some _ x h)
-one_event job nodes now (scheduled.Reply from to number) x h = ap (λ (y : RecordsEvent). timed now y ∷ []) (same_Some _ x h)
-one_event job nodes now (scheduled.Tick node) x h = ap (λ (y : RecordsEvent). timed now y ∷ []) (same_Some _ x h)
+    ap (λ (y : RecordsEvent). timed_event now y ∷ []) (same_Some _ x h)
+one_event job nodes now (scheduled.Reply from to number) x h = ap (λ (y : RecordsEvent). timed_event now y ∷ []) (same_Some _ x h)
+one_event job nodes now (scheduled.Tick node) x h = ap (λ (y : RecordsEvent). timed_event now y ∷ []) (same_Some _ x h)
 one_event job nodes now (scheduled.Vis node thread vis) x h = absurd (cc)
 one_event job nodes now (scheduled.Collective node thread call) x h = absurd (cc)
 one_event job nodes now (scheduled.Settle rounds) x h = absurd (cc)
@@ -97,15 +97,15 @@ one_event job nodes now (scheduled.Settle rounds) x h = absurd (cc)
 -- the words of a line, by its one event
 pub one_answer : (job : WorldJob) (nodes : Nodes) (now : ℕ) (e : ScheduledEvent) (x : RecordsEvent)
     → scheduled_event nodes.group.records e ≡ Some x
-    → words_at job nodes now e ≡ event_words job nodes.group.records (timed now x)
+    → words_at job nodes now e ≡ event_words job nodes.group.records (timed_event now x)
 one_answer job nodes now (scheduled.Call node thread c) x h =
-    ap (λ (y : RecordsEvent). event_words job nodes.group.records (timed now y)) (same_Some _ x h)
+    ap (λ (y : RecordsEvent). event_words job nodes.group.records (timed_event now y)) (same_Some _ x h)
 one_answer job nodes now (scheduled.Request from to number) x h =
-    ap (λ (y : RecordsEvent). event_words job nodes.group.records (timed now y)) (same_Some _ x h)
+    ap (λ (y : RecordsEvent). event_words job nodes.group.records (timed_event now y)) (same_Some _ x h)
 one_answer job nodes now (scheduled.Reply from to number) x h =
-    ap (λ (y : RecordsEvent). event_words job nodes.group.records (timed now y)) (same_Some _ x h)
+    ap (λ (y : RecordsEvent). event_words job nodes.group.records (timed_event now y)) (same_Some _ x h)
 one_answer job nodes now (scheduled.Tick node) x h =
-    ap (λ (y : RecordsEvent). event_words job nodes.group.records (timed now y)) (same_Some _ x h)
+    ap (λ (y : RecordsEvent). event_words job nodes.group.records (timed_event now y)) (same_Some _ x h)
 one_answer job nodes now (scheduled.Vis node thread vis) x h = absurd (cc)
 one_answer job nodes now (scheduled.Collective node thread call) x h = absurd (cc)
 one_answer job nodes now (scheduled.Settle rounds) x h = absurd (cc)

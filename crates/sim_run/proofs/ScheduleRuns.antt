@@ -4,9 +4,9 @@ use Rattle.std.proofs.Common.{codes, decimal}
 use Rattle.base_io.specs.Buffered.{Outbox, Gathers, GathersAll}
 use Rattle.base_io.specs.declared.writing.Wrote.{Wrote}
 use Rattle.part_handlers.specs.Runs.{Meaning}
-use Rattle.spec_network.specs.World.{Timed, run, world_answer, world_after}
+use Rattle.spec_network.specs.World.{EventAt, run, world_answer, world_after}
 use Rattle.spec_network.specs.MostHeld.{most_after}
-use Rattle.node_rules.specs.EndpointRules.{OtherCall, RecordsEvent, timed, transition}
+use Rattle.node_rules.specs.EndpointRules.{OtherCall, RecordsEvent, timed_event, transition}
 use Rattle.sim_world.specs.WorldTold.{world_told}
 use Rattle.sim_world.specs.Events.{ForItsRecords, StepsInWorld, job_in}
 use Rattle.sim_world.specs.WorldState.{WorldState}
@@ -32,7 +32,7 @@ use Rattle.text_steps.specs.declared.steps.ScheduledEvent.TheVariants as schedul
 use Rattle.text_steps.specs.declared.steps.TimedEvent.{TimedEvent}
 use Rattle.sim_run.specs.RunText.{node_of_event, world_words, event_words, words_at, line_words, answer_lines}
 use Rattle.sim_run.specs.ScheduleRun.{StandsAfter, RunStage, Plan, begin_plan, event_plan, settle_plan}
-use Rattle.sim_run.specs.ScheduleRun.{planned, RunsPlan, RunsLine, NodesStage, CollectiveAsked, Collects, is_lacking}
+use Rattle.sim_run.specs.ScheduleRun.{planned_line, RunsPlan, RunsLine, NodesStage, CollectiveAsked, Collects, is_lacking}
 use Rattle.sim_run.specs.ScheduleRun.{WritesText, answer_text}
 use Rattle.sim_run.specs.LinesWritten.{LinesUpTo, SaysLines, said_of}
 use Rattle.sim_run.specs.declared.said.Said.{Said}
@@ -66,7 +66,7 @@ plan_runs job plan number line old new said same is ran = λ area group most sta
     let nodes : Nodes = record { area = area; group = group } in
     let it = is area group most stands in
     let said_so = ran group.records most stands.world in
-    let says : planned job plan group.records ≡ decimal number ∷ line_words job nodes line =
+    let says : planned_line job plan group.records ≡ decimal number ∷ line_words job nodes line =
     ap (λ (n : ℕ). decimal n ∷ plan.words job group.records) it.number_is
     ∙ ap (λ (words : Line). decimal number ∷ words) it.words
     in
@@ -75,7 +75,7 @@ plan_runs job plan number line old new said same is ran = λ area group most sta
       on_done_more said (λ after.
           subst (λ (left : Group). StandsFor new.nodes area left (most_after job events group.records most)) (sym it.left)
           (record {
-            world = subst (λ (made : List (Timed OtherCall)). StandsAfter job new.nodes.world made group.records most)
+            world = subst (λ (made : List (EventAt OtherCall)). StandsAfter job new.nodes.world made group.records most)
                 it.events after;
             nodes = subst (AreAsFar area group.progress) (sym same) stands.nodes;
           })) said_so.1,
@@ -84,14 +84,14 @@ plan_runs job plan number line old new said same is ran = λ area group most sta
 -- the plan of a line that has one event is that of the event
 pub event_is_line : (job : WorldJob) (number now : ℕ) (event : RecordsEvent) (line : TimedEvent) (nodes : Nodes)
     → (now ≡ line.time) × (scheduled_event nodes.group.records line.event ≡ Some event)
-    → IsLinePlan job (event_plan number (timed now event)) number line nodes
+    → IsLinePlan job (event_plan number (timed_event now event)) number line nodes
 event_is_line job number now event line nodes h = record {
   number_is = refl;
   words =
-      ap (λ t. event_words job nodes.group.records (timed t event)) h.0
+      ap (λ t. event_words job nodes.group.records (timed_event t event)) h.0
       ∙ sym (one_answer job nodes line.time line.event event h.1);
   events =
-      ap (λ t. timed t event ∷ []) h.0
+      ap (λ t. timed_event t event ∷ []) h.0
       ∙ sym (one_event job nodes line.time line.event event h.1);
   left = one_left job nodes line.time line.event event h.1;
 }
@@ -135,7 +135,7 @@ settle_is_line job number now rounds line nodes h = record {
 -- ---- one line
 
 -- an event was run and its line was written
-told : (meaning : Meaning) (old new : RunStage) (number : ℕ) (event : Timed OtherCall) (answer : WorldAnswer)
+told : (meaning : Meaning) (old new : RunStage) (number : ℕ) (event : EventAt OtherCall) (answer : WorldAnswer)
     (wrote : Wrote)
     → ForItsRecords old.world (λ records most.
     (answer ≡ world_told (world_answer (job_in meaning old.world) records event))
@@ -161,11 +161,11 @@ pub event_told : (meaning : Meaning) (old new : RunStage) (number now : ℕ) (ev
     (wrote : Wrote)
     → (answer ≡ answers.NoMemory → ⊥) → StepsInWorld meaning old.world (transition now event answer) new.world
     → WritesText new.world (answer_text old.world.settings number (node_of_event event) answer) old.out new.out wrote
-    → RunsPlan (job_in meaning old.world) (event_plan number (timed now event)) old new (said_of wrote)
+    → RunsPlan (job_in meaning old.world) (event_plan number (timed_event now event)) old new (said_of wrote)
 event_told meaning old new number now event (answers.Node answer) wrote n steps writes =
-    told meaning old new number (timed now event) (answers.Node answer) wrote steps writes
+    told meaning old new number (timed_event now event) (answers.Node answer) wrote steps writes
 event_told meaning old new number now event answers.Unsent wrote n steps writes =
-    told meaning old new number (timed now event) answers.Unsent wrote steps writes
+    told meaning old new number (timed_event now event) answers.Unsent wrote steps writes
 event_told meaning old new number now event answers.NoMemory wrote n steps writes = absurd (n refl)
 
 -- the pieces of a plan were begun, and the line of the answer was written

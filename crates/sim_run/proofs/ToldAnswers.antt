@@ -9,7 +9,7 @@ use Rattle.wire_message.specs.Parameters.{Parameters, AreInRange}
 use Rattle.part_handlers.specs.declared.table.Entry.{Entry}
 use Rattle.part_handlers.specs.Runs.{Meaning}
 use Rattle.base_lists.proofs.Put.{put_same}
-use Rattle.base_lists.specs.Numbered.{numbered}
+use Rattle.base_lists.specs.Numbered.{element_at}
 use Rattle.spec_node.specs.declared.answer.Asked.{Asked}
 use Rattle.spec_node.specs.declared.answer.Asked.TheVariants as asked
 use Rattle.spec_node.specs.declared.answer.SlotRef.{SlotRef}
@@ -25,14 +25,14 @@ use Rattle.spec_node.specs.Step.{request_slot, tick_answer}
 use Rattle.spec_node.specs.Under.{under}
 use Rattle.node_core.specs.ClientRules.{rules}
 use Rattle.node_core.specs.Kept.{IsKept, Local, segment_of}
-use Rattle.node_core.specs.Library.{note_handler}
+use Rattle.node_core.specs.Library.{notification_handler}
 use Rattle.spec_network.specs.World.{Asks, Does, RequestComes, ReplyComes, Ticks, IsAmong, world_after, world_answer}
 use Rattle.spec_network.specs.World.{answer_at, reply_event, request_event}
 use Rattle.node_rules.specs.PlainAnswers.{is_plain_answer}
 use Rattle.node_rules.proofs.PlainAnswers.{answers_plain}
 use Rattle.node_rules.specs.EndpointLocal.{EndpointLocal, IsEndpointKept, core_of}
 use Rattle.node_rules.specs.EndpointRules.{OtherCall, OnCore, Records, RecordsEvent}
-use Rattle.node_rules.specs.EndpointRules.{asked_answer, does_call, next_sending, sent_as, timed, transition}
+use Rattle.node_rules.specs.EndpointRules.{asked_answer, does_call, next_sending, sent_as, timed_event, transition}
 use Rattle.node_rules.specs.CoreCalls.{OnSegment}
 use Rattle.node_rules.specs.TransferCalls.{Caller}
 use Rattle.node_rules.proofs.Works.{sending_well}
@@ -50,7 +50,7 @@ use Rattle.sim_world.specs.declared.event.WorldAnswer.TheVariants as world_answe
 use Rattle.text_script.specs.AnswersTold.{HasNumber, HasRange, NamesItsBytes, NamesWhatIs}
 use Rattle.text_script.proofs.SentNumbers.{first_sent_there, resent_there}
 use Rattle.sim_run.specs.RunText.{node_of_event}
-use Rattle.sim_run.specs.ScheduleRun.{Stood, TellsWhatIs}
+use Rattle.sim_run.specs.ScheduleRun.{WorldRecords, TellsWhatIs}
 use Rattle.node_rules.proofs.CoreKept.{segment_long}
 
 -- ---- no other event is answered as a tick
@@ -121,13 +121,13 @@ reply_names endpoint meaning old records now from to (Some run) answer same =
 
 -- ---- a tick
 
--- a note, or a chunk, of the slot that has it
+-- a notification, or a chunk, of the slot that has it
 sent_names : (endpoint : EndpointState) (content : Content) (at : SlotRef) → HasNumber endpoint at
     → NamesWhatIs endpoint (answers.Ticked (sent_as content at))
-sent_names endpoint content at has = by_test (content.handler == note_handler)
+sent_names endpoint content at has = by_test (content.handler == notification_handler)
   where
     by_test : (test : Bool)
-        → NamesWhatIs endpoint (answers.Ticked (if test then ticked.Note at else ticked.Chunk at))
+        → NamesWhatIs endpoint (answers.Ticked (if test then ticked.Notification at else ticked.Chunk at))
     by_test true = has
     by_test false = has
 
@@ -205,9 +205,9 @@ range_there settings me kept endpoint after holds stands same = λ offset len in
 event_names : (meaning : Meaning) (old : WorldState) (records : Records) (most : ℕ → ℕ) (now : ℕ)
     (event : RecordsEvent) (endpoint : EndpointState) (answer : Answer) → WorldStands old records most
     → IsAmong old.settings event
-    → EndpointStands endpoint (world_after (job_in meaning old) records (timed now event) (node_of_event event))
+    → EndpointStands endpoint (world_after (job_in meaning old) records (timed_event now event) (node_of_event event))
     → endpoint.core.settings ≡ old.settings → endpoint.core.me ≡ node_of_event event
-    → world_answers.Node answer ≡ world_told (world_answer (job_in meaning old) records (timed now event))
+    → world_answers.Node answer ≡ world_told (world_answer (job_in meaning old) records (timed_event now event))
     → NamesWhatIs endpoint answer
 event_names meaning old records most now (Asks node ask) endpoint answer stood among stands settings me same =
     told_names endpoint answer _ same (asked_names endpoint _)
@@ -224,7 +224,7 @@ event_names meaning old records most now (Does node thread call) endpoint answer
     (node_holds old records most node stood among).core.kept stands settings))
 event_names meaning old records most now (RequestComes from to number) endpoint answer stood among stands settings me
     same =
-    request_names endpoint meaning old records now from to number (numbered ((records from).asked to) number) answer
+    request_names endpoint meaning old records now from to number (element_at ((records from).asked to) number) answer
     same
 event_names meaning old records most now (ReplyComes from to number) endpoint answer stood among stands settings me
     same =
@@ -238,12 +238,12 @@ event_names meaning old records most now (Ticks node) endpoint answer stood amon
 
 -- an answer of a world that stood
 pub step_names : (meaning : Meaning) (old new : WorldState) (now : ℕ) (event : RecordsEvent) (answer : WorldAnswer)
-    → Stood old → IsAmong old.settings event → new.settings ≡ old.settings
+    → WorldRecords old → IsAmong old.settings event → new.settings ≡ old.settings
     → StepsInWorld meaning old (transition now event answer) new → TellsWhatIs new (node_of_event event) answer
 step_names meaning old new now event (world_answers.Node answer) stood among same steps = λ endpoint is stands.
     let it = steps stood.records stood.most stood.stands in
     event_names meaning old stood.records stood.most now event endpoint answer stood.stands among
-    (stands (world_after (job_in meaning old) stood.records (timed now event)) _ it.1)
+    (stands (world_after (job_in meaning old) stood.records (timed_event now event)) _ it.1)
     (is.settings_are ∙ same) is.me_is it.0
 step_names meaning old new now event world_answers.Unsent stood among same steps = tt
 step_names meaning old new now event world_answers.NoMemory stood among same steps = tt

@@ -1,6 +1,6 @@
 -- How far the lines of a command went into its sink.
 use Rattle.std.specs.Prelude.{◌≡◌, List, ◌++◌, ⊤}
-use Rattle.base_io.specs.Buffered.{Outbox, Gathers, GathersFront}
+use Rattle.base_io.specs.Buffered.{Outbox, Gathers, GathersPrefix}
 use Rattle.base_io.specs.declared.writing.Wrote.{Wrote}
 use Rattle.base_io.specs.declared.writing.Wrote.TheVariants as wrote
 use Rattle.base_text.specs.LineTexts.{Line, spell}
@@ -9,14 +9,14 @@ use Rattle.sim_run.specs.declared.said.Said.TheVariants.{Done, Fault, NoMemory}
 
 -- whole lines went in, up to these that are left
 pub record LinesUpTo (old new : Outbox) (lines rest : List Line) : Type 0 where
-  pub front : List Line
-  pub whole : lines ≡ front ++ rest
-  pub gathered : Gathers old new (spell front)
+  pub prefix : List Line
+  pub whole : lines ≡ prefix ++ rest
+  pub gathered : Gathers old new (spell prefix)
 
--- all the lines; at a fault of the sink, a front of their text; where memory ran out, some whole lines
+-- all the lines; at a fault of the sink, a prefix of their text; where memory ran out, some whole lines
 abbrev pub SaysLines : Outbox → Outbox → List Line → Said → Type 0
 SaysLines old new lines Done = Gathers old new (spell lines)
-SaysLines old new lines Fault = GathersFront old new (spell lines)
+SaysLines old new lines Fault = GathersPrefix old new (spell lines)
 SaysLines old new lines NoMemory = (rest : List Line) × LinesUpTo old new lines rest
 
 -- a fact where all was said

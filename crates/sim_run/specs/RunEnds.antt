@@ -1,6 +1,6 @@
 -- How the run of a job ends.
 use Rattle.std.specs.Prelude.{◌≡◌, List, Bool}
-use Rattle.base_io.specs.Buffered.{Outbox, Gathers, GathersFront}
+use Rattle.base_io.specs.Buffered.{Outbox, Gathers, GathersPrefix}
 use Rattle.sim_world.specs.WorldState.{WorldState}
 use Rattle.base_text.specs.LineTexts.{Line, spell}
 use Rattle.text_job.specs.declared.job.Job.{Job as JobState}
@@ -17,11 +17,11 @@ pub record RunIsOver (job : JobState) (said : List Line) (old new : Outbox) (vio
   pub violated_is : violated ≡ is_violated job
   pub stands : StandsForRun job world
 
--- how far these lines of the job's run went in: all; at a fault of the sink, a front of their text; where memory ran
+-- how far these lines of the job's run went in: all; at a fault of the sink, a prefix of their text; where memory ran
 -- out, some whole lines
 abbrev pub EndsSaying : JobState → (said : List Line) → (old new : Outbox) → RunEnd → Type 0
 EndsSaying job said old new (Done violated world) = RunIsOver job said old new violated world
-EndsSaying job said old new Fault = GathersFront old new (spell said)
+EndsSaying job said old new Fault = GathersPrefix old new (spell said)
 EndsSaying job said old new NoMemory = (rest : List Line) × LinesUpTo old new said rest
 
 -- so for all lines of the run

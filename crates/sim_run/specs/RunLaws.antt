@@ -4,9 +4,9 @@ use Rattle.std.specs.Prelude.{true, is_some, map, ◌++◌}
 use Rattle.law_collectives.specs.CollectiveLaws.{EndsOk, Try}
 use Rattle.law_collectives.specs.Groups.{AreGroupEvents, GroupEvent, Other, opening_group}
 use Rattle.node_rules.specs.EndpointLocal.{nothing_begun}
-use Rattle.node_rules.specs.EndpointRules.{OtherCall, Records, RecordsEvent, at_the_opening, timed}
+use Rattle.node_rules.specs.EndpointRules.{OtherCall, Records, RecordsEvent, at_the_opening, timed_event}
 use Rattle.std.specs.List.{AllByRecursion}
-use Rattle.spec_network.specs.World.{Timed, IsAmong}
+use Rattle.spec_network.specs.World.{EventAt, IsAmong}
 use Rattle.sim_world.specs.Settling.{WorldJob}
 use Rattle.spec_network.specs.Headline.{Headline, IsGreatest, after_first}
 use Rattle.law_transfers.specs.TransferLaws.{TransfersHold}
@@ -16,7 +16,7 @@ use Rattle.law_vis.specs.StridedLaws.{StridedHolds}
 use Rattle.text_job.specs.declared.job.Job.{Job as JobState}
 use Rattle.text_script.specs.Bodies.{script_meaning}
 use Rattle.base_text.specs.LineTexts.{Line}
-use Rattle.text_script.specs.Registration.{handlers_of, registered}
+use Rattle.text_script.specs.Registration.{handlers_of, registry_of}
 use Rattle.sim_run.specs.Schedules.{Nodes, collective_event, line_events, nodes_after, opening_nodes, scheduled_event}
 use Rattle.sim_run.specs.Schedules.{world_job}
 use Rattle.text_job.specs.JobReading.{lines_of}
@@ -50,9 +50,9 @@ pub record IsToldAt (job : JobState) (line : ℕ) (entry : TimedEvent) : Type 0 
   pub place_is : place ≡ event_place job line
   pub event : RecordsEvent
   pub is : scheduled_event (records_at job place) entry.event ≡ Some event
-  pub at : slice_get (run_events job) place ≡ Some (timed entry.time event)
+  pub at : slice_get (run_events job) place ≡ Some (timed_event entry.time event)
   pub told : slice_get (run_lines job) line
-      ≡ Some (decimal (line + 1) ∷ event_words (world_job job) (records_at job place) (timed entry.time event))
+      ≡ Some (decimal (line + 1) ∷ event_words (world_job job) (records_at job place) (timed_event entry.time event))
 
 -- the line is one event, and not rounds of them, nor the calls that begin a transfer of many pieces or that a call of a
 -- collective makes
@@ -148,7 +148,7 @@ ResultsHold j =
 -- the nodes' notifies, where the job has atomics, batches of operations act at one moment, in one history, and where it
 -- has collectives, a line that is told that it ended one tells that the node has its result
 pub record RunLaws (job : JobState) : Type 0 where
-  pub among : AllByRecursion (λ (timed : Timed OtherCall). IsAmong job.settings timed.event) (run_events job)
+  pub among : AllByRecursion (λ (timed : EventAt OtherCall). IsAmong job.settings timed_event.event) (run_events job)
   pub headline : Headline (world_job job) (λ node. nothing_begun job.settings) (run_events job)
   pub told : LinesTell job
   pub rise : PlacesRise job
@@ -156,9 +156,9 @@ pub record RunLaws (job : JobState) : Type 0 where
   pub returned : ReturnedToldOnce job
   pub most : (node : ℕ)
       → IsGreatest (world_job job) (run_events job) (at_the_opening job.settings) node (run_most job node)
-  pub transfers : TransfersHold job.settings (registered (handlers_of job)).table (script_meaning (handlers_of job))
-  pub plans : StridedHolds job.settings (registered (handlers_of job)).table (script_meaning (handlers_of job))
-  pub barrier : BarrierHolds job.settings (registered (handlers_of job)).table (script_meaning (handlers_of job))
+  pub transfers : TransfersHold job.settings (registry_of (handlers_of job)).table (script_meaning (handlers_of job))
+  pub plans : StridedHolds job.settings (registry_of (handlers_of job)).table (script_meaning (handlers_of job))
+  pub barrier : BarrierHolds job.settings (registry_of (handlers_of job)).table (script_meaning (handlers_of job))
   pub atomics : job.atomics ≡ true
-      → AtomicsHold job.settings (registered (handlers_of job)).table (script_meaning (handlers_of job))
+      → AtomicsHold job.settings (registry_of (handlers_of job)).table (script_meaning (handlers_of job))
   pub collectives : is_some job.collect ≡ true → ResultsHold job

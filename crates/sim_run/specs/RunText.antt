@@ -9,11 +9,12 @@ use Rattle.part_handlers.specs.declared.rules.Fault.{Fault}
 use Rattle.part_handlers.specs.declared.rules.Fault.TheVariants as fault
 use Rattle.part_handlers.specs.declared.rules.Violation.{Violation}
 use Rattle.spec_node.specs.Record.{Node}
-use Rattle.spec_node.specs.Held.{held}
+use Rattle.spec_node.specs.Held.{held_buffers}
 use Rattle.node_rules.specs.EndpointLocal.{EndpointLocal}
-use Rattle.spec_network.specs.World.{Asks, Does, RequestComes, ReplyComes, Ticks, Timed, world_answer, world_after, run}
+use Rattle.spec_network.specs.World.{Asks, Does, RequestComes, ReplyComes, Ticks, EventAt, world_answer, world_after}
+use Rattle.spec_network.specs.World.{run}
 use Rattle.spec_network.specs.MostHeld.{most_after}
-use Rattle.node_rules.specs.EndpointRules.{OtherCall, Records, RecordsEvent, at_the_opening, timed}
+use Rattle.node_rules.specs.EndpointRules.{OtherCall, Records, RecordsEvent, at_the_opening, timed_event}
 use Rattle.sim_world.specs.WorldTold.{world_told}
 use Rattle.sim_world.specs.declared.event.WorldAnswer.{WorldAnswer}
 use Rattle.sim_world.specs.declared.event.WorldAnswer.TheVariants as answers
@@ -48,7 +49,7 @@ world_words sight answers.Unsent = codes "unsent" ∷ []
 world_words sight answers.NoMemory = codes "no-memory" ∷ []
 
 -- the words of the answer to an event
-abbrev pub event_words : WorldJob → Records → Timed OtherCall → Line
+abbrev pub event_words : WorldJob → Records → EventAt OtherCall → Line
 event_words job records event =
     let node = node_of_event event.event in
     world_words (sight_of job.settings node (world_after job records event node))
@@ -57,7 +58,7 @@ event_words job records event =
 -- the words of the answer to a line of a schedule, by its one event; a line of rounds has none
 abbrev pub words_by : WorldJob → Records → (now : ℕ) → Option RecordsEvent → Line
 words_by job records now None = codes "settled" ∷ []
-words_by job records now (Some event) = event_words job records (timed now event)
+words_by job records now (Some event) = event_words job records (timed_event now event)
 
 -- the words of the answer to what a line asks for at a time
 abbrev pub words_at : WorldJob → Nodes → (now : ℕ) → ScheduledEvent → Line
@@ -108,13 +109,14 @@ violation_line node violation =
 -- the line of a node: what it holds, the most that it held, and how many violations it noted
 abbrev pub node_line : (node now most violations : ℕ) → Line
 node_line node now most violations =
-    codes "node" ∷ decimal node ∷ codes "held" ∷ decimal now ∷ codes "most" ∷ decimal most
+    codes "node" ∷ decimal node ∷ codes "held_buffers" ∷ decimal now ∷ codes "most" ∷ decimal most
     ∷ codes "violations" ∷ decimal violations ∷ []
 
 -- the lines of a node with this record, which held at most so much: its own, and those of its last violations
 abbrev pub lines_of_node : Parameters → (node most : ℕ) → Node EndpointLocal → List Line
 lines_of_node settings node most kept =
-    node_line node (held settings node kept) most (violations kept) ∷ map (violation_line node) (last_violations kept)
+    node_line node (held_buffers settings node kept) most (violations kept)
+    ∷ map (violation_line node) (last_violations kept)
 
 -- the lines of the nodes from this one on, of which there are so many
 abbrev pub node_lines : Parameters → Records → (ℕ → ℕ) → ℕ → ℕ → List Line
@@ -134,7 +136,7 @@ abbrev pub end_lines : Parameters → Records → (ℕ → ℕ) → List Line
 end_lines settings records most = node_lines settings records most 0 settings.nodes
 
 -- the events of a job's run
-abbrev pub run_events : JobState → List (Timed OtherCall)
+abbrev pub run_events : JobState → List (EventAt OtherCall)
 run_events job = schedule_events (world_job job) (lines_of job.schedule) (opening_nodes job)
 
 -- the records at the end of a job's run

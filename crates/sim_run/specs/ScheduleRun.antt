@@ -3,7 +3,7 @@ use Rattle.std.specs.Prelude.{◌≡◌, ℕ, Bool, true, false, List, [], ◌�
 use Rattle.wire_message.specs.Parameters.{Parameters}
 use Rattle.base_io.specs.Buffered.{Gathering, Outbox, outbox, GathersAll}
 use Rattle.base_io.specs.declared.writing.Wrote.{Wrote}
-use Rattle.spec_network.specs.World.{Timed, run}
+use Rattle.spec_network.specs.World.{EventAt, run}
 use Rattle.spec_network.specs.MostHeld.{most_after}
 use Rattle.node_rules.specs.EndpointRules.{OtherCall, Records}
 use Rattle.sim_world.specs.Events.{ForItsRecords, job_in}
@@ -18,7 +18,7 @@ use Rattle.text_script.specs.AnswersTold.{NamesWhatIs}
 use Rattle.text_script.specs.Bodies.{script_meaning}
 use Rattle.base_text.specs.LineTexts.{Line, line_text, spell}
 use Rattle.text_job.specs.declared.job.Job.{Job as JobState}
-use Rattle.text_script.specs.Registration.{handlers_of, registered}
+use Rattle.text_script.specs.Registration.{handlers_of, registry_of}
 use Rattle.sim_world.specs.Settling.{WorldJob, settle_events}
 use Rattle.node_vis.specs.Beginning.{BeginCall}
 use Rattle.sim_group.specs.GroupState.{GroupState, IsGroup, group_in}
@@ -41,13 +41,13 @@ use Rattle.sim_run.specs.declared.said.Said.{Said}
 -- ---- a world that stands
 
 -- the world stands for some records
-pub record Stood (world : WorldState) : Type 0 where
+pub record WorldRecords (world : WorldState) : Type 0 where
   pub records : Records
   pub most : ℕ → ℕ
   pub stands : WorldStands world records most
 
 -- the world stands for what these events leave of the records
-abbrev pub StandsAfter : WorldJob → WorldState → List (Timed OtherCall) → Records → (ℕ → ℕ) → Type 0
+abbrev pub StandsAfter : WorldJob → WorldState → List (EventAt OtherCall) → Records → (ℕ → ℕ) → Type 0
 StandsAfter job world events records most =
     WorldStands world (run job events records) (most_after job events records most)
 
@@ -71,10 +71,10 @@ run_stage taken faults world sink = record { world = world; out = outbox taken f
 pub record Plan : Type 0 where
   pub number : ℕ
   pub words : WorldJob → Records → Line
-  pub events : WorldJob → Records → List (Timed OtherCall)
+  pub events : WorldJob → Records → List (EventAt OtherCall)
 
 -- that of one event
-abbrev pub event_plan : (number : ℕ) → Timed OtherCall → Plan
+abbrev pub event_plan : (number : ℕ) → EventAt OtherCall → Plan
 event_plan number event =
     record {
       number = number;
@@ -101,15 +101,15 @@ settle_plan number now rounds =
     }
 
 -- the line that is planned, from these records
-abbrev pub planned : WorldJob → Plan → Records → Line
-planned job plan records = decimal plan.number ∷ plan.words job records
+abbrev pub planned_line : WorldJob → Plan → Records → Line
+planned_line job plan records = decimal plan.number ∷ plan.words job records
 
 -- of all records for which the world stood: the line that is planned was said, and where it was, the world stands for
 -- the records after the events
 abbrev pub RunsPlan : WorldJob → Plan → (old new : RunStage) → Said → Type 0
 RunsPlan job plan old new said =
     ForItsRecords old.world (λ records most.
-    SaysLines old.out new.out (planned job plan records ∷ []) said
+    SaysLines old.out new.out (planned_line job plan records ∷ []) said
     × OnDone said (StandsAfter job new.world (plan.events job records) records most))
 
 -- by what the nodes of the world do with the handlers of this job
@@ -223,5 +223,5 @@ TellsViolation world violated =
 -- the world stands for the end of the job's run
 pub record StandsForRun (job : JobState) (world : WorldState) : Type 0 where
   pub settings : world.settings ≡ job.settings
-  pub table : world.table ≡ (registered (handlers_of job)).table
+  pub table : world.table ≡ (registry_of (handlers_of job)).table
   pub stands : WorldStands world (run_records job) (run_most job)

@@ -1,7 +1,7 @@
 -- What the lines of a schedule stand for.
 use Rattle.std.specs.Prelude.{ℕ, List, [], ◌∷◌, ◌++◌, map, Option, Some, None}
-use Rattle.spec_network.specs.World.{RequestComes, ReplyComes, Ticks, Timed, run}
-use Rattle.node_rules.specs.EndpointRules.{OtherCall, Records, RecordsEvent, timed, job_of}
+use Rattle.spec_network.specs.World.{RequestComes, ReplyComes, Ticks, EventAt, run}
+use Rattle.node_rules.specs.EndpointRules.{OtherCall, Records, RecordsEvent, timed_event, job_of}
 use Rattle.part_collective_area.specs.Area.{Area}
 use Rattle.law_collectives.specs.Groups.{Group, GroupEvent, Start, Step, End, does_end, does_start, does_step}
 use Rattle.law_collectives.specs.Groups.{group_does}
@@ -19,7 +19,7 @@ use Rattle.text_steps.specs.declared.steps.CollectiveText.TheVariants as text
 use Rattle.text_job.specs.declared.job.Job.{Job as JobState}
 use Rattle.text_script.specs.declared.collective_texts.CollectiveAnswer.{CollectiveAnswer}
 use Rattle.text_script.specs.declared.collective_texts.CollectiveAnswer.TheVariants as answers
-use Rattle.text_script.specs.Registration.{handlers_of, registered}
+use Rattle.text_script.specs.Registration.{handlers_of, registry_of}
 use Rattle.text_script.specs.Bodies.{script_meaning}
 use Rattle.text_script.specs.ScheduledCalls.{meant_by}
 use Rattle.text_calls.specs.declared.scheduled.ScheduledCall.{ScheduledCall}
@@ -30,7 +30,7 @@ use Rattle.text_vis.specs.declared.vis.VisText.{VisText}
 
 -- a job's text, as a world of nodes runs it: its settings, and what its nodes do
 abbrev pub world_job : JobState → WorldJob
-world_job text = job_of text.settings (registered (handlers_of text)).table (script_meaning (handlers_of text))
+world_job text = job_of text.settings (registry_of (handlers_of text)).table (script_meaning (handlers_of text))
 
 -- ---- one event
 
@@ -52,11 +52,11 @@ begin_answer job world time node asked =
     vis_answer_by (record { job = job; node = node; now = time }) (world node) asked
 
 -- calls of a node's threads at one time, as events
-abbrev pub call_events : (time node : ℕ) → List ThreadCall → List (Timed OtherCall)
-call_events time node calls = map (λ (one : ThreadCall). timed time (event_at node one.thread one.call)) calls
+abbrev pub call_events : (time node : ℕ) → List ThreadCall → List (EventAt OtherCall)
+call_events time node calls = map (λ (one : ThreadCall). timed_event time (event_at node one.thread one.call)) calls
 
 -- the calls that are made of it, by that answer
-abbrev pub begin_events : WorldJob → Records → (time node : ℕ) → BeginCall → List (Timed OtherCall)
+abbrev pub begin_events : WorldJob → Records → (time node : ℕ) → BeginCall → List (EventAt OtherCall)
 begin_events job world time node asked =
     call_events time node (calls_made asked (begin_answer job world time node asked))
 
@@ -110,12 +110,12 @@ scheduled_event world (scheduled.Collective node thread call) = None
 scheduled_event world (scheduled.Settle rounds) = None
 
 -- the events of a line, where the nodes are so
-abbrev pub line_events : WorldJob → Nodes → (time : ℕ) → ScheduledEvent → List (Timed OtherCall)
+abbrev pub line_events : WorldJob → Nodes → (time : ℕ) → ScheduledEvent → List (EventAt OtherCall)
 line_events job nodes time (scheduled.Call node thread call) =
-    timed time (call_event nodes.group.records node thread call) ∷ []
-line_events job nodes time (scheduled.Request from to number) = timed time (RequestComes from to number) ∷ []
-line_events job nodes time (scheduled.Reply from to number) = timed time (ReplyComes from to number) ∷ []
-line_events job nodes time (scheduled.Tick node) = timed time (Ticks node) ∷ []
+    timed_event time (call_event nodes.group.records node thread call) ∷ []
+line_events job nodes time (scheduled.Request from to number) = timed_event time (RequestComes from to number) ∷ []
+line_events job nodes time (scheduled.Reply from to number) = timed_event time (ReplyComes from to number) ∷ []
+line_events job nodes time (scheduled.Tick node) = timed_event time (Ticks node) ∷ []
 line_events job nodes time (scheduled.Vis node thread vis) =
     begin_events job nodes.group.records time node (begin_asked thread vis)
 line_events job nodes time (scheduled.Collective node thread call) =
@@ -139,7 +139,7 @@ nodes_behind job [] nodes = nodes
 nodes_behind job (line ∷ lines) nodes = nodes_behind job lines (nodes_after job nodes line)
 
 -- the events of all lines of a schedule, in order
-abbrev pub schedule_events : WorldJob → List TimedEvent → Nodes → List (Timed OtherCall)
+abbrev pub schedule_events : WorldJob → List TimedEvent → Nodes → List (EventAt OtherCall)
 schedule_events job [] nodes = []
 schedule_events job (line ∷ lines) nodes =
     line_events job nodes line.time line.event ++ schedule_events job lines (nodes_after job nodes line)

@@ -11,7 +11,7 @@
 //!   group of `law_collectives`. A call of a line is an event of the group, answered as the group answers [`collects`:
 //!   `Collects`].
 //! - **How a run ends** [`run`: `RunEnds`]: all its lines went into the sink, and the world that it gives stands for
-//!   the end of the run; or the sink failed, and a front of their text went in; or memory ran out, and whole lines of
+//!   the end of the run; or the sink failed, and a prefix of their text went in; or memory ran out, and whole lines of
 //!   them did.
 //! - **The laws of the run** [`laws`: `RunLaws`] of any job, however far its run came, also between the events of
 //!   `settle`:

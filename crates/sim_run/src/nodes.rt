@@ -2,7 +2,7 @@
 
 ghost use Rattle.std.specs.Prelude.{◌≡◌, ◌<◌, IfOk, is_some, length, true};
 ghost use Rattle.sim_world.specs.Events.{job_in};
-ghost use Rattle.text_script.specs.Registration.{handlers_of, registered};
+ghost use Rattle.text_script.specs.Registration.{handlers_of, registry_of};
 ghost use Rattle.sim_group.specs.GroupState.{AreAt, IsGroup, group_in};
 ghost use Rattle.sim_group.specs.Opening.{AreIdle};
 ghost use Rattle.sim_group.specs.Standing.{StandsFor};
@@ -36,7 +36,7 @@ fn collectives_of(alloc: Global, script: &Script) -> Result<Vec<Collectives>, Al
 pub fn opening_nodes(alloc: Global, script: &Script) -> Result<WorldNodes, AllocError>
     ensures settings { IfOk result (λ it. it.world.settings ≡ script.now.settings) }
     ensures table { IfOk result
-        (λ it. it.world.table ≡ (registered (handlers_of script.now)).table) }
+        (λ it. it.world.table ≡ (registry_of (handlers_of script.now)).table) }
     ensures have { IfOk result (λ it. HaveCollectives script.now (group_in it)) }
     ensures stands { IfOk result (λ it. StandsFor (group_in it) (opening_nodes script.now).area
         (opening_nodes script.now).group (λ i. 0)) }

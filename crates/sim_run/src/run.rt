@@ -2,21 +2,21 @@
 
 ghost use Rattle.std.specs.Prelude.{◌≡◌, ◌<◌, ◌+◌, length, Some, slice_get};
 ghost use Rattle.base_io.specs.Buffered.{outbox};
-ghost use Rattle.node_rules.specs.EndpointRules.{timed};
+ghost use Rattle.node_rules.specs.EndpointRules.{timed_event};
 ghost use Rattle.sim_world.specs.Aims.{MayFall};
 ghost use Rattle.sim_world.specs.Events.{ForItsRecords, event_of, job_in};
 ghost use Rattle.sim_world.specs.Settling.{Moves};
 ghost use Rattle.spec_network.specs.World.{IsAmong};
 ghost use Rattle.text_script.specs.Bodies.{script_meaning};
 ghost use Rattle.text_job.specs.JobText.{IsJob};
-ghost use Rattle.text_script.specs.Registration.{handlers_of, registered};
+ghost use Rattle.text_script.specs.Registration.{handlers_of, registry_of};
 ghost use Rattle.text_job.specs.JobReading.{lines_of};
 ghost use Rattle.text_steps.specs.declared.steps.TimedEvent.{TimedEvent};
 ghost use Rattle.sim_run.specs.RunText.{node_of_event, run_lines};
 ghost use Rattle.text_script.specs.ScriptInvariant.{MayBegin};
 ghost use Rattle.sim_run.specs.Schedules.{begin_answer, begin_asked, begin_events, opening_nodes};
 ghost use Rattle.sim_run.specs.RunLaws.{RunLaws};
-ghost use Rattle.sim_run.specs.ScheduleRun.{Stood, run_stage, begin_plan, event_plan, settle_plan};
+ghost use Rattle.sim_run.specs.ScheduleRun.{WorldRecords, run_stage, begin_plan, event_plan, settle_plan};
 ghost use Rattle.sim_run.specs.ScheduleRun.{GroupStood, HaveCollectives, IsOfSameJob, IsOfSameNodes};
 ghost use Rattle.sim_run.specs.ScheduleRun.{RunsByScript, RunsLine, RunsLines, StandsForRun};
 ghost use Rattle.sim_run.specs.ScheduleRun.{is_lacking, nodes_stage};
@@ -71,11 +71,11 @@ fn run_event<K: Sink>(
 ) -> Said
     requires among { IsAmong world.old.settings (event_of event.now) }
     requires called { MayFall world.old.settings event.now }
-    requires stood { Stood world.old }
+    requires stood { WorldRecords world.old }
     ensures settings { world.new.settings ≡ world.old.settings }
     ensures table { world.new.table ≡ world.old.table }
     ensures runs { RunsByScript script.now
-        (event_plan at.number (timed at.now (event_of event.now)))
+        (event_plan at.number (timed_event at.now (event_of event.now)))
         (run_stage K.taken K.faults world.old sink.old)
         (run_stage K.taken K.faults world.new sink.new)
         result }
@@ -295,7 +295,7 @@ fn run_schedule<K: Sink>(
 fn run_in<K: Sink>(nodes: &mut WorldNodes, script: &Script, sink: &mut BufferedSink<K>) -> Said
     requires job { IsJob script.now }
     requires settings { nodes.old.world.settings ≡ script.now.settings }
-    requires table { nodes.old.world.table ≡ (registered (handlers_of script.now)).table }
+    requires table { nodes.old.world.table ≡ (registry_of (handlers_of script.now)).table }
     requires have { HaveCollectives script.now (group_in nodes.old) }
     requires stands { StandsFor (group_in nodes.old) (opening_nodes script.now).area
         (opening_nodes script.now).group (λ i. 0) }
@@ -319,7 +319,7 @@ pub enum RunEnd {
         /// The world after the run.
         world: World,
     },
-    /// The sink failed: a front of the text of its lines was written.
+    /// The sink failed: a prefix of the text of its lines was written.
     Fault,
     /// Memory ran out: whole lines of it were written, or none.
     NoMemory,

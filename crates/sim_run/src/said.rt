@@ -10,7 +10,7 @@ use base_io::Wrote;
 pub enum Said {
     /// All of them.
     Done,
-    /// A front of their text: the sink failed.
+    /// A prefix of their text: the sink failed.
     Fault,
     /// Whole lines of them: memory ran out.
     NoMemory,

@@ -10,7 +10,7 @@ use Rattle.base_lists.specs.Put.{put}
 use Rattle.part_handlers.specs.declared.rules.CallKind.TheVariants as call
 use Rattle.spec_node.specs.Record.{Request, Node}
 use Rattle.spec_node.specs.Behaviour.{Ask}
-use Rattle.spec_node.specs.Step.{request_answer, after_request, said, with_request, new_request, with_local, ran_here}
+use Rattle.spec_node.specs.Step.{request_answer, after_request, request_content, with_request, new_request, with_local, ran_here}
 use Rattle.spec_node.specs.Step.{with_itself}
 use Rattle.spec_node.specs.NodeStep.{site_of}
 use Rattle.spec_node.specs.declared.answer.Asked.{Asked}
@@ -62,8 +62,8 @@ with_request-respelled spell node now to slot content =
 -- a request of the node to itself
 ran_alike : (v : Versions) (me : ℕ) (node : Node EndpointLocal) (ask : Ask)
     → request_answer (site_of (one_job v) me) node ask ≡ asked.Ran
-    → ran_here v.other.messages me (said (site_of (other_job v) me) (respell_node v.spell node) ask) node.local
-    ≡ ran_here v.one.messages me (said (site_of (one_job v) me) node ask) node.local
+    → ran_here v.other.messages me (request_content (site_of (other_job v) me) (respell_node v.spell node) ask) node.local
+    ≡ ran_here v.one.messages me (request_content (site_of (one_job v) me) node ask) node.local
 ran_alike v me node ask e =
     let fine = here_says (site_of (one_job v) me) node ask e in
     let content = v.one.messages.says ask.what node.local in
@@ -72,7 +72,7 @@ ran_alike v me node ask e =
     let spelled = v.agree.said ask.what node.local fine in
     let runs : v.other.messages.run (with_itself me) (v.other.messages.says ask.what node.local) node.local ≡ out =
     ap (λ c. v.other.messages.run (with_itself me) c node.local) (says ∙ sym spelled)
-    ∙ v.agree.run (with_itself me) content node.local (v.agree.notes_said ask.what node.local fine)
+    ∙ v.agree.run (with_itself me) content node.local (v.agree.notifications_said ask.what node.local fine)
     (v.agree.asks ask.what node.local fine)
     in
     ap (λ (o : EndpointLocal × Content). v.other.messages.take (with_itself me) o.1 o.0) runs

@@ -3,14 +3,14 @@ use Rattle.std.proofs.Common.{◌≡◌, ℕ, Bool, true, false, List, [], ◌�
 use Rattle.std.specs.Prelude.{◌==◌, if◌then◌else◌}
 use Rattle.wire_message.specs.Content.{Content}
 use Rattle.part_segment.specs.Image.{written_by}
-use Rattle.part_handlers.specs.Runs.{Frame, Start, Outcome, untouched}
+use Rattle.part_handlers.specs.Runs.{Frame, Start, Outcome, nothing_done}
 use Rattle.node_atomics.specs.BatchRequests.{BatchRequest, batch_handler}
-use Rattle.node_atomics.specs.Served.{after_batch, after_request, request_for, served}
+use Rattle.node_atomics.specs.Served.{after_batch, after_request, request_for, outcome_of_batch}
 use Rattle.text_steps.specs.declared.steps.Action.{Action}
 use Rattle.text_steps.specs.declared.steps.Action.TheVariants as action
 use Rattle.text_script.specs.Bodies.{act, acts, is_for_batches, operand_at, reply_content, replying_if, script_meaning}
 use Rattle.text_script.specs.Bodies.{is_for_collectives, other_meaning, segment_at}
-use Rattle.part_collective_area.specs.Served.{stamped}
+use Rattle.part_collective_area.specs.Served.{outcome_of_piece}
 use Rattle.text_script.specs.Registration.{JobHandlers, body_for}
 use Rattle.sim_versions.specs.Respelled.{IgnoresVersion}
 
@@ -51,7 +51,7 @@ batch_alike version frame segment None outcome = refl
 batch_alike version frame segment (Some request) outcome = refl
 
 served_alike : (version : ℕ) (handler : ℕ) (frame : Frame) (start : Start) (outcome : Outcome)
-    → served handler (framed version frame) start outcome ≡ served handler frame start outcome
+    → outcome_of_batch handler (framed version frame) start outcome ≡ outcome_of_batch handler frame start outcome
 served_alike version handler frame start outcome = by_handler (handler == batch_handler)
   where
     by_handler : (requests : Bool)
@@ -67,19 +67,19 @@ other_ignores : (version : ℕ) (handlers : JobHandlers) (index : ℕ) (frame : 
 other_ignores version handlers index frame start = by_handler (is_for_collectives handlers index)
   where
     by_handler : (collective : Bool)
-        → (if collective then stamped (framed version frame) start (untouched start)
-        else acts (framed version frame) start (untouched start) (body_for handlers index))
-        ≡ (if collective then stamped frame start (untouched start)
-        else acts frame start (untouched start) (body_for handlers index))
+        → (if collective then outcome_of_piece (framed version frame) start (nothing_done start)
+        else acts (framed version frame) start (nothing_done start) (body_for handlers index))
+        ≡ (if collective then outcome_of_piece frame start (nothing_done start)
+        else acts frame start (nothing_done start) (body_for handlers index))
     by_handler true = refl
-    by_handler false = acts_alike version frame start (body_for handlers index) (untouched start)
+    by_handler false = acts_alike version frame start (body_for handlers index) (nothing_done start)
 
 pub script_ignores : (version : ℕ) (handlers : JobHandlers) → IgnoresVersion version (script_meaning handlers)
 script_ignores version handlers index frame start = by_handler (is_for_batches handlers index)
   where
     by_handler : (batches : Bool)
-        → (if batches then served index (framed version frame) start (untouched start)
+        → (if batches then outcome_of_batch index (framed version frame) start (nothing_done start)
         else other_meaning handlers index (framed version frame) start)
-        ≡ (if batches then served index frame start (untouched start) else other_meaning handlers index frame start)
-    by_handler true = served_alike version index frame start (untouched start)
+        ≡ (if batches then outcome_of_batch index frame start (nothing_done start) else other_meaning handlers index frame start)
+    by_handler true = served_alike version index frame start (nothing_done start)
     by_handler false = other_ignores version handlers index frame start

@@ -6,9 +6,9 @@ use Rattle.base_lists.specs.Put.{put}
 use Rattle.part_segment.specs.Bytes.{part}
 use Rattle.part_segment.specs.Image.{Write}
 use Rattle.wire_message.specs.Content.{Content}
-use Rattle.spec_network.specs.World.{Asks, Does, IsAmong, Timed, WorldAnswer, world_after, world_answer}
+use Rattle.spec_network.specs.World.{Asks, Does, IsAmong, EventAt, WorldAnswer, world_after, world_answer}
 use Rattle.node_rules.specs.CoreCalls.{Poll}
-use Rattle.node_rules.specs.EndpointRules.{OnCore, OtherCall, Records, timed}
+use Rattle.node_rules.specs.EndpointRules.{OnCore, OtherCall, Records, timed_event}
 use Rattle.node_rules.specs.declared.answer.Answer.{Answer}
 use Rattle.law_transfers.specs.Chunks.{segment_at}
 use Rattle.part_collective_area.specs.Area.{Area}
@@ -41,14 +41,14 @@ abbrev pub respell_nodes : (Content → Content) → Nodes → Nodes
 respell_nodes spell nodes = record { area = nodes.area; group = respell_group spell nodes.group }
 
 -- what an event of a group is, in both groups: its answer, what it leaves, and its calls
-pub record IsSame (Answer : Type 0) (v : Versions) (one other : Answer × Group) (calls others : List (Timed OtherCall))
+pub record IsSame (Answer : Type 0) (v : Versions) (one other : Answer × Group) (calls others : List (EventAt OtherCall))
     : Type 0 where
   pub answer : other.0 ≡ one.0
   pub left : other.1 ≡ respell_group v.spell one.1
   pub calls_are : others ≡ calls
 
 -- where both are the same
-same_both : {Answer : Type 0} (v : Versions) (one other : Answer × Group) (calls others : List (Timed OtherCall))
+same_both : {Answer : Type 0} (v : Versions) (one other : Answer × Group) (calls others : List (EventAt OtherCall))
     → other ≡ (one.0, respell_group v.spell one.1) → others ≡ calls → IsSame Answer v one other calls others
 same_both {Answer} v one other calls others same calls_are = record {
   answer = ap (λ (both : Answer × Group). both.0) same;
@@ -93,8 +93,8 @@ start_alike : (v : Versions) (area : Area) (group : Group) (now node thread : �
 start_alike v area group now node thread shape from stood =
     by_refusal (start_refusal area v.settings.segment (group.progress node) shape from)
   where
-    ask : Timed OtherCall
-    ask = timed now (Asks node (start_ask area node thread (group.progress node) shape from))
+    ask : EventAt OtherCall
+    ask = timed_event now (Asks node (start_ask area node thread (group.progress node) shape from))
 
     one : Option StartAnswer → StartAnswer × Group
     one refusal = elim refusal [
@@ -116,7 +116,7 @@ start_alike v area group now node thread shape from stood =
           ))
     ]
 
-    calls : Option StartAnswer → List (Timed OtherCall)
+    calls : Option StartAnswer → List (EventAt OtherCall)
     calls refusal = elim refusal [ Some first ↦ [] | None ↦ ask ∷ [] ]
 
     by_refusal : (refusal : Option StartAnswer)
@@ -151,8 +151,8 @@ steps_alike v sound area now node thread to zero low group stood = record { answ
 steps_alike v sound area now node thread to (suc many) low group stood =
     by_left (steps_alike v sound area now node thread (suc to) many low) (is_left node to (group.progress node))
   where
-    ask : Timed OtherCall
-    ask = timed now (Asks node (step_ask area node thread to (group.progress node)))
+    ask : EventAt OtherCall
+    ask = timed_event now (Asks node (step_ask area node thread to (group.progress node)))
 
     one_goes : Records → StepGoes → StepAnswer × Group
     one_goes records goes = elim goes [
@@ -168,14 +168,14 @@ steps_alike v sound area now node thread to (suc many) low group stood =
           now node thread (suc to) many
     ]
 
-    one_calls : Records → StepGoes → List (Timed OtherCall)
+    one_calls : Records → StepGoes → List (EventAt OtherCall)
     one_calls records goes = elim goes [
       | Stops answer progress ↦ []
       | GoesOn progress ↦ calls_from (one_job v) area (with_progress (record group { records = records }) node progress)
           now node thread (suc to) many
     ]
 
-    other_calls : Records → StepGoes → List (Timed OtherCall)
+    other_calls : Records → StepGoes → List (EventAt OtherCall)
     other_calls records goes = elim goes [
       | Stops answer progress ↦ []
       | GoesOn progress ↦ calls_from (other_job v) area (with_progress (record group { records = records }) node progress)
@@ -194,7 +194,7 @@ steps_alike v sound area now node thread to (suc many) low group stood =
         record {
           answer = it.answer;
           left = it.left;
-          calls_are = ap (λ (calls : List (Timed OtherCall)). ask ∷ calls) it.calls_are;
+          calls_are = ap (λ (calls : List (EventAt OtherCall)). ask ∷ calls) it.calls_are;
         }
 
     goes_by : WorldAnswer Answer → StepGoes
@@ -298,8 +298,8 @@ end_alike : (v : Versions) → AreSound v → (area : Area) (group : Group) (now
 end_alike v sound area group now node thread dest low stood =
     by_refusal (end_refusal area v.settings.segment node (group.progress node) dest)
   where
-    poll : Timed OtherCall
-    poll = timed now (Does node thread (OnCore Poll))
+    poll : EventAt OtherCall
+    poll = timed_event now (Does node thread (OnCore Poll))
 
     -- by what the poll was answered, and what it left
     one_by : WorldAnswer Answer → Records → EndAnswer × Group
@@ -314,12 +314,12 @@ end_alike v sound area group now node thread dest low stood =
           ended_group (other_job v) area (respell_group v.spell group) now node thread dest polled answer,
         )
 
-    one_calls : WorldAnswer Answer → List (Timed OtherCall)
+    one_calls : WorldAnswer Answer → List (EventAt OtherCall)
     one_calls told =
         poll ∷ calls_behind (one_job v) area group now node thread dest
         (end_by (one_job v) area group now node thread dest told)
 
-    other_calls : WorldAnswer Answer → List (Timed OtherCall)
+    other_calls : WorldAnswer Answer → List (EventAt OtherCall)
     other_calls told =
         poll ∷ calls_behind (other_job v) area (respell_group v.spell group) now node thread dest
         (end_by (one_job v) area group now node thread dest told)
@@ -355,7 +355,7 @@ end_alike v sound area group now node thread dest low stood =
         ∙ ap (λ (left : Group). (answer, left))
         (ended_alike v sound area group now node thread dest polled answer low next))
         (ap other_calls alike.answer
-        ∙ ap (λ (calls : List (Timed OtherCall)). poll ∷ calls)
+        ∙ ap (λ (calls : List (EventAt OtherCall)). poll ∷ calls)
         (behind_alike v area group now node thread dest answer))
 
 -- ---- a call of a line

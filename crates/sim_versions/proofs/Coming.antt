@@ -6,7 +6,7 @@ use Rattle.std.proofs.lemmas.Bool.{and_parts}
 use Rattle.std.proofs.lemmas.List.{map-append}
 use Rattle.wire_message.specs.Content.{Content, is_request}
 use Rattle.wire_message.specs.Message.{Message}
-use Rattle.base_lists.specs.Numbered.{numbered, change}
+use Rattle.base_lists.specs.Numbered.{element_at, change}
 use Rattle.base_lists.specs.Put.{put}
 use Rattle.spec_node.specs.Record.{Request, Run, Node}
 use Rattle.spec_node.specs.Requests.{is_open, as_back}
@@ -14,12 +14,12 @@ use Rattle.spec_node.specs.Executed.{greatest}
 use Rattle.spec_node.specs.Behaviour.{Contact, asks_well, replies_well}
 use Rattle.spec_node.specs.Invariant.{request_message, reply_message}
 use Rattle.spec_node.specs.Step.{Verdict, Duplicated, Passed, Runs, Missed, Returns, verdict, answer_by}
-use Rattle.spec_node.specs.Step.{after_delivery, first_why, unless_refused, unless_waiting, judged, address_fault}
+use Rattle.spec_node.specs.Step.{after_delivery, first_why, unless_refused, unless_waiting, verdict_of_number, address_fault}
 use Rattle.spec_node.specs.Step.{with_run, with_back, with_sender, reply_slot}
 use Rattle.spec_node.specs.NodeStep.{site_of}
 use Rattle.spec_node.specs.declared.answer.Why.{Why}
 use Rattle.node_rules.specs.EndpointLocal.{EndpointLocal}
-use Rattle.sim_versions.specs.Respelled.{IsNoteIfAny}
+use Rattle.sim_versions.specs.Respelled.{IsNotificationIfAny}
 use Rattle.sim_versions.specs.Respelled.{Versions, one_job, other_job, respell_node, respell_request, respell_run}
 use Rattle.sim_versions.proofs.Lists.{greatest-respelled, open_at-respelled, change-respelled}
 use Rattle.sim_versions.proofs.Asking.{put-map, same_credits}
@@ -77,7 +77,7 @@ one_verdict v me node from number request well =
     (none_is (v.one.messages.refuses request.content) parts.1) parts.0
 
 other_verdict : (v : Versions) (me : ℕ) (node : Node EndpointLocal) (from number : ℕ) (request : Request)
-    → IsNoteIfAny v.settings request.content → asks_well v.one.messages.refuses request.content ≡ true
+    → IsNotificationIfAny v.settings request.content → asks_well v.one.messages.refuses request.content ≡ true
     → verdict (site_of (other_job v) me) (respell_node v.spell node) (other_request v me from number request)
     ≡ request_verdict v me node from number request
 other_verdict v me node from number request noted well =
@@ -86,7 +86,7 @@ other_verdict v me node from number request noted well =
     let fault = address_fault (record v.settings { version = v.version }) me other in
     let last = greatest request.slot (map (respell_run v.spell) (node.ran from)) in
     let lock = v.other.messages.waits (v.spell request.content) node.local in
-    let spelled : unless_refused fault (judged number last lock) ≡ request_verdict v me node from number request =
+    let spelled : unless_refused fault (verdict_of_number number last lock) ≡ request_verdict v me node from number request =
     rw (v.agree.waits request.content node.local)
     (rw (greatest-respelled v.spell request.slot (node.ran from))
     (rw (why_request v me from number request) refl))
@@ -110,7 +110,7 @@ with_run-respelled spell node contact content out =
 
 -- what a verdict on a request leaves
 request_leaves : (v : Versions) (me : ℕ) (node : Node EndpointLocal) (from number : ℕ) (request : Request)
-    → IsNoteIfAny v.settings request.content → asks_well v.one.messages.refuses request.content ≡ true
+    → IsNotificationIfAny v.settings request.content → asks_well v.one.messages.refuses request.content ≡ true
     → (why : Option Why) (same less : Bool) (lock : Option ℕ)
     → after_delivery (site_of (other_job v) me) (respell_node v.spell node) (other_request v me from number request)
     (on_request why same less lock)
@@ -129,7 +129,7 @@ request_leaves v me node from number request noted well None false false None =
 
 -- how it is answered
 request_answers : (v : Versions) (me : ℕ) (from number : ℕ) (request : Request)
-    → IsNoteIfAny v.settings request.content
+    → IsNotificationIfAny v.settings request.content
     → (why : Option Why) (same less : Bool) (lock : Option ℕ)
     → answer_by v.other.messages (other_request v me from number request) (on_request why same less lock)
     ≡ answer_by v.one.messages (one_request v me from number request) (on_request why same less lock)
@@ -142,7 +142,7 @@ request_answers v me from number request noted None false false None =
 
 -- a request that comes is answered alike, and leaves the same
 pub request_comes : (v : Versions) (me : ℕ) (node : Node EndpointLocal) (from number : ℕ) (request : Request)
-    → IsNoteIfAny v.settings request.content → asks_well v.one.messages.refuses request.content ≡ true
+    → IsNotificationIfAny v.settings request.content → asks_well v.one.messages.refuses request.content ≡ true
     → (answer_by v.other.messages (other_request v me from number request)
     (verdict (site_of (other_job v) me) (respell_node v.spell node) (other_request v me from number request))
     ≡ answer_by v.one.messages (one_request v me from number request)
@@ -190,7 +190,7 @@ on_reply why open_ lock = unless_refused why (if open_ then unless_waiting lock 
 abbrev reply_verdict : Versions → (me : ℕ) → Node EndpointLocal → (to : ℕ) → Run → Verdict
 reply_verdict v me node to run =
     on_reply (address_fault v.settings me (one_reply v me to run))
-    (is_open run.slot (numbered (node.asked to) run.number)) (v.one.messages.waits run.reply node.local)
+    (is_open run.slot (element_at (node.asked to) run.number)) (v.one.messages.waits run.reply node.local)
 
 not_true : (b : Bool) → (if b then false else true) ≡ true → b ≡ false
 not_true true e = absurd (cc)
@@ -222,7 +222,7 @@ other_reply_verdict v me node to run well =
     and_parts (if is_request run.reply.kind then false else true) (is_none (v.one.messages.refuses run.reply)) well
     in
     let fault = address_fault (record v.settings { version = v.version }) me (other_reply v me to run) in
-    let open_ = is_open run.slot (numbered (map (respell_request v.spell) (node.asked to)) run.number) in
+    let open_ = is_open run.slot (element_at (map (respell_request v.spell) (node.asked to)) run.number) in
     let lock = v.other.messages.waits run.reply node.local in
     let spelled : on_reply fault open_ lock ≡ reply_verdict v me node to run =
     rw (v.agree.waits_reply run.reply node.local)
@@ -278,7 +278,7 @@ reply_comes v me node to run well =
     let one = one_reply_verdict v me node to run well in
     let other = other_reply_verdict v me node to run well in
     let why = address_fault v.settings me (one_reply v me to run) in
-    let open_ = is_open run.slot (numbered (node.asked to) run.number) in
+    let open_ = is_open run.slot (element_at (node.asked to) run.number) in
     let lock = v.one.messages.waits run.reply node.local in (
       ap (answer_by v.other.messages (other_reply v me to run)) other
           ∙ (reply_answers v me to run why open_ lock

@@ -6,8 +6,8 @@ use Rattle.std.proofs.Math.Path.{fun_ext}
 use Rattle.base_lists.specs.Sums.{sum_below}
 use Rattle.wire_message.specs.Parameters.{Parameters, credits_of}
 use Rattle.spec_node.specs.Record.{Node}
-use Rattle.spec_node.specs.Held.{held, held_with}
-use Rattle.spec_node.specs.SlotMessages.{number_in_slot, sealed_number, has_slot}
+use Rattle.spec_node.specs.Held.{held_buffers, held_with}
+use Rattle.spec_node.specs.SlotMessages.{number_in_slot, committed_number, has_slot}
 use Rattle.spec_node.specs.declared.answer.SlotRef.{SlotRef}
 use Rattle.spec_node.specs.declared.answer.Side.{Side}
 use Rattle.spec_node.specs.declared.answer.Side.TheVariants as side
@@ -15,7 +15,7 @@ use Rattle.node_rules.specs.EndpointLocal.{EndpointLocal}
 use Rattle.text_script.specs.AnswerWords.{Sight, sight_of}
 use Rattle.node_core.specs.Kept.{segment_of}
 use Rattle.sim_versions.specs.Respelled.{Versions, respell_node}
-use Rattle.sim_versions.proofs.Lists.{unreturned-respelled, slots_run-respelled, open_number-respelled}
+use Rattle.sim_versions.proofs.Lists.{outstanding-respelled, slots_run-respelled, open_number-respelled}
 use Rattle.sim_versions.proofs.Lists.{last_number-respelled}
 use Rattle.sim_versions.proofs.Asking.{same_credits}
 
@@ -23,21 +23,21 @@ held_with_alike : (v : Versions) (me : ℕ) (node : Node EndpointLocal) (peer : 
     → held_with (record v.settings { version = v.version }) me (respell_node v.spell node) peer
     ≡ held_with v.settings me node peer
 held_with_alike v me node peer =
-    rw (unreturned-respelled v.spell (node.asked peer))
+    rw (outstanding-respelled v.spell (node.asked peer))
     (rw (same_credits v.settings v.version peer me)
     (rw (slots_run-respelled v.spell (node.ran peer) (credits_of v.settings peer me)) refl))
 
 pub held_alike : (v : Versions) (me : ℕ) (node : Node EndpointLocal)
-    → held (record v.settings { version = v.version }) me (respell_node v.spell node) ≡ held v.settings me node
+    → held_buffers (record v.settings { version = v.version }) me (respell_node v.spell node) ≡ held_buffers v.settings me node
 held_alike v me node =
     ap (λ (with_peer : ℕ → ℕ). sum_below with_peer v.settings.nodes) (fun_ext (λ peer. held_with_alike v me node peer))
 
 -- the number at a slot
-sealed_alike : (v : Versions) (node : Node EndpointLocal) (which : Side) (peer slot : ℕ)
-    → sealed_number (respell_node v.spell node) (record { side = which; peer = peer; slot = slot })
-    ≡ sealed_number node (record { side = which; peer = peer; slot = slot })
-sealed_alike v node side.Request peer slot = open_number-respelled v.spell slot (node.asked peer)
-sealed_alike v node side.Reply peer slot = last_number-respelled v.spell slot (node.ran peer)
+committed_alike : (v : Versions) (node : Node EndpointLocal) (which : Side) (peer slot : ℕ)
+    → committed_number (respell_node v.spell node) (record { side = which; peer = peer; slot = slot })
+    ≡ committed_number node (record { side = which; peer = peer; slot = slot })
+committed_alike v node side.Request peer slot = open_number-respelled v.spell slot (node.asked peer)
+committed_alike v node side.Reply peer slot = last_number-respelled v.spell slot (node.ran peer)
 
 slot_alike : (settings : Parameters) (version me : ℕ) (which : Side) (peer slot : ℕ)
     → has_slot (record settings { version = version }) me (record { side = which; peer = peer; slot = slot })
@@ -49,10 +49,10 @@ number_alike : (v : Versions) (me : ℕ) (node : Node EndpointLocal) (at : SlotR
     → number_in_slot (record v.settings { version = v.version }) me (respell_node v.spell node) at
     ≡ number_in_slot v.settings me node at
 number_alike v me node at =
-    ap (λ (is : Bool). if is then sealed_number (respell_node v.spell node) at else None)
+    ap (λ (is : Bool). if is then committed_number (respell_node v.spell node) at else None)
     (slot_alike v.settings v.version me at.side at.peer at.slot)
     ∙ ap (λ (number : Option ℕ). if has_slot v.settings me at then number else None)
-    (sealed_alike v node at.side at.peer at.slot)
+    (committed_alike v node at.side at.peer at.slot)
 
 pub sight_alike : (v : Versions) (me : ℕ) (node : Node EndpointLocal)
     → sight_of (record v.settings { version = v.version }) me (respell_node v.spell node) ≡ sight_of v.settings me node

@@ -4,11 +4,11 @@ use Rattle.std.proofs.Common.{refl, sym, ap, subst, ◌∙◌}
 use Rattle.std.specs.Prelude.{decimal, not, ◌==◌, ◌||◌}
 use Rattle.std.proofs.Math.Path.{fun_ext}
 use Rattle.wire_message.specs.Content.{is_version}
-use Rattle.wire_message.specs.Notes.{most_nodes}
-use Rattle.spec_network.specs.World.{Timed, run, world_answer, world_after, RequestComes, ReplyComes, Ticks}
+use Rattle.wire_message.specs.Notifications.{most_nodes}
+use Rattle.spec_network.specs.World.{EventAt, run, world_answer, world_after, RequestComes, ReplyComes, Ticks}
 use Rattle.spec_network.specs.MostHeld.{most_then, most_after}
 use Rattle.node_rules.specs.EndpointLocal.{IsEndpointKept, nothing_begun}
-use Rattle.node_rules.specs.EndpointRules.{OtherCall, Records, at_the_opening, all_rules, timed}
+use Rattle.node_rules.specs.EndpointRules.{OtherCall, Records, at_the_opening, all_rules, timed_event}
 use Rattle.node_rules.proofs.Kept.{opening_kept}
 use Rattle.node_rules.proofs.Sound.{rules_sound}
 use Rattle.sim_world.specs.WorldTold.{world_told}
@@ -23,7 +23,7 @@ use Rattle.text_script.specs.AnswerWords.{Sight, sight_of, vis_words}
 use Rattle.text_script.specs.Bodies.{script_meaning}
 use Rattle.text_script.specs.LawfulBodies.{lawful-script}
 use Rattle.base_text.specs.LineTexts.{Line}
-use Rattle.text_script.specs.Registration.{handlers_of, registered}
+use Rattle.text_script.specs.Registration.{handlers_of, registry_of}
 use Rattle.text_script.specs.ScheduledCalls.{meant_by}
 use Rattle.node_vis.specs.Beginning.{calls_made}
 use Rattle.node_vis.specs.declared.shapes.Vis.{Vis}
@@ -44,7 +44,7 @@ use Rattle.sim_run.specs.RunText.{world_words, event_words, words_at, line_words
 use Rattle.sim_run.specs.RunText.{node_lines}
 use Rattle.sim_run.specs.RunText.{lines_of_node, node_line, violations, last_violations, violation_line, end_lines}
 use Rattle.sim_run.specs.RunText.{any_violation, run_records, run_most}
-use Rattle.sim_versions.specs.Respelled.{Versions, one_job, other_job, respell_world, respelled}
+use Rattle.sim_versions.specs.Respelled.{Versions, one_job, other_job, respell_world, spelled_as}
 use Rattle.sim_versions.specs.Upgraded.{IsSameRun, in_version}
 use Rattle.sim_versions.proofs.Agreeing.{rules_agree}
 use Rattle.sim_versions.proofs.Beginning.{begin_alike}
@@ -57,16 +57,16 @@ use Rattle.sim_versions.proofs.Worlds.{event_alike}
 -- ---- answers
 
 -- the words of the answer to an event
-event_words_alike : (v : Versions) (world : Records) (timed : Timed OtherCall) → Stood v world
-    → event_words (other_job v) (respell_world v.spell world) timed ≡ event_words (one_job v) world timed
-event_words_alike v world timed stood =
-    let alike = event_alike v world timed.now timed.event stood.holds stood.notes in
-    let node = node_of_event timed.event in
-    let after = world_after (one_job v) world timed node in
+event_words_alike : (v : Versions) (world : Records) (timed : EventAt OtherCall) → Stood v world
+    → event_words (other_job v) (respell_world v.spell world) timed_event ≡ event_words (one_job v) world timed_event
+event_words_alike v world timed_event stood =
+    let alike = event_alike v world timed_event.now timed_event.event stood.holds stood.notes in
+    let node = node_of_event timed_event.event in
+    let after = world_after (one_job v) world timed_event node in
     ap (λ (w : Records). world_words (sight_of (other_job v).settings node (w node))
-    (world_told (world_answer (other_job v) (respell_world v.spell world) timed))) alike.after
+    (world_told (world_answer (other_job v) (respell_world v.spell world) timed_event))) alike.after
     ∙ (ap (λ (sight : Sight). world_words sight
-    (world_told (world_answer (other_job v) (respell_world v.spell world) timed))) (sight_alike v node after)
+    (world_told (world_answer (other_job v) (respell_world v.spell world) timed_event))) (sight_alike v node after)
     ∙ ap (λ answer. world_words (sight_of v.settings node after) (world_told answer)) alike.answer)
 
 -- a line
@@ -82,12 +82,12 @@ words_alike v sound nodes entry stood within = by_event entry.event within
         → words_at (other_job v) (respell_nodes v.spell nodes) entry.time event
         ≡ words_at (one_job v) nodes entry.time event
     by_event (scheduled.Call node thread call) within =
-        event_words_alike v world (timed entry.time (call_event world node thread call)) stood
+        event_words_alike v world (timed_event entry.time (call_event world node thread call)) stood
     by_event (scheduled.Request from to number) within =
-        event_words_alike v world (timed entry.time (RequestComes from to number)) stood
+        event_words_alike v world (timed_event entry.time (RequestComes from to number)) stood
     by_event (scheduled.Reply from to number) within =
-        event_words_alike v world (timed entry.time (ReplyComes from to number)) stood
-    by_event (scheduled.Tick node) within = event_words_alike v world (timed entry.time (Ticks node)) stood
+        event_words_alike v world (timed_event entry.time (ReplyComes from to number)) stood
+    by_event (scheduled.Tick node) within = event_words_alike v world (timed_event entry.time (Ticks node)) stood
     by_event (scheduled.Vis node thread vis) within =
         ap vis_words (begin_alike v node entry.time (world node) (begin_asked thread vis))
     by_event (scheduled.Collective node thread call) within =
@@ -102,14 +102,14 @@ record LineAlike (v : Versions) (nodes : Nodes) (time : ℕ) (event : ScheduledE
       ≡ respell_group v.spell (line_group (one_job v) nodes time event)
 
 -- where a line leaves what its events leave of the records
-left_alike : (v : Versions) (sound : AreSound v) (nodes : Nodes) (events others : List (Timed OtherCall))
+left_alike : (v : Versions) (sound : AreSound v) (nodes : Nodes) (events others : List (EventAt OtherCall))
     → Stood v nodes.group.records → others ≡ events → AreAmong v.settings events
     → record (respell_group v.spell nodes.group) {
       records = run (other_job v) others (respell_world v.spell nodes.group.records);
     }
     ≡ respell_group v.spell (record nodes.group { records = run (one_job v) events nodes.group.records })
 left_alike v sound nodes events others stood same among =
-    ap (λ (es : List (Timed OtherCall)). record nodes.group {
+    ap (λ (es : List (EventAt OtherCall)). record nodes.group {
       records = run (other_job v) es (respell_world v.spell nodes.group.records);
     }) same
     ∙ ap (λ (w : Records). record nodes.group { records = w })
@@ -118,24 +118,24 @@ left_alike v sound nodes events others stood same among =
 line_alike : (v : Versions) (sound : AreSound v) (nodes : Nodes) (time : ℕ) (event : ScheduledEvent)
     → Stood v nodes.group.records → IsWithin v.settings event → LineAlike v nodes time event
 line_alike v sound nodes time (scheduled.Call node thread call) stood within =
-    let among : AreAmong v.settings (timed time (call_event nodes.group.records node thread call) ∷ []) =
+    let among : AreAmong v.settings (timed_event time (call_event nodes.group.records node thread call) ∷ []) =
     (call_among v.settings node thread (meant_by (nodes.group.records node).local.core.cells call) within.0, tt) in
     record {
       same = refl;
       among = among;
-      left = left_alike v sound nodes (timed time (call_event nodes.group.records node thread call) ∷ [])
-          (timed time (call_event nodes.group.records node thread call) ∷ []) stood refl among;
+      left = left_alike v sound nodes (timed_event time (call_event nodes.group.records node thread call) ∷ [])
+          (timed_event time (call_event nodes.group.records node thread call) ∷ []) stood refl among;
     }
 line_alike v sound nodes time (scheduled.Request from to number) stood within =
-    let events : List (Timed OtherCall) = timed time (RequestComes from to number) ∷ [] in
+    let events : List (EventAt OtherCall) = timed_event time (RequestComes from to number) ∷ [] in
     let among : AreAmong v.settings events = (within, tt) in
     record { same = refl; among = among; left = left_alike v sound nodes events events stood refl among }
 line_alike v sound nodes time (scheduled.Reply from to number) stood within =
-    let events : List (Timed OtherCall) = timed time (ReplyComes from to number) ∷ [] in
+    let events : List (EventAt OtherCall) = timed_event time (ReplyComes from to number) ∷ [] in
     let among : AreAmong v.settings events = (within, tt) in
     record { same = refl; among = among; left = left_alike v sound nodes events events stood refl among }
 line_alike v sound nodes time (scheduled.Tick node) stood within =
-    let events : List (Timed OtherCall) = timed time (Ticks node) ∷ [] in
+    let events : List (EventAt OtherCall) = timed_event time (Ticks node) ∷ [] in
     let among : AreAmong v.settings events = (within, tt) in
     record { same = refl; among = among; left = left_alike v sound nodes events events stood refl among }
 line_alike v sound nodes time (scheduled.Vis node thread vis) stood within =
@@ -192,10 +192,10 @@ lines_alike v sound (entry ∷ entries) nodes number stood within =
           ∙ (ap (λ (now : Nodes). (decimal number ∷ line_words (one_job v) nodes entry)
           ∷ answer_lines (other_job v) (number + 1) entries now) there
           ∙ ap (λ (ls : List Line). (decimal number ∷ line_words (one_job v) nodes entry) ∷ ls) rest.lines);
-      events = ap (λ (es : List (Timed OtherCall)). es ++ schedule_events (other_job v) entries
+      events = ap (λ (es : List (EventAt OtherCall)). es ++ schedule_events (other_job v) entries
           (nodes_after (other_job v) (respell_nodes v.spell nodes) entry)) line.same
           ∙ (ap (λ (now : Nodes). events ++ schedule_events (other_job v) entries now) there
-          ∙ ap (λ (es : List (Timed OtherCall)). events ++ es) rest.events);
+          ∙ ap (λ (es : List (EventAt OtherCall)). events ++ es) rest.events);
       among = both_among v.settings events _ line.among rest.among;
     }
 
@@ -205,13 +205,13 @@ then_alike : (v : Versions) (world : Records) (most : ℕ → ℕ)
     → most_then (other_job v).settings (respell_world v.spell world) most ≡ most_then v.settings world most
 then_alike v world most = fun_ext (λ node. ap (max (most node)) (held_alike v node (world node)))
 
-most_alike : (v : Versions) (sound : AreSound v) (events : List (Timed OtherCall)) (world : Records) (most : ℕ → ℕ)
+most_alike : (v : Versions) (sound : AreSound v) (events : List (EventAt OtherCall)) (world : Records) (most : ℕ → ℕ)
     → Stood v world → AreAmong v.settings events
     → most_after (other_job v) events (respell_world v.spell world) most ≡ most_after (one_job v) events world most
 most_alike v sound [] world most stood among = refl
-most_alike v sound (timed ∷ rest) world most stood among =
-    let first = after_events v sound (timed ∷ []) world stood (among.0, tt) in
-    let after = world_after (one_job v) world timed in
+most_alike v sound (timed_event ∷ rest) world most stood among =
+    let first = after_events v sound (timed_event ∷ []) world stood (among.0, tt) in
+    let after = world_after (one_job v) world timed_event in
     ap (λ (w : Records). most_after (other_job v) rest w (most_then (other_job v).settings w most)) first.0
     ∙ (ap (most_after (other_job v) rest (respell_world v.spell after)) (then_alike v after most)
     ∙ most_alike v sound rest after (most_then v.settings after most) first.1 among.1)
@@ -236,13 +236,13 @@ nodes_alike v world most node (suc count) =
 versions_of : (job : JobState) (version : ℕ) → IsJob job → is_version version ≡ true
     → job.settings.nodes ≤ most_nodes version → Versions
 versions_of job version is known few = record {
-  spell = respelled job.settings.version version;
+  spell = spelled_as job.settings.version version;
   settings = job.settings;
   version = version;
-  one = all_rules job.settings (registered (handlers_of job)).table (script_meaning (handlers_of job));
-  other = all_rules (record job.settings { version = version }) (registered (handlers_of job)).table
+  one = all_rules job.settings (registry_of (handlers_of job)).table (script_meaning (handlers_of job));
+  other = all_rules (record job.settings { version = version }) (registry_of (handlers_of job)).table
       (script_meaning (handlers_of job));
-  agree = rules_agree version job.settings (registered (handlers_of job)).table (script_meaning (handlers_of job))
+  agree = rules_agree version job.settings (registry_of (handlers_of job)).table (script_meaning (handlers_of job))
       (script_ignores version (handlers_of job)) is.settings known few;
 }
 
@@ -261,7 +261,7 @@ unfolding versions_of
 same_run job version is known few =
     let v = versions_of job version is known few in
     let settings = job.settings in
-    let table = (registered (handlers_of job)).table in
+    let table = (registry_of (handlers_of job)).table in
     let meaning = script_meaning (handlers_of job) in
     let entries = lines_of job.schedule in
     let start = at_the_opening settings in
@@ -279,11 +279,11 @@ same_run job version is known few =
     let most = most_after (one_job v) events start (λ node. 0) in
     let other = record job { settings = record settings { version = version } } in
     let most_is : run_most other ≡ most =
-    ap (λ (es : List (Timed OtherCall)). most_after (other_job v) es start (λ node. 0)) alike.events
+    ap (λ (es : List (EventAt OtherCall)). most_after (other_job v) es start (λ node. 0)) alike.events
     ∙ most_alike v sound events start (λ node. 0) stood alike.among
     in
     let records_are : run_records other ≡ respell_world v.spell records =
-    ap (λ (es : List (Timed OtherCall)). run (other_job v) es start) alike.events ∙ after.0
+    ap (λ (es : List (EventAt OtherCall)). run (other_job v) es start) alike.events ∙ after.0
     in
     record {
       lines = ap (λ (ls : List Line). ls ++ end_lines other.settings (run_records other) (run_most other)) alike.lines

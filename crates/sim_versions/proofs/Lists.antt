@@ -7,11 +7,11 @@ use Rattle.std.proofs.lemmas.Bool.{cases_Bool}
 use Rattle.std.proofs.lemmas.List.{length-map}
 use Rattle.std.proofs.lemmas.Option.{slice_get-map}
 use Rattle.wire_message.specs.Content.{Content}
-use Rattle.base_lists.specs.Numbered.{numbered, change}
+use Rattle.base_lists.specs.Numbered.{element_at, change}
 use Rattle.base_lists.specs.Update.{update}
 use Rattle.base_lists.proofs.Update.{update-on}
 use Rattle.spec_node.specs.Record.{Request, Run}
-use Rattle.spec_node.specs.Requests.{taken, unreturned, free_slot, least_outside, next_claim, Claim, is_open}
+use Rattle.spec_node.specs.Requests.{taken_slots, outstanding, free_slot, least_outside, next_claim, Claim, is_open}
 use Rattle.spec_node.specs.Requests.{open_from, open_in, dues, Due}
 use Rattle.spec_node.specs.Executed.{greatest, run_of, run_at, last_run, has_run, slots_run}
 use Rattle.sim_versions.specs.Respelled.{respell_request, respell_run}
@@ -19,16 +19,16 @@ use Rattle.sim_versions.specs.Respelled.{respell_request, respell_run}
 -- ---- requests
 
 pub taken-respelled : (spell : Content → Content) (requests : List Request)
-    → taken (map (respell_request spell) requests) ≡ taken requests
+    → taken_slots (map (respell_request spell) requests) ≡ taken_slots requests
 taken-respelled spell [] = refl
 taken-respelled spell (r ∷ rs) = elim (cases_Bool r.back) [
   | inl back ↦ rw back (taken-respelled spell rs)
   | inr out ↦ rw out (ap (λ slots. r.slot ∷ slots) (taken-respelled spell rs))
 ]
 
-pub unreturned-respelled : (spell : Content → Content) (requests : List Request)
-    → unreturned (map (respell_request spell) requests) ≡ unreturned requests
-unreturned-respelled spell requests = ap length (taken-respelled spell requests)
+pub outstanding-respelled : (spell : Content → Content) (requests : List Request)
+    → outstanding (map (respell_request spell) requests) ≡ outstanding requests
+outstanding-respelled spell requests = ap length (taken-respelled spell requests)
 
 pub next_claim-respelled : (spell : Content → Content) (requests : List Request)
     → next_claim (map (respell_request spell) requests) ≡ next_claim requests
@@ -42,8 +42,8 @@ next_claim-respelled spell requests =
     claim slot count = record { slot = slot; number = suc count }
 
 pub numbered-respelled : (spell : Content → Content) (requests : List Request) (number : ℕ)
-    → numbered (map (respell_request spell) requests) number
-    ≡ option_map (respell_request spell) (numbered requests number)
+    → element_at (map (respell_request spell) requests) number
+    ≡ option_map (respell_request spell) (element_at requests number)
 numbered-respelled spell requests zero = refl
 numbered-respelled spell requests (suc place) = slice_get-map (respell_request spell) requests place
 
@@ -54,10 +54,10 @@ is_open-respelled spell slot (Some r) = refl
 
 -- whether the request of that number isn't back, with this slot
 pub open_at-respelled : (spell : Content → Content) (slot : ℕ) (requests : List Request) (number : ℕ)
-    → is_open slot (numbered (map (respell_request spell) requests) number) ≡ is_open slot (numbered requests number)
+    → is_open slot (element_at (map (respell_request spell) requests) number) ≡ is_open slot (element_at requests number)
 open_at-respelled spell slot requests number =
     ap (is_open slot) (numbered-respelled spell requests number)
-    ∙ is_open-respelled spell slot (numbered requests number)
+    ∙ is_open-respelled spell slot (element_at requests number)
 
 update-respelled : (spell : Content → Content) (change_one : Request → Request)
     → ((r : Request) → change_one (respell_request spell r) ≡ respell_request spell (change_one r))

@@ -7,23 +7,23 @@ use Rattle.wire_message.specs.Content.{Content}
 use Rattle.wire_message.specs.Parameters.{Parameters}
 use Rattle.spec_node.specs.Record.{Request}
 use Rattle.spec_node.specs.NodeStep.{IsAllSound}
-use Rattle.spec_network.specs.World.{Timed, Ticks, run}
+use Rattle.spec_network.specs.World.{EventAt, Ticks, run}
 use Rattle.spec_network.specs.Invariant.{Holds}
 use Rattle.node_rules.specs.EndpointLocal.{IsEndpointKept}
-use Rattle.node_rules.specs.EndpointRules.{OtherCall, Records, timed}
+use Rattle.node_rules.specs.EndpointRules.{OtherCall, Records, timed_event}
 use Rattle.sim_world.specs.Settling.{in_turn, open_numbers, exchange_events, turn_events, row_events, pair_events}
 use Rattle.sim_world.specs.Settling.{tick_events, round_events, settle_events}
 use Rattle.sim_world.proofs.Among.{AreAmong, both_among, numbers_among}
-use Rattle.sim_versions.specs.Respelled.{Versions, one_job, other_job, respell_request, respell_world, HaveNotes}
+use Rattle.sim_versions.specs.Respelled.{Versions, one_job, other_job, respell_request, respell_world, HaveNotifications}
 use Rattle.sim_versions.proofs.Worlds.{run_alike}
 
 -- a world of the one version, as a run of a job leaves it
 pub record Stood (v : Versions) (world : Records) : Type 0 where
   pub holds : Holds (one_job v) (IsEndpointKept v.settings) world
-  pub notes : HaveNotes v.settings world
+  pub notes : HaveNotifications v.settings world
 
 -- events that the records decide are the same by both versions, and are among the nodes
-pub record EventsAlike (v : Versions) (one other : Records → List (Timed OtherCall)) : Type 0 where
+pub record EventsAlike (v : Versions) (one other : Records → List (EventAt OtherCall)) : Type 0 where
   pub same : (world : Records) → Stood v world → other (respell_world v.spell world) ≡ one world
   pub among : (world : Records) → AreAmong v.settings (one world)
 
@@ -31,7 +31,7 @@ abbrev pub AreSound : Versions → Type 0
 AreSound v = IsAllSound v.one (IsEndpointKept v.settings)
 
 -- what a run of such events leaves
-pub after_events : (v : Versions) → AreSound v → (events : List (Timed OtherCall)) (world : Records) → Stood v world
+pub after_events : (v : Versions) → AreSound v → (events : List (EventAt OtherCall)) (world : Records) → Stood v world
     → AreAmong v.settings events
     → (run (other_job v) events (respell_world v.spell world) ≡ respell_world v.spell (run (one_job v) events world))
     × Stood v (run (one_job v) events world)
@@ -41,18 +41,18 @@ after_events v sound events world stood among =
 
 -- ---- one list after the other
 
-both_same : (v : Versions) (sound : AreSound v) (first other_first : List (Timed OtherCall))
-    (one other : Records → List (Timed OtherCall)) (world : Records) → Stood v world → other_first ≡ first
+both_same : (v : Versions) (sound : AreSound v) (first other_first : List (EventAt OtherCall))
+    (one other : Records → List (EventAt OtherCall)) (world : Records) → Stood v world → other_first ≡ first
     → AreAmong v.settings first → EventsAlike v one other
     → other_first ++ other (run (other_job v) other_first (respell_world v.spell world))
     ≡ first ++ one (run (one_job v) first world)
 both_same v sound first other_first one other world stood same among alike =
     let after = after_events v sound first world stood among in
-    ap (λ (es : List (Timed OtherCall)). es ++ other (run (other_job v) es (respell_world v.spell world))) same
+    ap (λ (es : List (EventAt OtherCall)). es ++ other (run (other_job v) es (respell_world v.spell world))) same
     ∙ (ap (λ (w : Records). first ++ other w) after.0
-    ∙ ap (λ (es : List (Timed OtherCall)). first ++ es) (alike.same (run (one_job v) first world) after.1))
+    ∙ ap (λ (es : List (EventAt OtherCall)). first ++ es) (alike.same (run (one_job v) first world) after.1))
 
-then_alike : (v : Versions) (sound : AreSound v) (first other_first one other : Records → List (Timed OtherCall))
+then_alike : (v : Versions) (sound : AreSound v) (first other_first one other : Records → List (EventAt OtherCall))
     → EventsAlike v first other_first → EventsAlike v one other
     → EventsAlike v (λ w. first w ++ one (run (one_job v) (first w) w))
     (λ w. other_first w ++ other (run (other_job v) (other_first w) w))
@@ -62,7 +62,7 @@ then_alike v sound first other_first one other earlier later = record {
   among = λ w. both_among v.settings (first w) _ (earlier.among w) (later.among (run (one_job v) (first w) w));
 }
 
-turns_alike : (v : Versions) (sound : AreSound v) (one other : ℕ → Records → List (Timed OtherCall)) (count : ℕ)
+turns_alike : (v : Versions) (sound : AreSound v) (one other : ℕ → Records → List (EventAt OtherCall)) (count : ℕ)
     → ((number : ℕ) → number < count → EventsAlike v (one number) (other number))
     → EventsAlike v (in_turn (one_job v) one count) (in_turn (other_job v) other count)
 turns_alike v sound one other zero each = record { same = λ w stood. refl; among = λ w. tt }
@@ -90,7 +90,7 @@ turn_alike v now from to a b = record {
 }
 
 tick_alike : (v : Versions) (now node : ℕ) → node < v.settings.nodes
-    → EventsAlike v (λ w. timed now (Ticks node) ∷ []) (λ w. timed now (Ticks node) ∷ [])
+    → EventsAlike v (λ w. timed_event now (Ticks node) ∷ []) (λ w. timed_event now (Ticks node) ∷ [])
 tick_alike v now node low = record { same = λ w stood. refl; among = λ w. (low, tt) }
 
 -- ---- rounds
@@ -107,7 +107,7 @@ round_alike : (v : Versions) (sound : AreSound v) (now : ℕ)
 round_alike v sound now =
     then_alike v sound (tick_events (one_job v) now) (tick_events (other_job v) now)
     (pair_events (one_job v) now) (pair_events (other_job v) now)
-    (turns_alike v sound (λ node w. timed now (Ticks node) ∷ []) (λ node w. timed now (Ticks node) ∷ [])
+    (turns_alike v sound (λ node w. timed_event now (Ticks node) ∷ []) (λ node w. timed_event now (Ticks node) ∷ [])
     v.settings.nodes
     (λ node low. tick_alike v now node low))
     (turns_alike v sound (row_events (one_job v) now) (row_events (other_job v) now) v.settings.nodes

@@ -13,7 +13,7 @@ use Rattle.spec_node.specs.Behaviour.{Sending}
 use Rattle.spec_node.specs.Step.{TickChoice, Retransmits, Sends, Rests, choice_of, tick_choice, tick_answer, after_tick}
 use Rattle.spec_node.specs.Step.{next_due, can_ask, is_exhausted, after_sending, with_asked, with_local, with_request}
 use Rattle.spec_node.specs.Step.{request_slot}
-use Rattle.spec_node.specs.NodeStep.{site_of, done}
+use Rattle.spec_node.specs.NodeStep.{site_of, call_outcome}
 use Rattle.node_rules.specs.EndpointLocal.{EndpointLocal, IsEndpointKept}
 use Rattle.node_rules.specs.EndpointRules.{OtherCall}
 use Rattle.sim_versions.specs.Respelled.{Versions, one_job, other_job, respell_node, respell_request, respell_sending}
@@ -126,7 +126,7 @@ exhausted_alike : (v : Versions) (node : Node EndpointLocal)
 exhausted_alike v node = fun_ext (λ to. rw (length-map (node.asked to) (respell_request v.spell)) refl)
 
 pub done_alike : (v : Versions) (me : ℕ) (node : Node EndpointLocal) (thread : ℕ) (call : OtherCall)
-    → done (other_job v) me (respell_node v.spell node) thread call ≡ done (one_job v) me node thread call
+    → call_outcome (other_job v) me (respell_node v.spell node) thread call ≡ call_outcome (one_job v) me node thread call
 done_alike v me node thread call =
     ap (λ (exhausted : ℕ → Bool). v.other.does me exhausted thread call node.local) (exhausted_alike v node)
     ∙ v.agree.does me (is_exhausted v.settings node) thread call node.local

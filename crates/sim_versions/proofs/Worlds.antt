@@ -6,7 +6,7 @@ use Rattle.std.specs.List.{AllByRecursion}
 use Rattle.std.proofs.Math.Path.{fun_ext}
 use Rattle.std.proofs.lemmas.Bool.{cases_Bool}
 use Rattle.wire_message.specs.Content.{Content}
-use Rattle.base_lists.specs.Numbered.{numbered}
+use Rattle.base_lists.specs.Numbered.{element_at}
 use Rattle.base_lists.specs.Put.{put}
 use Rattle.spec_node.specs.Record.{Request, Run, Node}
 use Rattle.spec_node.specs.Executed.{run_of}
@@ -14,7 +14,7 @@ use Rattle.spec_node.specs.Behaviour.{Ask, asks_well, replies_well}
 use Rattle.spec_node.specs.NodeStep.{NodeEvent, node_after, OfRequest, OfCall, OfDelivery, OfTick}
 use Rattle.spec_node.specs.NodeStep.{Asks as NodeAsks, Does as NodeDoes, Comes, Ticks as NodeTicks, IsAllSound}
 use Rattle.spec_node.proofs.Runs.{run_of_there}
-use Rattle.spec_network.specs.World.{World, Event, Asks, Does, RequestComes, ReplyComes, Ticks, Timed, OfNode}
+use Rattle.spec_network.specs.World.{World, Event, Asks, Does, RequestComes, ReplyComes, Ticks, EventAt, OfNode}
 use Rattle.spec_network.specs.World.{Fall, falls, request_event, reply_event, answer_at, after_at, world_answer}
 use Rattle.spec_network.specs.World.{world_after, run, IsAmong}
 use Rattle.spec_network.specs.Invariant.{Holds}
@@ -35,7 +35,7 @@ use Rattle.spec_node.proofs.Answers.{accepted_says, sends_choice}
 use Rattle.node_rules.specs.EndpointLocal.{EndpointLocal, IsEndpointKept}
 use Rattle.node_rules.specs.EndpointRules.{OtherCall}
 use Rattle.node_rules.specs.declared.answer.Answer.{Answer}
-use Rattle.sim_versions.specs.Respelled.{IsNoteIfAny, HasNotes, HaveNotes}
+use Rattle.sim_versions.specs.Respelled.{IsNotificationIfAny, HasNotifications, HaveNotifications}
 use Rattle.sim_versions.specs.Respelled.{Versions, one_job, other_job, respell_node, respell_world, respell_request}
 use Rattle.sim_versions.specs.Respelled.{respell_run}
 use Rattle.sim_versions.proofs.Lists.{numbered-respelled, run_of-respelled}
@@ -44,7 +44,7 @@ use Rattle.sim_versions.proofs.Coming.{request_comes, reply_comes}
 use Rattle.sim_versions.proofs.Ticking.{tick_answers, tick_leaves, done_alike}
 
 -- what an event does, in both worlds
-pub record IsAlike (v : Versions) (world : World EndpointLocal) (timed : Timed OtherCall) : Type 0 where
+pub record IsAlike (v : Versions) (world : World EndpointLocal) (timed : EventAt OtherCall) : Type 0 where
   pub answer : world_answer (other_job v) (respell_world v.spell world) timed ≡ world_answer (one_job v) world timed
   pub after : world_after (other_job v) (respell_world v.spell world) timed
       ≡ respell_world v.spell (world_after (one_job v) world timed)
@@ -66,7 +66,7 @@ at_node v world place other one same =
 -- ---- deliveries
 
 request_falls : (v : Versions) (world : World EndpointLocal) (now from to number : ℕ) (o : Option Request)
-    → ((r : Request) → o ≡ Some r → IsNoteIfAny v.settings r.content
+    → ((r : Request) → o ≡ Some r → IsNotificationIfAny v.settings r.content
     × (asks_well v.one.messages.refuses r.content ≡ true))
     → (answer_at (other_job v) (respell_world v.spell world) now
     (request_event (other_job v).settings from to number (option_map (respell_request v.spell) o))
@@ -95,7 +95,7 @@ reply_falls v world now from to (Some r) well =
 -- ---- every event
 
 pub event_alike : (v : Versions) (world : World EndpointLocal) (now : ℕ) (event : Event OtherCall)
-    → Holds (one_job v) (IsEndpointKept v.settings) world → HaveNotes v.settings world
+    → Holds (one_job v) (IsEndpointKept v.settings) world → HaveNotifications v.settings world
     → IsAlike v world (record { now = now; event = event })
 event_alike v world now (Asks node ask) holds notes = record {
   answer = ap (λ a. OfNode (OfRequest a)) (asked_alike v node (world node) ask);
@@ -109,7 +109,7 @@ event_alike v world now (Does node thread call) holds notes = record {
 }
 event_alike v world now (RequestComes from to number) holds notes =
     let found = numbered-respelled v.spell ((world from).asked to) number in
-    let alike = request_falls v world now from to number (numbered ((world from).asked to) number)
+    let alike = request_falls v world now from to number (element_at ((world from).asked to) number)
     (λ r is. (notes from to number r is, (holds.pair from to).well number r is))
     in
     record {
@@ -138,121 +138,121 @@ event_alike v world now (Ticks node) holds notes = record {
 -- ---- what the requests say
 
 -- a node whose requests are those of before
-same_notes : (settings : Parameters) (one other : Node EndpointLocal) → other.asked ≡ one.asked → HasNotes settings one
-    → HasNotes settings other
-same_notes settings one other same notes =
-    subst (λ (asked : ℕ → List Request). (to number : ℕ) (r : Request) → numbered (asked to) number ≡ Some r
-    → IsNoteIfAny settings r.content) (sym same) notes
+same_notifications : (settings : Parameters) (one other : Node EndpointLocal) → other.asked ≡ one.asked → HasNotifications settings one
+    → HasNotifications settings other
+same_notifications settings one other same notes =
+    subst (λ (asked : ℕ → List Request). (to number : ℕ) (r : Request) → element_at (asked to) number ≡ Some r
+    → IsNotificationIfAny settings r.content) (sym same) notes
 
 -- a list of requests changed
-put_notes : (settings : Parameters) (node : Node EndpointLocal) (peer : ℕ) (requests : List Request)
-    → HasNotes settings node
-    → ((number : ℕ) (r : Request) → numbered requests number ≡ Some r → IsNoteIfAny settings r.content)
-    → (to number : ℕ) (r : Request) → numbered (put node.asked peer requests to) number ≡ Some r
-    → IsNoteIfAny settings r.content
-put_notes settings node peer requests notes new to number r is = elim (cases_Bool (eqb to peer)) [
+put_notifications : (settings : Parameters) (node : Node EndpointLocal) (peer : ℕ) (requests : List Request)
+    → HasNotifications settings node
+    → ((number : ℕ) (r : Request) → element_at requests number ≡ Some r → IsNotificationIfAny settings r.content)
+    → (to number : ℕ) (r : Request) → element_at (put node.asked peer requests to) number ≡ Some r
+    → IsNotificationIfAny settings r.content
+put_notifications settings node peer requests notes new to number r is = elim (cases_Bool (eqb to peer)) [
   | inl here ↦ new number r (rw here at is)
   | inr other ↦ notes to number r (rw other at is)
 ]
 
 -- one request more
-more_notes : (settings : Parameters) (node : Node EndpointLocal) (now to slot : ℕ) (content : Content)
-    → HasNotes settings node → IsNoteIfAny settings content
-    → HasNotes settings (with_request node now to slot content)
-more_notes settings node now to slot content notes good =
-    put_notes settings node to (node.asked to ++ new_request now slot content ∷ []) notes (λ number r is.
+more_notifications : (settings : Parameters) (node : Node EndpointLocal) (now to slot : ℕ) (content : Content)
+    → HasNotifications settings node → IsNotificationIfAny settings content
+    → HasNotifications settings (with_request node now to slot content)
+more_notifications settings node now to slot content notes good =
+    put_notifications settings node to (node.asked to ++ new_request now slot content ∷ []) notes (λ number r is.
     elim (numbered_push (node.asked to) (new_request now slot content) number r is) [
       | inl was ↦ notes to number r was
-      | inr new ↦ subst (λ (x : Request). IsNoteIfAny settings x.content) new.1 good
+      | inr new ↦ subst (λ (x : Request). IsNotificationIfAny settings x.content) new.1 good
     ])
 
 -- a request changed, and not in what it says
-changed_notes : (settings : Parameters) (node : Node EndpointLocal) (peer number : ℕ) (change_one : Request → Request)
-    → ((r : Request) → (change_one r).content ≡ r.content) → HasNotes settings node
-    → (to at : ℕ) (r : Request) → numbered (put node.asked peer (change change_one (node.asked peer) number) to)
+changed_notifications : (settings : Parameters) (node : Node EndpointLocal) (peer number : ℕ) (change_one : Request → Request)
+    → ((r : Request) → (change_one r).content ≡ r.content) → HasNotifications settings node
+    → (to at : ℕ) (r : Request) → element_at (put node.asked peer (change change_one (node.asked peer) number) to)
     at ≡ Some r
-    → IsNoteIfAny settings r.content
-changed_notes settings node peer number change_one keeps notes =
-    put_notes settings node peer (change change_one (node.asked peer) number) notes (λ at r is.
+    → IsNotificationIfAny settings r.content
+changed_notifications settings node peer number change_one keeps notes =
+    put_notifications settings node peer (change change_one (node.asked peer) number) notes (λ at r is.
     let was = numbered-change change_one (node.asked peer) number at r is in
     let good = notes peer at was.0 was.1 in
     elim was.2 [
-      | inl same ↦ subst (λ (x : Request). IsNoteIfAny settings x.content) (sym same.1) good
-      | inr new ↦ subst (IsNoteIfAny settings) (sym (ap (λ (x : Request). x.content) new.1 ∙ keeps was.0)) good
+      | inl same ↦ subst (λ (x : Request). IsNotificationIfAny settings x.content) (sym same.1) good
+      | inr new ↦ subst (IsNotificationIfAny settings) (sym (ap (λ (x : Request). x.content) new.1 ∙ keeps was.0)) good
     ])
 
-asked_notes : (v : Versions) (me : ℕ) (node : Node EndpointLocal) (now : ℕ) (ask : Ask) (answer : Asked)
-    → request_answer (site_of (one_job v) me) node ask ≡ answer → HasNotes v.settings node
-    → HasNotes v.settings (after_request (site_of (one_job v) me) node now ask answer)
-asked_notes v me node now ask (asked.Accepted to slot number) e notes =
+asked_notifications : (v : Versions) (me : ℕ) (node : Node EndpointLocal) (now : ℕ) (ask : Ask) (answer : Asked)
+    → request_answer (site_of (one_job v) me) node ask ≡ answer → HasNotifications v.settings node
+    → HasNotifications v.settings (after_request (site_of (one_job v) me) node now ask answer)
+asked_notifications v me node now ask (asked.Accepted to slot number) e notes =
     let fine = (accepted_says (site_of (one_job v) me) node ask to slot number e).faultless in
-    more_notes v.settings node now ask.to slot (v.one.messages.says ask.what node.local) notes
-    (v.agree.notes_said ask.what node.local fine)
-asked_notes v me node now ask asked.Ran e notes = notes
-asked_notes v me node now ask (asked.Forbidden forbidden) e notes = notes
-asked_notes v me node now ask (asked.BadArg part) e notes = notes
-asked_notes v me node now ask (asked.LockBusy lock) e notes = notes
-asked_notes v me node now ask asked.Exhausted e notes = notes
-asked_notes v me node now ask asked.NotYet e notes = notes
+    more_notifications v.settings node now ask.to slot (v.one.messages.says ask.what node.local) notes
+    (v.agree.notifications_said ask.what node.local fine)
+asked_notifications v me node now ask asked.Ran e notes = notes
+asked_notifications v me node now ask (asked.Forbidden forbidden) e notes = notes
+asked_notifications v me node now ask (asked.BadArg part) e notes = notes
+asked_notifications v me node now ask (asked.LockBusy lock) e notes = notes
+asked_notifications v me node now ask asked.Exhausted e notes = notes
+asked_notifications v me node now ask asked.NotYet e notes = notes
 
-delivered_notes : (v : Versions) (me : ℕ) (node : Node EndpointLocal) (message : Message) (verdict : Verdict)
-    → HasNotes v.settings node → HasNotes v.settings (after_delivery (site_of (one_job v) me) node message verdict)
-delivered_notes v me node message Runs notes = notes
-delivered_notes v me node message Returns notes =
-    changed_notes v.settings node message.from message.number as_back (λ r. refl) notes
-delivered_notes v me node message (Refused reason) notes = notes
-delivered_notes v me node message Duplicated notes = notes
-delivered_notes v me node message Passed notes = notes
-delivered_notes v me node message Missed notes = notes
-delivered_notes v me node message (Waits lock) notes = notes
+delivered_notifications : (v : Versions) (me : ℕ) (node : Node EndpointLocal) (message : Message) (verdict : Verdict)
+    → HasNotifications v.settings node → HasNotifications v.settings (after_delivery (site_of (one_job v) me) node message verdict)
+delivered_notifications v me node message Runs notes = notes
+delivered_notifications v me node message Returns notes =
+    changed_notifications v.settings node message.from message.number as_back (λ r. refl) notes
+delivered_notifications v me node message (Refused reason) notes = notes
+delivered_notifications v me node message Duplicated notes = notes
+delivered_notifications v me node message Passed notes = notes
+delivered_notifications v me node message Missed notes = notes
+delivered_notifications v me node message (Waits lock) notes = notes
 
-ticked_notes : (v : Versions) (me : ℕ) (node : Node EndpointLocal) (now : ℕ) (choice : TickChoice)
+ticked_notifications : (v : Versions) (me : ℕ) (node : Node EndpointLocal) (now : ℕ) (choice : TickChoice)
     → IsEndpointKept v.settings me node.local
-    → tick_choice (site_of (one_job v) me) node now ≡ choice → HasNotes v.settings node
-    → HasNotes v.settings (after_tick (site_of (one_job v) me) node now choice)
-ticked_notes v me node now (Retransmits due) kept e notes =
-    changed_notes v.settings node due.peer due.number (sent_at now) (λ r. refl) notes
-ticked_notes v me node now Rests kept e notes = notes
-ticked_notes v me node now (Sends sending) kept e notes =
-    more_notes v.settings node now sending.to (with_asked me node sending.to).slot sending.content notes
-    (v.agree.notes_next me (can_ask (site_of (one_job v) me) node) node.local sending kept
+    → tick_choice (site_of (one_job v) me) node now ≡ choice → HasNotifications v.settings node
+    → HasNotifications v.settings (after_tick (site_of (one_job v) me) node now choice)
+ticked_notifications v me node now (Retransmits due) kept e notes =
+    changed_notifications v.settings node due.peer due.number (sent_at now) (λ r. refl) notes
+ticked_notifications v me node now Rests kept e notes = notes
+ticked_notifications v me node now (Sends sending) kept e notes =
+    more_notifications v.settings node now sending.to (with_asked me node sending.to).slot sending.content notes
+    (v.agree.notifications_next me (can_ask (site_of (one_job v) me) node) node.local sending kept
     (sends_choice (next_due v.settings node now) _ sending e))
 
-node_notes : (v : Versions) (me : ℕ) (node : Node EndpointLocal) (now : ℕ) (event : NodeEvent OtherCall)
-    → IsEndpointKept v.settings me node.local → HasNotes v.settings node
-    → HasNotes v.settings (node_after (one_job v) me node now event)
-node_notes v me node now (NodeAsks ask) kept notes = asked_notes v me node now ask _ refl notes
-node_notes v me node now (NodeDoes thread call) kept notes = notes
-node_notes v me node now (Comes message) kept notes = delivered_notes v me node message _ notes
-node_notes v me node now NodeTicks kept notes = ticked_notes v me node now _ kept refl notes
+node_notifications : (v : Versions) (me : ℕ) (node : Node EndpointLocal) (now : ℕ) (event : NodeEvent OtherCall)
+    → IsEndpointKept v.settings me node.local → HasNotifications v.settings node
+    → HasNotifications v.settings (node_after (one_job v) me node now event)
+node_notifications v me node now (NodeAsks ask) kept notes = asked_notifications v me node now ask _ refl notes
+node_notifications v me node now (NodeDoes thread call) kept notes = notes
+node_notifications v me node now (Comes message) kept notes = delivered_notifications v me node message _ notes
+node_notifications v me node now NodeTicks kept notes = ticked_notifications v me node now _ kept refl notes
 
-fall_notes : (v : Versions) (world : World EndpointLocal) (now : ℕ) (fall : Option (Fall OtherCall))
-    → ((node : ℕ) → IsEndpointKept v.settings node (world node).local) → HaveNotes v.settings world
-    → HaveNotes v.settings (after_at (one_job v) world now fall)
-fall_notes v world now None kept notes node = notes node
-fall_notes v world now (Some fall) kept notes node = elim (cases_Bool (eqb node fall.node)) [
-  | inl here ↦ rw here (node_notes v fall.node (world fall.node) now fall.event (kept fall.node) (notes fall.node))
+fall_notifications : (v : Versions) (world : World EndpointLocal) (now : ℕ) (fall : Option (Fall OtherCall))
+    → ((node : ℕ) → IsEndpointKept v.settings node (world node).local) → HaveNotifications v.settings world
+    → HaveNotifications v.settings (after_at (one_job v) world now fall)
+fall_notifications v world now None kept notes node = notes node
+fall_notifications v world now (Some fall) kept notes node = elim (cases_Bool (eqb node fall.node)) [
+  | inl here ↦ rw here (node_notifications v fall.node (world fall.node) now fall.event (kept fall.node) (notes fall.node))
   | inr other ↦ rw other (notes node)
 ]
 
 -- ---- runs
 
 -- what a run of events leaves
-pub record RunsAlike (v : Versions) (events : List (Timed OtherCall)) (world : World EndpointLocal) : Type 0 where
+pub record RunsAlike (v : Versions) (events : List (EventAt OtherCall)) (world : World EndpointLocal) : Type 0 where
   pub after : run (other_job v) events (respell_world v.spell world)
       ≡ respell_world v.spell (run (one_job v) events world)
   pub holds : Holds (one_job v) (IsEndpointKept v.settings) (run (one_job v) events world)
-  pub notes : HaveNotes v.settings (run (one_job v) events world)
+  pub notes : HaveNotifications v.settings (run (one_job v) events world)
 
-pub run_alike : (v : Versions) (events : List (Timed OtherCall)) (world : World EndpointLocal)
+pub run_alike : (v : Versions) (events : List (EventAt OtherCall)) (world : World EndpointLocal)
     → IsAllSound v.one (IsEndpointKept v.settings) → Holds (one_job v) (IsEndpointKept v.settings) world
-    → HaveNotes v.settings world
-    → AllByRecursion (λ (timed : Timed OtherCall). IsAmong v.settings timed.event) events
+    → HaveNotifications v.settings world
+    → AllByRecursion (λ (timed : EventAt OtherCall). IsAmong v.settings timed.event) events
     → RunsAlike v events world
 run_alike v [] world sound holds notes among = record { after = refl; holds = holds; notes = notes }
 run_alike v (timed ∷ events) world sound holds notes among =
     let alike = event_alike v world timed.now timed.event holds notes in
     let next = step_keeps (one_job v) (IsEndpointKept v.settings) world timed sound holds among.0 in
-    let noted = fall_notes v world timed.now (falls v.settings world timed.event) holds.kept notes in
+    let noted = fall_notifications v world timed.now (falls v.settings world timed.event) holds.kept notes in
     let rest = run_alike v events (world_after (one_job v) world timed) sound next noted among.1 in
     record { after = ap (run (other_job v) events) alike.after ∙ rest.after; holds = rest.holds; notes = rest.notes }

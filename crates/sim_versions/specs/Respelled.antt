@@ -3,9 +3,9 @@ use Rattle.std.specs.Prelude.{◌≡◌, ℕ, ◌==◌, Bool, true, if◌then◌
 use Rattle.std.specs.Prelude.{option_map}
 use Rattle.wire_message.specs.Content.{Content}
 use Rattle.wire_message.specs.Parameters.{Parameters}
-use Rattle.wire_message.specs.Notes.{IsNote, note_arguments}
-use Rattle.wire_message.specs.declared.note.BarrierNote.{BarrierNote}
-use Rattle.base_lists.specs.Numbered.{numbered}
+use Rattle.wire_message.specs.Notifications.{IsNotification, notification_arguments}
+use Rattle.wire_message.specs.declared.notification.BarrierNotification.{BarrierNotification}
+use Rattle.base_lists.specs.Numbered.{element_at}
 use Rattle.part_handlers.specs.declared.rules.CallKind.{CallKind}
 use Rattle.part_handlers.specs.declared.rules.Forbidden.{Forbidden}
 use Rattle.spec_node.specs.Behaviour.{Asking, Contact, Sending, asks_well, replies_well}
@@ -14,7 +14,7 @@ use Rattle.spec_node.specs.Record.{Request, Run, Node}
 use Rattle.spec_node.specs.declared.answer.SlotRef.{SlotRef}
 use Rattle.spec_network.specs.World.{World}
 use Rattle.part_handlers.specs.Runs.{Meaning, Frame, Start}
-use Rattle.node_core.specs.Library.{note_handler, note_said}
+use Rattle.node_core.specs.Library.{notification_handler, notification_said}
 use Rattle.node_rules.specs.EndpointLocal.{EndpointLocal, IsEndpointKept}
 use Rattle.node_rules.specs.EndpointRules.{OtherCall}
 use Rattle.node_rules.specs.declared.answer.Answer.{Answer}
@@ -42,18 +42,19 @@ respell_sending spell sending = record sending { content = spell sending.content
 
 -- ---- notes
 
--- where it is a note of the barrier, it spells one among the nodes
-abbrev pub IsNoteIfAny : Parameters → Content → Type 0
-IsNoteIfAny settings content = content.handler ≡ note_handler
-    → (note : BarrierNote) × IsNote settings.nodes note × (content.args ≡ note_arguments settings.version note)
+-- where it is a notification of the barrier, it spells one among the nodes
+abbrev pub IsNotificationIfAny : Parameters → Content → Type 0
+IsNotificationIfAny settings content = content.handler ≡ notification_handler
+    → (notification : BarrierNotification) × IsNotification settings.nodes notification
+    × (content.args ≡ notification_arguments settings.version notification)
 
 -- so it is of each request of a node, and of each node
-abbrev pub HasNotes : Parameters → Node EndpointLocal → Type 0
-HasNotes settings node = (to number : ℕ) (request : Request) → numbered (node.asked to) number ≡ Some request
-    → IsNoteIfAny settings request.content
+abbrev pub HasNotifications : Parameters → Node EndpointLocal → Type 0
+HasNotifications settings node = (to number : ℕ) (request : Request) → element_at (node.asked to) number ≡ Some request
+    → IsNotificationIfAny settings request.content
 
-abbrev pub HaveNotes : Parameters → World EndpointLocal → Type 0
-HaveNotes settings world = (node : ℕ) → HasNotes settings (world node)
+abbrev pub HaveNotifications : Parameters → World EndpointLocal → Type 0
+HaveNotifications settings world = (node : ℕ) → HasNotifications settings (world node)
 
 -- ---- two jobs
 
@@ -75,12 +76,13 @@ pub record AgreeOn (spell : Content → Content) (settings : Parameters) (one ot
       → spell (one.messages.says asking local) ≡ one.messages.says asking local
   pub asks : (asking : Asking) (local : EndpointLocal) → one.messages.faults asking ≡ None
       → asks_well one.messages.refuses (one.messages.says asking local) ≡ true
-  pub notes_said : (asking : Asking) (local : EndpointLocal) → one.messages.faults asking ≡ None
-      → IsNoteIfAny settings (one.messages.says asking local)
-  pub notes_next : (me : ℕ) (can : ℕ → Bool) (local : EndpointLocal) (sending : Sending)
+  pub notifications_said : (asking : Asking) (local : EndpointLocal) → one.messages.faults asking ≡ None
+      → IsNotificationIfAny settings (one.messages.says asking local)
+  pub notifications_next : (me : ℕ) (can : ℕ → Bool) (local : EndpointLocal) (sending : Sending)
       → IsEndpointKept settings me local → one.messages.next me can local ≡ Some sending
-      → IsNoteIfAny settings sending.content
-  pub refuses : (content : Content) → IsNoteIfAny settings content → asks_well one.messages.refuses content ≡ true
+      → IsNotificationIfAny settings sending.content
+  pub refuses : (content : Content) → IsNotificationIfAny settings content → asks_well one.messages.refuses content
+      ≡ true
       → other.messages.refuses (spell content) ≡ None
   pub refuses_reply : (content : Content) → replies_well one.messages.refuses content ≡ true
       → other.messages.refuses content ≡ None
@@ -91,11 +93,11 @@ pub record AgreeOn (spell : Content → Content) (settings : Parameters) (one ot
   pub waits_reply : (content : Content) (local : EndpointLocal)
       → other.messages.waits content local ≡ one.messages.waits content local
   pub run : (contact : Contact) (content : Content) (local : EndpointLocal)
-      → IsNoteIfAny settings content → asks_well one.messages.refuses content ≡ true
+      → IsNotificationIfAny settings content → asks_well one.messages.refuses content ≡ true
       → other.messages.run contact (spell content) local ≡ one.messages.run contact content local
   pub take : (contact : Contact) (content : Content) (local : EndpointLocal)
       → other.messages.take contact content local ≡ one.messages.take contact content local
-  pub runs_as : (content : Content) (place : SlotRef) → IsNoteIfAny settings content
+  pub runs_as : (content : Content) (place : SlotRef) → IsNotificationIfAny settings content
       → other.messages.runs_as (spell content) place ≡ one.messages.runs_as content place
   pub next : (me : ℕ) (can : ℕ → Bool) (local : EndpointLocal) → IsEndpointKept settings me local
       → other.messages.next me can local ≡ option_map (respell_sending spell) (one.messages.next me can local)
@@ -123,11 +125,11 @@ other_job v = record { settings = record v.settings { version = v.version }; beh
 
 -- ---- the two jobs of a text
 
--- a note of the barrier, spelled as the one version has it, as the other spells it; all else is spelled alike
-abbrev pub respelled : (one other : ℕ) → Content → Content
-respelled one other content =
-    if content.handler == note_handler
-    then record content { args = note_arguments other (note_said one content.args) } else content
+-- a notification of the barrier, spelled as the one version has it, as the other spells it; all else is spelled alike
+abbrev pub spelled_as : (one other : ℕ) → Content → Content
+spelled_as one other content =
+    if content.handler == notification_handler
+    then record content { args = notification_arguments other (notification_said one content.args) } else content
 
 -- what handlers do doesn't depend on the version
 abbrev pub IgnoresVersion : (version : ℕ) → Meaning → Type 0

@@ -1,7 +1,7 @@
 -- The same job with another version of the datagram.
 use Rattle.std.specs.Prelude.{◌≡◌, ◌≤◌, ℕ, true}
 use Rattle.wire_message.specs.Content.{is_version}
-use Rattle.wire_message.specs.Notes.{most_nodes}
+use Rattle.wire_message.specs.Notifications.{most_nodes}
 use Rattle.text_job.specs.declared.job.Job.{Job as JobState}
 use Rattle.text_job.specs.JobText.{IsJob}
 use Rattle.sim_run.specs.RunText.{is_violated, run_lines}

@@ -7,7 +7,7 @@ use Rattle.std.proofs.lemmas.Option.{slice_get_read}
 use Rattle.wire_message.specs.Parameters.{Parameters}
 use Rattle.part_handlers.specs.Runs.{Meaning, IsLawfulMeaning}
 use Rattle.spec_network.specs.World.{IsAmong, world_after}
-use Rattle.node_rules.specs.EndpointRules.{transition, timed}
+use Rattle.node_rules.specs.EndpointRules.{transition, timed_event}
 use Rattle.sim_world.specs.WorldState.{WorldState}
 use Rattle.sim_world.specs.EventScopes.{EventScope, EventScopeSteps, CallFalls, IsCallable, IsPlanned, event_node}
 use Rattle.sim_world.specs.EventScopes.{ChangesOne, IsHeld}
@@ -137,13 +137,13 @@ planned v now (world_event.Tick i) aim at = λ endpoint lent.
 pub founded_after : (meaning : Meaning) (old new : WorldState) (now : ℕ) (e : WorldEvent) (a : WorldAnswer)
     → IsFounded old → StepsInWorld meaning old (transition now (event_of e) a) new → IsFounded new
 founded_after meaning old new now e (world_answers.Node answer) F steps = record {
-  records = world_after (job_in meaning old) F.records (timed now (event_of e));
-  most = most_then old.settings (world_after (job_in meaning old) F.records (timed now (event_of e))) F.most;
+  records = world_after (job_in meaning old) F.records (timed_event now (event_of e));
+  most = most_then old.settings (world_after (job_in meaning old) F.records (timed_event now (event_of e))) F.most;
   stands = (steps F.records F.most F.stands).1;
 }
 founded_after meaning old new now e world_answers.Unsent F steps = record {
-  records = world_after (job_in meaning old) F.records (timed now (event_of e));
-  most = most_then old.settings (world_after (job_in meaning old) F.records (timed now (event_of e))) F.most;
+  records = world_after (job_in meaning old) F.records (timed_event now (event_of e));
+  most = most_then old.settings (world_after (job_in meaning old) F.records (timed_event now (event_of e))) F.most;
   stands = (steps F.records F.most F.stands).1;
 }
 founded_after meaning old new now e world_answers.NoMemory F steps = record {

@@ -2,23 +2,23 @@
 use Rattle.std.proofs.Common.{ℕ, zero, suc, ◌<◌, List, [], ◌∷◌, ◌++◌, arith}
 use Rattle.std.specs.List.{AllByRecursion, flat_map}
 use Rattle.wire_message.specs.Parameters.{Parameters}
-use Rattle.spec_network.specs.World.{Ticks, Timed, IsAmong, run}
-use Rattle.node_rules.specs.EndpointRules.{OtherCall, Records, timed}
+use Rattle.spec_network.specs.World.{Ticks, EventAt, IsAmong, run}
+use Rattle.node_rules.specs.EndpointRules.{OtherCall, Records, timed_event}
 use Rattle.sim_world.specs.Settling.{WorldJob, in_turn, open_numbers, exchange_events, turn_events, row_events}
 use Rattle.sim_world.specs.Settling.{tick_events, round_events, settle_events}
 
 -- each event of the list is one of the world
-abbrev pub AreAmong : Parameters → List (Timed OtherCall) → Type 0
-AreAmong settings events = AllByRecursion (λ (timed : Timed OtherCall). IsAmong settings timed.event) events
+abbrev pub AreAmong : Parameters → List (EventAt OtherCall) → Type 0
+AreAmong settings events = AllByRecursion (λ (timed : EventAt OtherCall). IsAmong settings timed_event.event) events
 
 -- of two lists, one after the other
-pub both_among : (s : Parameters) (xs ys : List (Timed OtherCall)) → AreAmong s xs → AreAmong s ys
+pub both_among : (s : Parameters) (xs ys : List (EventAt OtherCall)) → AreAmong s xs → AreAmong s ys
     → AreAmong s (xs ++ ys)
 both_among s [] ys h k = k
 both_among s (x ∷ xs) ys h k = (h.0, both_among s xs ys h.1 k)
 
 -- of lists in turn, where those of each number are
-turns_among : (job : WorldJob) (events : ℕ → Records → List (Timed OtherCall)) (count : ℕ) (w : Records)
+turns_among : (job : WorldJob) (events : ℕ → Records → List (EventAt OtherCall)) (count : ℕ) (w : Records)
     → ((number : ℕ) (v : Records) → number < count → AreAmong job.settings (events number v))
     → AreAmong job.settings (in_turn job events count w)
 turns_among job events zero w each = tt
@@ -37,7 +37,7 @@ numbers_among s now from to (number ∷ numbers) a b =
 -- of the ticks
 ticks_among : (job : WorldJob) (now : ℕ) (w : Records) → AreAmong job.settings (tick_events job now w)
 ticks_among job now w =
-    turns_among job (λ node v. timed now (Ticks node) ∷ []) job.settings.nodes w (λ node v low. (low, tt))
+    turns_among job (λ node v. timed_event now (Ticks node) ∷ []) job.settings.nodes w (λ node v low. (low, tt))
 
 -- of the turns of the pairs of one node
 row_among : (job : WorldJob) (now from : ℕ) (w : Records) → from < job.settings.nodes

@@ -10,8 +10,8 @@ use Rattle.spec_node.specs.declared.answer.Asked.TheVariants as asked
 use Rattle.spec_node.specs.Record.{Node}
 use Rattle.spec_node.specs.Behaviour.{Ask}
 use Rattle.spec_node.specs.Credits.{limits_of}
-use Rattle.spec_node.specs.Step.{put, said, request_answer, after_request, new_request, with_request}
-use Rattle.spec_node.specs.Held.{held}
+use Rattle.spec_node.specs.Step.{put, request_content, request_answer, after_request, new_request, with_request}
+use Rattle.spec_node.specs.Held.{held_buffers}
 use Rattle.spec_node.specs.NodeStep.{Job, site_of, OfRequest, Asks, node_after}
 use Rattle.spec_node.proofs.Answers.{accepted_says}
 use Rattle.spec_node.proofs.Puts.{put_same, put_other}
@@ -22,7 +22,7 @@ use Rattle.node_core.specs.Known.{is_accepted}
 use Rattle.spec_network.specs.World.{OfNode, IsAmong, falls}
 use Rattle.node_rules.specs.EndpointRules.{transition}
 use Rattle.node_rules.specs.EndpointRules.{OtherCall, Records, asked_answer, job_of}
-use Rattle.node_rules.specs.Called.{Meant, Requests, Performs, meant, node_event, called, event_at, called_at}
+use Rattle.node_rules.specs.Called.{Meant, Requests, Performs, meant, node_event, event_of_call, event_at, called_at}
 use Rattle.node_rules.specs.Called.{IsAskedOf, HasTarget, is_of_another, is_to_other}
 use Rattle.node_endpoint.specs.EndpointState.{EndpointState, EndpointStands, NodeSteps, WouldAcceptCall}
 use Rattle.node_endpoint.specs.EndpointState.{IsNodeOf}
@@ -77,7 +77,7 @@ call_steps : (meaning : Meaning) (v z : WorldState) (now i b thread : ℕ) (m : 
     (w : Records) (most : ℕ → ℕ) → IsLawfulMeaning meaning → WorldStands v w most → i < v.settings.nodes
     → b < v.settings.nodes → Falls v z i (i * v.settings.nodes + b) old new
     → Stepping meaning v w now i (node_event thread m) answer new.endpoint
-    → new.most ≡ max old.most (held v.settings i (node_after (job_in meaning v) i (w i) now (node_event thread m)))
+    → new.most ≡ max old.most (held_buffers v.settings i (node_after (job_in meaning v) i (w i) now (node_event thread m)))
     → Sends w (put w i (node_after (job_in meaning v) i (w i) now (node_event thread m))) i b new
     → Stepped meaning v now (event_at i thread m) (world_answers.Node answer) z w most
 call_steps meaning v z now i b thread m answer old new w most lawful S low b_in F N H A =
@@ -91,7 +91,7 @@ alone_steps : (meaning : Meaning) (v z : WorldState) (now i b thread : ℕ) (k :
     → AloneFallsIn meaning old (transition now (event.Call thread k) a) new
     → StepsInWorld meaning v (transition now (called_at i thread k) a) z
 alone_steps meaning v z now i b thread k (world_answers.Node answer) old new lawful low b_in own F C = λ w most S.
-    let N = scope_steps meaning v z w most now i (i * v.settings.nodes + b) (called thread k) answer old new S F low
+    let N = scope_steps meaning v z w most now i (i * v.settings.nodes + b) (event_of_call thread k) answer old new S F low
     C.steps in
     call_steps meaning v z now i b thread (meant k) answer old new w most lawful S low b_in F N
     (most_raised v.settings v.table i _ old new N.node N.stands C.most_is)
@@ -108,14 +108,14 @@ accepted_sends : (meaning : Meaning) (v z : WorldState) (now i p q n : ℕ) (ask
     → Falls v z i (i * v.settings.nodes + ask.to) old new
     → request_answer (site_of (job_in meaning v) i) (w i) ask ≡ asked.Accepted p q n
     → new.exchanges.list ≡ asked_list old.exchanges.list (answers.Asked (asked.Accepted p q n))
-    → Sends w (put w i (with_request (w i) now ask.to q (said (site_of (job_in meaning v) i) (w i) ask))) i ask.to new
+    → Sends w (put w i (with_request (w i) now ask.to q (request_content (site_of (job_in meaning v) i) (w i) ask))) i ask.to new
 accepted_sends meaning v z now i p q n ask old new w most S i_in F e list =
     let s = v.settings in
     let j = ask.to in
     let r = w i in
     let xs = r.asked j in
     let it = accepted_says (site_of (job_in meaning v) i) r ask p q n e in
-    let content = said (site_of (job_in meaning v) i) r ask in
+    let content = request_content (site_of (job_in meaning v) i) r ask in
     let y = new_request now q content in
     let x = with_request r now j q content in
     let pair =
@@ -141,7 +141,7 @@ request_sends : (meaning : Meaning) (v z : WorldState) (now i b : ℕ) (ask : As
     → Sends w (put w i (after_request (site_of (job_in meaning v) i) (w i) now ask a)) i b new
 request_sends meaning v z now i b ask answer old new w most S i_in b_in target F N list (asked.Accepted p q n) e =
     let is = target (accepted_says (site_of (job_in meaning v) i) (w i) ask p q n e).to_in in
-    subst (λ t. Sends w (put w i (with_request (w i) now ask.to q (said (site_of (job_in meaning v) i) (w i) ask))) i t
+    subst (λ t. Sends w (put w i (with_request (w i) now ask.to q (request_content (site_of (job_in meaning v) i) (w i) ask))) i t
     new) (sym is)
     (accepted_sends meaning v z now i p q n ask old new w most S i_in
     (subst (λ t. Falls v z i (i * v.settings.nodes + t) old new) is F) e

@@ -10,14 +10,14 @@ use Rattle.wire_message.specs.Content.{Content, content_of}
 use Rattle.part_handlers.specs.declared.table.Entry.{Entry}
 use Rattle.spec_node.specs.declared.answer.Why.{Why}
 use Rattle.spec_node.specs.declared.answer.SlotRef.{SlotRef}
-use Rattle.spec_node.specs.Record.{Request, Run, Node, numbered, change}
+use Rattle.spec_node.specs.Record.{Request, Run, Node, element_at, change}
 use Rattle.spec_node.specs.Requests.{as_back}
 use Rattle.spec_node.specs.Executed.{greatest, run_of}
 use Rattle.spec_node.specs.Behaviour.{is_request}
 use Rattle.spec_node.specs.Credits.{limits_of}
 use Rattle.spec_node.specs.NodeStep.{site_of, Comes}
 use Rattle.spec_node.specs.Step.{Site, put, after_delivery, with_run, with_back, with_sender}
-use Rattle.spec_node.specs.Step.{request_slot, reply_slot, Verdict, Runs, Missed, Returns, judged, verdict, answer_by}
+use Rattle.spec_node.specs.Step.{request_slot, reply_slot, Verdict, Runs, Missed, Returns, verdict_of_number, verdict, answer_by}
 use Rattle.spec_node.specs.Invariant.{request_message, reply_message}
 use Rattle.spec_node.proofs.Answers.{runs_says, returns_says}
 use Rattle.spec_node.proofs.Lists.{numbered_in, run_of_there}
@@ -26,7 +26,7 @@ use Rattle.spec_node.specs.Under.{under}
 use Rattle.node_rules.specs.EndpointLocal.{EndpointLocal, IsEndpointKept, core_of}
 use Rattle.part_handlers.specs.Runs.{Meaning, IsLawfulMeaning}
 use Rattle.node_core.specs.ClientRules.{content_refusal}
-use Rattle.node_core.specs.Library.{run_answer, note_handler}
+use Rattle.node_core.specs.Library.{run_answer, notification_handler}
 use Rattle.spec_network.specs.World.{RequestComes, ReplyComes, request_event, reply_event}
 use Rattle.spec_network.specs.Invariant.{WorldInvariant}
 use Rattle.spec_network.proofs.Laws.{none_ran}
@@ -36,7 +36,7 @@ use Rattle.sim_world.specs.Exchanges.{with_ran, with_returned}
 use Rattle.node_endpoint.specs.EndpointState.{EndpointState}
 use Rattle.sim_world.specs.WorldState.{WorldState}
 use Rattle.sim_world.specs.EventScopes.{EventScope, ran_list, returned_list, request_envelope, reply_envelope}
-use Rattle.sim_world.specs.EventScopes.{RequestFalls, RequestRuns, RequestRepeats, repeated}
+use Rattle.sim_world.specs.EventScopes.{RequestFalls, RequestRuns, RequestRepeats, answer_to_duplicate}
 use Rattle.sim_world.specs.EventScopes.{ReplyFalls, ReplyReturns, ReplyIsLate}
 use Rattle.sim_world.specs.Stands.{StandsForPair, WorldStands}
 use Rattle.sim_world.specs.Events.{StepsInWorld, job_in}
@@ -70,7 +70,7 @@ no_run e = cc
 
 -- what didn't run isn't back
 pub not_back : (s : Parameters) (refuses : Content → Option Why) (w : Records) (i j k : ℕ) (x : Request)
-    → WorldInvariant s refuses (IsEndpointKept s) w → numbered ((w i).asked j) k ≡ Some x
+    → WorldInvariant s refuses (IsEndpointKept s) w → element_at ((w i).asked j) k ≡ Some x
     → run_of k ((w j).ran i) ≡ None
     → x.back ≡ false
 not_back s refuses w i j k x holds at none = elim (cases_Bool x.back) [
@@ -84,7 +84,7 @@ not_back s refuses w i j k x holds at none = elim (cases_Bool x.back) [
 ran_sends : (meaning : Meaning) (v z : WorldState) (now i j k : ℕ) (x : Request) (old new : EventScope) (w : Records)
     (most : ℕ → ℕ) → WorldStands v w most → i < v.settings.nodes → j < v.settings.nodes → i ≢ j
     → Falls v z j (i * v.settings.nodes + j) old new
-    → numbered ((w i).asked j) k ≡ Some x → run_of k ((w j).ran i) ≡ None
+    → element_at ((w i).asked j) k ≡ Some x → run_of k ((w j).ran i) ≡ None
     → new.exchanges.list ≡ with_ran old.exchanges.list k
     → Sends w (put w j
     (after_delivery (site_of (job_in meaning v) j) (w j) (request_message v.settings i j k x) Runs)) i j new
@@ -115,8 +115,8 @@ delivery_told meaning v m x = answers.Delivered (answer_by (job_in meaning v).be
 -- whatever the run is, the exchanges have it as run
 ran_listed : (version : ℕ) (list : List Exchange) (k : ℕ) (content : Content) (at : SlotRef)
     → ran_list list k (answers.Delivered (run_answer version content at)) ≡ with_ran list k
-ran_listed version list k content at = elim (cases_Bool (content.handler == note_handler)) [
-  | inl note ↦ rw note refl
+ran_listed version list k content at = elim (cases_Bool (content.handler == notification_handler)) [
+  | inl notification ↦ rw notification refl
   | inr other ↦ rw other refl
 ]
 
@@ -125,7 +125,7 @@ delivered_sends : (meaning : Meaning) (v z : WorldState) (now i j k : ℕ) (x : 
     (old new : EventScope) (w : Records) (most : ℕ → ℕ) → WorldStands v w most → i < v.settings.nodes
     → j < v.settings.nodes
     → i ≢ j → Falls v z j (i * v.settings.nodes + j) old new
-    → numbered ((w i).asked j) k ≡ Some x → run_of k ((w j).ran i) ≡ None → is_request x.content.kind ≡ true
+    → element_at ((w i).asked j) k ≡ Some x → run_of k ((w j).ran i) ≡ None → is_request x.content.kind ≡ true
     → Stepping meaning v w now j (Comes (request_message v.settings i j k x)) answer new.endpoint
     → new.exchanges.list ≡ ran_list old.exchanges.list k answer
     → (d : Verdict) → verdict (site_of (job_in meaning v) j) (w j) (request_message v.settings i j k x) ≡ d
@@ -150,7 +150,7 @@ first_steps : (meaning : Meaning) (v z : WorldState) (now i j k : ℕ) (x : Requ
     (answer : Answer) (old new : EventScope) (w : Records) (most : ℕ → ℕ) → IsLawfulMeaning meaning
     → WorldStands v w most
     → i < v.settings.nodes → j < v.settings.nodes → i ≢ j → Falls v z j (i * v.settings.nodes + j) old new
-    → slice_get v.endpoints i ≡ Some sender → numbered ((w i).asked j) k ≡ Some x
+    → slice_get v.endpoints i ≡ Some sender → element_at ((w i).asked j) k ≡ Some x
     → run_of k ((w j).ran i) ≡ None
     → RequestRuns meaning (record { sender = sender; slot = x.slot }) old (transition now (request_envelope i j k) answer)
     new
@@ -176,8 +176,8 @@ first_steps meaning v z now i j k x sender answer old new w most lawful S i_in j
 -- a number that isn't above the greatest one is answered by the numbers alone, and changes nothing
 repeats_by : (site : Site EndpointLocal) (r : Node EndpointLocal) (m : Message) (top : ℕ) (lock : Option ℕ)
     → m.number ≤ top
-    → (answer_by site.behaviour m (judged m.number top lock) ≡ repeated m.from m.slot (m.number == top))
-    × (after_delivery site r m (judged m.number top lock) ≡ r)
+    → (answer_by site.behaviour m (verdict_of_number m.number top lock) ≡ answer_to_duplicate m.from m.slot (m.number == top))
+    × (after_delivery site r m (verdict_of_number m.number top lock) ≡ r)
 repeats_by site r m top lock low = elim (cases_order m.number top) [
   | inl same ↦ rw (eq-eqb m.number top same) (refl, refl)
   | inr other ↦ elim other [
@@ -196,7 +196,7 @@ in_range from me slot nodes credits is_last low other below =
 again_steps : (meaning : Meaning) (v z : WorldState) (now i j k : ℕ) (x : Request) (t : Run) (answer : Answer)
     (old new : EventScope) (w : Records) (most : ℕ → ℕ) → IsLawfulMeaning meaning → WorldStands v w most
     → i < v.settings.nodes → j < v.settings.nodes → i ≢ j → Falls v z j (i * v.settings.nodes + j) old new
-    → numbered ((w i).asked j) k ≡ Some x → run_of k ((w j).ran i) ≡ Some t
+    → element_at ((w i).asked j) k ≡ Some x → run_of k ((w j).ran i) ≡ Some t
     → RequestRepeats x.slot old (transition now (request_envelope i j k) answer) new
     → Stepped meaning v now (RequestComes i j k) (world_answers.Node answer) z w most
 again_steps meaning v z now i j k x t answer old new w most lawful S i_in j_in apart F sent ran R =
@@ -217,7 +217,7 @@ again_steps meaning v z now i j k x t answer old new w most lawful S i_in j_in a
     still_steps meaning v z now (RequestComes i j k) j i j (Comes m) answer old new w most lawful S (i_in, j_in) j_in
     i_in j_in F (ap (request_event s i j k) sent)
     (R.is_answer ∙ ap (λ b. answers.Delivered b)
-    (ap (repeated i x.slot) last_is ∙ (sym by.0 ∙ ap (λ d. answer_by job.behaviour.messages m d) (sym judged_is))))
+    (ap (answer_to_duplicate i x.slot) last_is ∙ (sym by.0 ∙ ap (λ d. answer_by job.behaviour.messages m d) (sym judged_is))))
     (ap (λ d. after_delivery (site_of job j) (w j) m d) judged_is ∙ by.1) R.same
 
 -- a request that was sent
@@ -306,7 +306,7 @@ take_steps : (meaning : Meaning) (v z : WorldState) (now i j k : ℕ) (x : Reque
     (answer : Answer) (old new : EventScope) (w : Records) (most : ℕ → ℕ) → IsLawfulMeaning meaning
     → WorldStands v w most
     → i < v.settings.nodes → j < v.settings.nodes → i ≢ j → Falls v z i (i * v.settings.nodes + j) old new
-    → slice_get v.endpoints j ≡ Some sender → numbered ((w i).asked j) k ≡ Some x → x.back ≡ false
+    → slice_get v.endpoints j ≡ Some sender → element_at ((w i).asked j) k ≡ Some x → x.back ≡ false
     → run_of k ((w j).ran i) ≡ Some r
     → ReplyReturns meaning (record { sender = sender; slot = x.slot }) old (transition now (reply_envelope i j k) answer)
     new
@@ -334,7 +334,7 @@ take_steps meaning v z now i j k x r sender answer old new w most lawful S i_in 
 late_steps : (meaning : Meaning) (v z : WorldState) (now i j k : ℕ) (x : Request) (r : Run) (answer : Answer)
     (old new : EventScope) (w : Records) (most : ℕ → ℕ) → IsLawfulMeaning meaning → WorldStands v w most
     → i < v.settings.nodes → j < v.settings.nodes → Falls v z i (i * v.settings.nodes + j) old new
-    → numbered ((w i).asked j) k ≡ Some x → x.back ≡ true → run_of k ((w j).ran i) ≡ Some r
+    → element_at ((w i).asked j) k ≡ Some x → x.back ≡ true → run_of k ((w j).ran i) ≡ Some r
     → ReplyIsLate old answer new → Stepped meaning v now (ReplyComes i j k) (world_answers.Node answer) z w most
 late_steps meaning v z now i j k x r answer old new w most lawful S i_in j_in F sent back ran R =
     let s = v.settings in
@@ -344,7 +344,7 @@ late_steps meaning v z now i j k x r answer old new w most lawful S i_in j_in F 
     let says = run_says s (content_refusal s v.table) w i j k x r S.invariant_ sent ran in
     let judged_is = reply_judged job (IsEndpointKept s) w i j r x S.invariant_
     ((S.invariant_.pair i j).replies there.1.0 r there.1.1)
-    (ap (numbered ((w i).asked j)) says.0 ∙ sent) says.1 in
+    (ap (element_at ((w i).asked j)) says.0 ∙ sent) says.1 in
     let missed : verdict (site_of job i) (w i) m ≡ Missed = judged_is ∙ rw back refl in
     still_steps meaning v z now (ReplyComes i j k) i i j (Comes m) answer old new w most lawful S (i_in, j_in) i_in
     i_in j_in F (ap (reply_event s i j) ran)
@@ -383,7 +383,7 @@ reply_steps meaning v z now i j k sender world_answers.Unsent old new lawful i_i
     none_there w most S (Some r) ran =
         let there = run_of_there k ((w j).ran i) r ran in
         let x = (S.invariant_.pair i j).named there.1.0 r there.1.1 in
-        let sent : numbered ((w i).asked j) k ≡ Some x.0 = ap (numbered ((w i).asked j)) (sym there.0) ∙ x.1 in
+        let sent : element_at ((w i).asked j) k ≡ Some x.0 = ap (element_at ((w i).asked j)) (sym there.0) ∙ x.1 in
         let it = (scope_pair v z w most i i j old new S F i_in j_in).each k x.0 sent in
         absurd (true≢false (sym (it.2.ran ∙ ap is_some ran) ∙ R.unsent it.0 it.1))
 

@@ -10,7 +10,7 @@ use Rattle.spec_node.specs.Record.{Request, Node, change}
 use Rattle.spec_node.specs.Requests.{Due, sent_at}
 use Rattle.spec_node.specs.Step.{put, after_resend, after_tick, TickChoice, Retransmits, Sends, Rests}
 use Rattle.spec_node.specs.NodeStep.{site_of, node_answer, node_after}
-use Rattle.spec_node.specs.Held.{held}
+use Rattle.spec_node.specs.Held.{held_buffers}
 use Rattle.node_rules.specs.EndpointLocal.{EndpointLocal, IsEndpointKept}
 use Rattle.part_handlers.specs.Runs.{Meaning, IsLawfulMeaning}
 use Rattle.node_core.specs.ClientRules.{content_refusal}
@@ -18,7 +18,7 @@ use Rattle.spec_node.proofs.Puts.{put_same, put_other}
 use Rattle.spec_network.specs.World.{IsAmong, falls, answer_at, after_at, world_answer, world_after}
 use Rattle.spec_network.specs.MostHeld.{most_then}
 use Rattle.spec_network.specs.Invariant.{WorldInvariant}
-use Rattle.node_rules.specs.EndpointRules.{Records, RecordsEvent, RecordEvent, timed, transition, job_of, told}
+use Rattle.node_rules.specs.EndpointRules.{Records, RecordsEvent, RecordEvent, timed_event, transition, job_of, answer_told}
 use Rattle.sim_world.specs.WorldTold.{world_told}
 use Rattle.sim_world.specs.ExchangesState.{ExchangesState}
 use Rattle.node_endpoint.specs.EndpointState.{EndpointState, EndpointStands, NodeSteps, sent_to, IsNodeOf}
@@ -41,9 +41,9 @@ use Rattle.base_lists.proofs.Cases.{none_some}
 -- the answer is the records', and the world stands for the records' next ones
 abbrev pub Stepped : Meaning → WorldState → (now : ℕ) → RecordsEvent → WorldAnswer → WorldState → Records → (ℕ → ℕ)
     → Type 0
-Stepped meaning v now e a z w most = (a ≡ world_told (world_answer (job_in meaning v) w (timed now e)))
-    × WorldStands z (world_after (job_in meaning v) w (timed now e))
-    (most_then v.settings (world_after (job_in meaning v) w (timed now e)) most)
+Stepped meaning v now e a z w most = (a ≡ world_told (world_answer (job_in meaning v) w (timed_event now e)))
+    × WorldStands z (world_after (job_in meaning v) w (timed_event now e))
+    (most_then v.settings (world_after (job_in meaning v) w (timed_event now e)) most)
 
 -- ---- what was there
 
@@ -96,7 +96,7 @@ at_home s table me e P N p =
 -- the endpoint answers as the record of its node does, and stands for its next one
 pub record Stepping (meaning : Meaning) (v : WorldState) (w : Records) (now i : ℕ) (ne : RecordEvent) (answer : Answer)
     (new : EndpointState) : Type 0 where
-  pub answer_is : answer ≡ told (node_answer (job_in meaning v) i (w i) now ne)
+  pub answer_is : answer ≡ answer_told (node_answer (job_in meaning v) i (w i) now ne)
   pub stands : EndpointStands new (node_after (job_in meaning v) i (w i) now ne)
   pub node : IsNodeOf v.settings v.table i new
 
@@ -110,7 +110,7 @@ scope_steps meaning v z w most now i place ne answer old new S F low N =
     let it = scope_node v z w most i place old new S F low in
     let P : Parameters → List (Option Entry) → ℕ
     → Type 0 =
-    λ s t m. (answer ≡ told (node_answer (job_of s t meaning) m (w i) now ne)) × EndpointStands new.endpoint
+    λ s t m. (answer ≡ answer_told (node_answer (job_of s t meaning) m (w i) now ne)) × EndpointStands new.endpoint
     (node_after (job_of s t meaning) m (w i) now ne) in
     let at = at_home v.settings v.table i old.endpoint P it.0 (N.steps (w i) it.1) in
     record {
@@ -129,24 +129,24 @@ pub event_steps : (meaning : Meaning) (v z : WorldState) (now : ℕ) (e : Record
     → b < v.settings.nodes
     → Falls v z i (a * v.settings.nodes + b) old new
     → falls v.settings w e ≡ Some (record { node = i; event = ne }) → Stepping meaning v w now i ne answer new.endpoint
-    → new.most ≡ max old.most (held v.settings i (node_after (job_in meaning v) i (w i) now ne))
+    → new.most ≡ max old.most (held_buffers v.settings i (node_after (job_in meaning v) i (w i) now ne))
     → SendsAt w (put w i (node_after (job_in meaning v) i (w i) now ne)) a b new
     → Stepped meaning v now e (world_answers.Node answer) z w most
 event_steps meaning v z now e i a b ne answer old new w most lawful S among i_in b_in F at N H A =
     let s = v.settings in
     let job = job_in meaning v in
     let x = node_after job i (w i) now ne in
-    let after_is : world_after job w (timed now e) ≡ put w i x = ap (after_at job w now) at in
+    let after_is : world_after job w (timed_event now e) ≡ put w i x = ap (after_at job w now) at in
     let M : Moves v w most i x new = record {
       invariant_ =
           subst (λ (y : Records). WorldInvariant s (content_refusal v.settings v.table) (IsEndpointKept v.settings) y)
           after_is
-          (step_keeps job (IsEndpointKept v.settings) w (timed now e) (rules_sound s v.table meaning S.range lawful)
+          (step_keeps job (IsEndpointKept v.settings) w (timed_event now e) (rules_sound s v.table meaning S.range lawful)
           S.invariant_ among);
       node = N.node;
       stands = N.stands;
       most_is =
-          H ∙ ap (λ p. max p (held s i x)) (scope_most v z w most i (a * s.nodes + b) old new S F i_in);
+          H ∙ ap (λ p. max p (held_buffers s i x)) (scope_most v z w most i (a * s.nodes + b) old new S F i_in);
     } in (
       ap (λ n. world_answers.Node n) N.answer_is
           ∙ sym (ap (λ o. world_told (answer_at job w now o)) at),
@@ -158,9 +158,9 @@ event_steps meaning v z now e i a b ne answer old new w most lawful S among i_in
 -- the greatest number held, where it was raised to what the endpoint holds
 pub most_raised : (s : Parameters) (table : List (Option Entry)) (i : ℕ) (x : Node EndpointLocal) (old new : EventScope)
     → IsNodeOf s table i new.endpoint → EndpointStands new.endpoint x → MostIs old.most new.endpoint new.most
-    → new.most ≡ max old.most (held s i x)
+    → new.most ≡ max old.most (held_buffers s i x)
 most_raised s table i x old new N S H =
-    let P : Parameters → List (Option Entry) → ℕ → Type 0 = λ p t m. new.most ≡ max old.most (held p m x) in
+    let P : Parameters → List (Option Entry) → ℕ → Type 0 = λ p t m. new.most ≡ max old.most (held_buffers p m x) in
     at_home s table i new.endpoint P N (H x S)
 
 -- nothing is sent that is new
@@ -219,7 +219,7 @@ pub still_steps : (meaning : Meaning) (v z : WorldState) (now : ℕ) (e : Record
     → a < v.settings.nodes
     → b < v.settings.nodes → Falls v z i (a * v.settings.nodes + b) old new
     → falls v.settings w e ≡ Some (record { node = i; event = ne })
-    → answer ≡ told (node_answer (job_in meaning v) i (w i) now ne)
+    → answer ≡ answer_told (node_answer (job_in meaning v) i (w i) now ne)
     → node_after (job_in meaning v) i (w i) now ne ≡ w i → IsSame old new
     → Stepped meaning v now e (world_answers.Node answer) z w most
 still_steps meaning v z now e i a b ne answer old new w most lawful S among i_in a_in b_in F at answers after I =
@@ -235,9 +235,9 @@ still_steps meaning v z now e i a b ne answer old new w most lawful S among i_in
           node.1;
       node = subst (λ (d : EndpointState). IsNodeOf s v.table i d) (sym I.endpoint) node.0;
     } in
-    let highest : old.most ≡ max old.most (held s i x) =
-    most_was ∙ (max_same (most i) (held s i (w i)) (S.held_le i i_in)
-    ∙ ap₂ (λ m (r : Node EndpointLocal). max m (held s i r)) (sym most_was) (sym after)) in
+    let highest : old.most ≡ max old.most (held_buffers s i x) =
+    most_was ∙ (max_same (most i) (held_buffers s i (w i)) (S.held_le i i_in)
+    ∙ ap₂ (λ m (r : Node EndpointLocal). max m (held_buffers s i r)) (sym most_was) (sym after)) in
     event_steps meaning v z now e i a b ne answer old new w most lawful S among i_in b_in F at N
     (I.most_is ∙ highest)
     (quiet_sends v z w most i a b x old new S a_in b_in F I.list
@@ -252,7 +252,7 @@ pub nowhere_steps : (meaning : Meaning) (v z : WorldState) (now : ℕ) (e : Reco
     → Stepped meaning v now e world_answers.Unsent z w most
 nowhere_steps meaning v z now e w most same S none =
     let job = job_in meaning v in
-    let after_is : world_after job w (timed now e) ≡ w = ap (after_at job w now) none in (
+    let after_is : world_after job w (timed_event now e) ≡ w = ap (after_at job w now) none in (
       sym (ap (λ o. world_told (answer_at job w now o)) none),
       subst
           (λ (y : Records). WorldStands z y (most_then v.settings y most)) (sym after_is)

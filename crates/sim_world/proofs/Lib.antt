@@ -14,7 +14,7 @@ pub mod Aimed
 pub mod Plainly
 pub mod Reading
 pub mod Opening
-pub mod Fronts
+pub mod Prefixes
 pub mod FirstOut
 pub mod Moving
 pub mod Turns

@@ -6,11 +6,11 @@ use Rattle.std.specs.Option.{option_map}
 use Rattle.std.proofs.lemmas.Option.{same_Some}
 use Rattle.wire_message.specs.Parameters.{Parameters, AreInRange, credits_of}
 use Rattle.wire_message.specs.Message.{Message, IsMessage, spelling}
-use Rattle.wire_message.specs.Content.{Content, addressed}
+use Rattle.wire_message.specs.Content.{Content, message_at_address}
 use Rattle.part_handlers.specs.declared.table.Entry.{Entry}
 use Rattle.spec_node.specs.declared.answer.SlotRef.{SlotRef}
 use Rattle.spec_node.specs.declared.answer.Why.{Why}
-use Rattle.spec_node.specs.Record.{Request, Run, Node, numbered}
+use Rattle.spec_node.specs.Record.{Request, Run, Node, element_at}
 use Rattle.spec_node.specs.Requests.{is_open, open_in}
 use Rattle.spec_node.specs.Executed.{run_of}
 use Rattle.spec_node.specs.Step.{request_slot, reply_slot}
@@ -25,8 +25,8 @@ use Rattle.node_rules.specs.EndpointLocal.{EndpointLocal, IsEndpointKept, core_o
 use Rattle.part_handlers.specs.Runs.{Meaning, IsLawfulMeaning}
 use Rattle.node_core.specs.ClientRules.{content_refusal}
 use Rattle.spec_network.specs.Invariant.{WorldInvariant}
-use Rattle.spec_network.specs.Plain.{labelled}
-use Rattle.spec_network.specs.PlainStep.{named}
+use Rattle.spec_network.specs.Plain.{plain_request}
+use Rattle.spec_network.specs.PlainStep.{request_name}
 use Rattle.base_lists.proofs.Numbered.{numbered_map}
 use Rattle.spec_network.proofs.PlainReadings.{is_back_at, reply_of_from}
 use Rattle.spec_network.proofs.PlainSlots.{none_passes, reply_stands}
@@ -46,7 +46,7 @@ use Rattle.base_lists.proofs.Tests.{gate}
 
 -- the message of a request that isn't back stands in its slot
 pub request_stands : (s : Parameters) (refuses : Content → Option Why) (w : Records) (i j k : ℕ) (x : Request)
-    → WorldInvariant s refuses (IsEndpointKept s) w → i ≢ j → numbered ((w i).asked j) k ≡ Some x → x.back ≡ false
+    → WorldInvariant s refuses (IsEndpointKept s) w → i ≢ j → element_at ((w i).asked j) k ≡ Some x → x.back ≡ false
     → message_at s i (w i) (request_slot j x.slot) ≡ Some (spelling (request_message s i j k x))
 request_stands s refuses w i j k x holds apart at out =
     let xs = (w i).asked j in
@@ -61,36 +61,36 @@ request_stands s refuses w i j k x holds apart at out =
 
 -- a run of a request, by its number and its slot
 pub run_says : (s : Parameters) (refuses : Content → Option Why) (w : Records) (i j k : ℕ) (x : Request) (r : Run)
-    → WorldInvariant s refuses (IsEndpointKept s) w → numbered ((w i).asked j) k ≡ Some x
+    → WorldInvariant s refuses (IsEndpointKept s) w → element_at ((w i).asked j) k ≡ Some x
     → run_of k ((w j).ran i) ≡ Some r
     → (r.number ≡ k) × (x.slot ≡ r.slot)
 run_says s refuses w i j k x r holds at ran =
     let there = run_of_there k ((w j).ran i) r ran in
     let it = (holds.pair i j).named there.1.0 r there.1.1 in
-    let same : it.0 ≡ x = same_Some _ _ (sym it.1 ∙ (ap (numbered ((w i).asked j)) there.0 ∙ at)) in
+    let same : it.0 ≡ x = same_Some _ _ (sym it.1 ∙ (ap (element_at ((w i).asked j)) there.0 ∙ at)) in
     (there.0, ap (λ (y : Request). y.slot) (sym same) ∙ it.2)
 
 -- the reply of a run whose request isn't back stands in the slot of the request
 pub run_stands : (meaning : Meaning) (v : WorldState) (w : Records) (i j k : ℕ) (x : Request) (r : Run)
     → AreInRange v.settings → IsLawfulMeaning meaning
     → WorldInvariant v.settings (content_refusal v.settings v.table) (IsEndpointKept v.settings) w
-    → numbered ((w i).asked j) k ≡ Some x → x.back ≡ false → run_of k ((w j).ran i) ≡ Some r
+    → element_at ((w i).asked j) k ≡ Some x → x.back ≡ false → run_of k ((w j).ran i) ≡ Some r
     → message_at v.settings j (w j) (reply_slot i x.slot) ≡ Some (spelling (reply_message v.settings i j r))
 run_stands meaning v w i j k x r range lawful holds at out ran =
     let s = v.settings in
     let job = job_in meaning v in
     let says = run_says s (content_refusal s v.table) w i j k x r holds at ran in
-    let is = numbered_map labelled ((w i).asked j) k x at in
-    let last = none_passes job (IsEndpointKept s) w holds i j k (labelled x) is
-    (is_back_at (numbered ((w i).asked j) k) x at ∙ out) in
-    let stands = reply_stands job (IsEndpointKept s) w (rules_sound s v.table meaning range lawful) holds (named i j k)
-    (labelled x)
+    let is = numbered_map plain_request ((w i).asked j) k x at in
+    let last = none_passes job (IsEndpointKept s) w holds i j k (plain_request x) is
+    (is_back_at (element_at ((w i).asked j) k) x at ∙ out) in
+    let stands = reply_stands job (IsEndpointKept s) w (rules_sound s v.table meaning range lawful) holds (request_name i j k)
+    (plain_request x)
     r.reply is (reply_of_from ((w j).ran i) k r ran) last in
     stands.message ∙ ap Some (same_spelling s r x.slot says.1 says.0)
   where
     same_spelling : (s : Parameters) (t : Run) (slot : ℕ) → slot ≡ t.slot → t.number ≡ k
-        → spelling (addressed (address_in s j i slot k) t.reply) ≡ spelling (reply_message s i j t)
-    same_spelling s t slot e f = λ p. spelling (addressed (address_in s j i (e p) (sym f p)) t.reply)
+        → spelling (message_at_address (address_in s j i slot k) t.reply) ≡ spelling (reply_message s i j t)
+    same_spelling s t slot e f = λ p. spelling (message_at_address (address_in s j i (e p) (sym f p)) t.reply)
 
 -- ---- what comes out of it
 

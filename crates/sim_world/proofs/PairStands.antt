@@ -11,14 +11,14 @@ use Rattle.base_lists.specs.Update.{update}
 use Rattle.base_lists.proofs.Update.{slice_get-update, slice_get-update_other, length-update}
 use Rattle.wire_message.specs.Content.{Content}
 use Rattle.spec_node.specs.declared.answer.Why.{Why}
-use Rattle.spec_node.specs.Record.{Request, Run, numbered, change}
+use Rattle.spec_node.specs.Record.{Request, Run, element_at, change}
 use Rattle.spec_node.specs.Requests.{as_back, sent_at}
 use Rattle.spec_node.specs.Executed.{run_of}
 use Rattle.spec_node.specs.Credits.{Limits}
 use Rattle.spec_node.proofs.Lists.{numbered_push, numbered_kept, numbered_in, slice_get_last, numbered-change}
 use Rattle.spec_node.proofs.Lists.{length-change, run_of_there}
 use Rattle.spec_network.specs.Invariant.{PairInvariant}
-use Rattle.sim_world.specs.Exchanges.{requested, run as as_run, returned, with_ran, with_returned}
+use Rattle.sim_world.specs.Exchanges.{new_exchange, run as as_run, with_credit_back, with_ran, with_returned}
 use Rattle.sim_world.specs.Stands.{StandsForExchange, StandsForPair}
 use Rattle.sim_world.specs.declared.exchanges.Exchange.{Exchange}
 use Rattle.spec_network.proofs.RecordAdds.{run_of_new}
@@ -39,16 +39,16 @@ not_run limits refuses xs rs number P above = go (run_of number rs) refl
 -- a request is accepted: its exchange is added
 pub pair_accepted : (limits : Limits) (refuses : Content → Option Why) (list : List Exchange) (xs : List Request)
     (rs : List Run) (x : Request) → PairInvariant limits refuses xs rs → StandsForPair list xs rs → x.back ≡ false
-    → StandsForPair (list ++ requested x.slot ∷ []) (xs ++ x ∷ []) rs
+    → StandsForPair (list ++ new_exchange x.slot ∷ []) (xs ++ x ∷ []) rs
 pair_accepted limits refuses list xs rs x P S open_ =
-    let new : Exchange = requested x.slot in
+    let new : Exchange = new_exchange x.slot in
     record {
       count = length-append list (new ∷ []) ∙ (omega (arith, S.count) ∙ sym (length-append xs (x ∷ [])));
       each = λ number y e. elim (numbered_push xs x number y e) [
         | inl was ↦ (let it = S.each number y was in (it.0, numbered_kept list new number it.0 it.1, it.2))
         | inr last ↦ (
           new,
-          ap (numbered (list ++ new ∷ [])) (last.0 ∙ ap suc (sym S.count)) ∙ slice_get_last list new,
+          ap (element_at (list ++ new ∷ [])) (last.0 ∙ ap suc (sym S.count)) ∙ slice_get_last list new,
           record {
             slot = ap (λ (z : Request). z.slot) last.1;
             ran = sym (ap is_some (not_run limits refuses xs rs number P (omega (arith, last.0))));
@@ -70,8 +70,8 @@ run_of_other (t ∷ rs) r number other =
 
 -- an exchange by its number, after one was changed
 numbered_update : (list : List Exchange) (number k : ℕ) (f : Exchange → Exchange) (e : Exchange) → 1 ≤ number
-    → numbered list k ≡ Some e
-    → (y : Exchange) × (numbered (update list (number - 1) f) k ≡ Some y) ×
+    → element_at list k ≡ Some e
+    → (y : Exchange) × (element_at (update list (number - 1) f) k ≡ Some y) ×
     ((k ≡ number → y ≡ f e) × (k ≢ number → y ≡ e))
 numbered_update list number zero f e some at = absurd (cc)
 numbered_update list number (suc place) f e some at = elim (cases_eq place (number - 1)) [
@@ -123,11 +123,11 @@ pair_ran list xs rs r some none S = record {
 pub pair_returned : (list : List Exchange) (xs : List Request) (rs : List Run) (k : ℕ) → 1 ≤ k
     → StandsForPair list xs rs → StandsForPair (with_returned list k) (change as_back xs k) rs
 pair_returned list xs rs k some S = record {
-  count = length-update list (k - 1) returned ∙ (S.count ∙ sym (length-change as_back xs k));
+  count = length-update list (k - 1) with_credit_back ∙ (S.count ∙ sym (length-change as_back xs k));
   each = λ number x e.
       let y = numbered-change as_back xs k number x e in
       let it = S.each number y.0 y.1 in
-      let up = numbered_update list k number returned it.0 some it.1 in (
+      let up = numbered_update list k number with_credit_back it.0 some it.1 in (
         up.0,
         up.1,
         elim y.2 [
@@ -163,7 +163,7 @@ pair_sent now list xs rs k S = record {
 
 -- the request of an exchange
 asked_at : {X Y : Type 0} (list : List X) (xs : List Y) (k : ℕ) (e : X) → length list ≡ length xs
-    → numbered list k ≡ Some e → (x : Y) × (numbered xs k ≡ Some x)
+    → element_at list k ≡ Some e → (x : Y) × (element_at xs k ≡ Some x)
 asked_at list xs zero e same at = absurd (cc)
 asked_at list [] (suc place) e same at = let l = slice_get_within list place e at in absurd (omega arith)
 asked_at list (y ∷ xs) (suc place) e same at =
@@ -172,12 +172,12 @@ asked_at list (y ∷ xs) (suc place) e same at =
 -- the request of an exchange, and what the exchange says of it
 pub record Sent (k : ℕ) (exchange : Exchange) (xs : List Request) (rs : List Run) : Type 0 where
   pub x : Request
-  pub at : numbered xs k ≡ Some x
+  pub at : element_at xs k ≡ Some x
   pub stands : StandsForExchange exchange k x rs
 
 -- an exchange is that of a request
 pub sent_is : (list : List Exchange) (xs : List Request) (rs : List Run) (k : ℕ) (exchange : Exchange)
-    → StandsForPair list xs rs → numbered list k ≡ Some exchange → Sent k exchange xs rs
+    → StandsForPair list xs rs → element_at list k ≡ Some exchange → Sent k exchange xs rs
 sent_is list xs rs k exchange S e =
     let x = asked_at list xs k exchange S.count e in
     let it = S.each k x.0 x.1 in
@@ -189,10 +189,10 @@ sent_is list xs rs k exchange S e =
 
 -- where there is no exchange there is no request
 pub none_sent : (list : List Exchange) (xs : List Request) (rs : List Run) (k : ℕ) → StandsForPair list xs rs
-    → numbered list k ≡ None → numbered xs k ≡ None
-none_sent list xs rs k S e = go (numbered xs k) refl
+    → element_at list k ≡ None → element_at xs k ≡ None
+none_sent list xs rs k S e = go (element_at xs k) refl
   where
-    go : (o : Option Request) → numbered xs k ≡ o → numbered xs k ≡ None
+    go : (o : Option Request) → element_at xs k ≡ o → element_at xs k ≡ None
     go None f = f
     go (Some x) f = let it = S.each k x f in absurd (some_none it.0 (sym it.1 ∙ e))
       where

@@ -5,7 +5,7 @@ use Rattle.node_rules.specs.EndpointLocal.{IsEndpointKept}
 use Rattle.spec_network.specs.World.{world_answer, world_after}
 use Rattle.spec_network.specs.PlainStep.{PlainStep}
 use Rattle.spec_network.specs.Plain.{plain_of}
-use Rattle.node_rules.specs.EndpointRules.{Records, RecordsEvent, timed, transition}
+use Rattle.node_rules.specs.EndpointRules.{Records, RecordsEvent, timed_event, transition}
 use Rattle.sim_world.specs.WorldTold.{world_told}
 use Rattle.node_rules.proofs.Sound.{rules_sound}
 use Rattle.sim_world.specs.WorldState.{WorldState}
@@ -20,13 +20,13 @@ use Rattle.spec_network.proofs.PlainSteps.{step_plain}
 -- an answer that is the records' is that of a step of the plain world
 answers_plainly : (meaning : Meaning) (v : WorldState) (now : ℕ) (e : RecordsEvent) (a : WorldAnswer) (w : Records)
     (most : ℕ → ℕ)
-    → IsLawfulMeaning meaning → WorldStands v w most → a ≡ world_told (world_answer (job_in meaning v) w (timed now e))
-    → (a ≡ world_told (world_answer (job_in meaning v) w (timed now e)))
-    × PlainStep (job_in meaning v) (plain_of w) e (world_answer (job_in meaning v) w (timed now e))
-    (plain_of (world_after (job_in meaning v) w (timed now e)))
+    → IsLawfulMeaning meaning → WorldStands v w most → a ≡ world_told (world_answer (job_in meaning v) w (timed_event now e))
+    → (a ≡ world_told (world_answer (job_in meaning v) w (timed_event now e)))
+    × PlainStep (job_in meaning v) (plain_of w) e (world_answer (job_in meaning v) w (timed_event now e))
+    (plain_of (world_after (job_in meaning v) w (timed_event now e)))
 answers_plainly meaning v now e a w most lawful S is = (
   is,
-  step_plain (job_in meaning v) (IsEndpointKept v.settings) w (timed now e)
+  step_plain (job_in meaning v) (IsEndpointKept v.settings) w (timed_event now e)
       (rules_sound v.settings v.table meaning S.range lawful)
       S.invariant_,
 )

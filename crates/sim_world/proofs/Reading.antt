@@ -6,7 +6,7 @@ use Rattle.std.specs.List.{slice_get}
 use Rattle.std.proofs.lemmas.Option.{slice_get_read, same_Some}
 use Rattle.wire_message.specs.Parameters.{Parameters}
 use Rattle.part_handlers.specs.declared.table.Entry.{Entry}
-use Rattle.spec_node.specs.Record.{Request, Run, numbered}
+use Rattle.spec_node.specs.Record.{Request, Run, element_at}
 use Rattle.node_rules.specs.EndpointRules.{Records}
 use Rattle.sim_world.specs.ExchangesState.{ExchangesState}
 use Rattle.node_endpoint.specs.EndpointState.{EndpointState, EndpointStands, IsTickTarget}
@@ -127,10 +127,10 @@ tick_aim inside v now node e target to view whole low read sends there other is 
 
 -- whether a request is back, by its exchange
 pub back_is : (list : List Exchange) (xs : List Request) (rs : List Run) (k : ℕ) (e : Exchange)
-    → StandsForPair list xs rs → numbered list k ≡ Some e → e.back ≡ is_back (numbered xs k)
+    → StandsForPair list xs rs → element_at list k ≡ Some e → e.back ≡ is_back (element_at xs k)
 back_is list xs rs k e P at = let it = sent_is list xs rs k e P at in it.stands.back ∙ ap is_back (sym it.at)
 
 -- what has no exchange isn't back
 pub none_back : (list : List Exchange) (xs : List Request) (rs : List Run) (k : ℕ) → StandsForPair list xs rs
-    → numbered list k ≡ None → false ≡ is_back (numbered xs k)
+    → element_at list k ≡ None → false ≡ is_back (element_at xs k)
 none_back list xs rs k P at = ap is_back (sym (none_sent list xs rs k P at))

@@ -18,7 +18,7 @@ use Rattle.spec_node.specs.Step.{TickChoice, Retransmits, Sends, Rests}
 use Rattle.spec_node.specs.NodeStep.{OfTick, Ticks as NodeTicks, site_of, node_after}
 use Rattle.spec_node.proofs.Puts.{put_same, put_other}
 use Rattle.node_core.specs.ClientRules.{content_refusal}
-use Rattle.node_core.specs.Library.{note_handler}
+use Rattle.node_core.specs.Library.{notification_handler}
 use Rattle.spec_network.specs.World.{OfNode, Ticks}
 use Rattle.node_rules.specs.EndpointLocal.{EndpointLocal}
 use Rattle.node_rules.specs.EndpointRules.{Records, job_of, transition, sent_as}
@@ -30,7 +30,7 @@ use Rattle.sim_world.specs.WorldState.{WorldState}
 use Rattle.sim_world.specs.EventScopes.{EventScope, ScopeStage, scope_with, Happens, IsPlanned, asked_list, CallFalls}
 use Rattle.sim_world.specs.EventScopes.{AloneFallsIn}
 use Rattle.sim_world.specs.EventScopes.{AskFalls}
-use Rattle.sim_world.specs.Exchanges.{requested}
+use Rattle.sim_world.specs.Exchanges.{new_exchange}
 use Rattle.sim_world.specs.Stands.{StandsForPair, WorldStands}
 use Rattle.sim_world.specs.Events.{Accepts, StepsInWorld, job_in}
 use Rattle.sim_world.specs.declared.exchanges.Exchange.{Exchange}
@@ -73,16 +73,16 @@ sending_is Rests to e = absurd (none_some (sym e))
 
 -- how it is answered, the exchanges get the slot of its request
 sent_listed : (list : List Exchange) (content : Content) (at : SlotRef)
-    → asked_list list (answers.Ticked (sent_as content at)) ≡ list ++ requested at.slot ∷ []
-sent_listed list content at = elim (cases_Bool (content.handler == note_handler)) [
-  | inl note ↦ rw note refl
+    → asked_list list (answers.Ticked (sent_as content at)) ≡ list ++ new_exchange at.slot ∷ []
+sent_listed list content at = elim (cases_Bool (content.handler == notification_handler)) [
+  | inl notification ↦ rw notification refl
   | inr other ↦ rw other refl
 ]
 
 -- and it accepts
 sent_accepts : (content : Content) (at : SlotRef) → Accepts (OfNode (OfTick (sent_as content at)))
-sent_accepts content at = elim (cases_Bool (content.handler == note_handler)) [
-  | inl note ↦ rw note tt
+sent_accepts content at = elim (cases_Bool (content.handler == notification_handler)) [
+  | inl notification ↦ rw notification tt
   | inr other ↦ rw other tt
 ]
 
@@ -131,7 +131,7 @@ tick_happens meaning old now node planned sends answer was new e there same plan
 sending_sends : (meaning : Meaning) (v z : WorldState) (now i : ℕ) (sending : Sending) (old new : EventScope) (w : Records)
     (most : ℕ → ℕ) → WorldStands v w most → i < v.settings.nodes → sending.to < v.settings.nodes → sending.to ≢ i
     → Falls v z i (i * v.settings.nodes + sending.to) old new
-    → new.exchanges.list ≡ old.exchanges.list ++ requested (next_claim ((w i).asked sending.to)).slot ∷ []
+    → new.exchanges.list ≡ old.exchanges.list ++ new_exchange (next_claim ((w i).asked sending.to)).slot ∷ []
     → SendsAt w (put w i (after_sending (site_of (job_in meaning v) i) (w i) now sending)) i sending.to new
 sending_sends meaning v z now i sending old new w most S i_in to_in other F list =
     let s = v.settings in
@@ -167,7 +167,7 @@ tick_sends meaning v z now i to answer old new w most S i_in to_in other F N lis
     let same : to ≡ sending.to = same_Some _ _ e in
     let content = sending.content in
     let at = request_slot sending.to (next_claim ((w i).asked sending.to)).slot in
-    let listed : new.exchanges.list ≡ old.exchanges.list ++ requested at.slot ∷ [] =
+    let listed : new.exchanges.list ≡ old.exchanges.list ++ new_exchange at.slot ∷ [] =
     list ∙ (ap (asked_list old.exchanges.list) (N.answer_is
     ∙ ap (λ (c : TickChoice). answers.Ticked (tick_answer (job_in meaning v).behaviour.messages (w i) c)) is)
     ∙ sent_listed old.exchanges.list content at) in

@@ -9,7 +9,7 @@ use Rattle.wire_message.specs.Parameters.{Parameters}
 use Rattle.part_handlers.specs.declared.table.Entry.{Entry}
 use Rattle.spec_node.specs.Record.{Request, Run, Node}
 use Rattle.spec_node.specs.Step.{put}
-use Rattle.spec_node.specs.Held.{held}
+use Rattle.spec_node.specs.Held.{held_buffers}
 use Rattle.node_rules.specs.EndpointLocal.{EndpointLocal, IsEndpointKept}
 use Rattle.node_core.specs.ClientRules.{content_refusal}
 use Rattle.spec_node.proofs.Puts.{put_same, put_other}
@@ -174,7 +174,7 @@ pub record Moves (v : WorldState) (w : Records) (most : ℕ → ℕ) (i : ℕ) (
         (put w i x)
     pub node : IsNodeOf v.settings v.table i new.endpoint
     pub stands : EndpointStands new.endpoint x
-    pub most_is : new.most ≡ max (most i) (held v.settings i x)
+    pub most_is : new.most ≡ max (most i) (held_buffers v.settings i x)
 
 -- a world of the same settings and table, by its other parts
 with_settings : (v z : WorldState) (w : Records) (most : ℕ → ℕ) → z.settings ≡ v.settings → z.table ≡ v.table
@@ -242,16 +242,16 @@ moves_stand v z w most i a b x old new S b_in F M A =
             ap (slice_get z.most) e
             ∙ (set_here v.most z.most i old.most new.most F.most_was F.most_is
             ∙ ap Some (M.most_is
-            ∙ (ap (λ (r : Node EndpointLocal). max (most i) (held s i r)) (sym (put_same w i x))
-            ∙ ap (λ n. max (most n) (held s n (put w i x n))) (sym e)))))
+            ∙ (ap (λ (r : Node EndpointLocal). max (most i) (held_buffers s i r)) (sym (put_same w i x))
+            ∙ ap (λ n. max (most n) (held_buffers s n (put w i x n))) (sym e)))))
         | inr e ↦ set_there v.most z.most i k new.most F.most_is e
             ∙ (S.most_is k low ∙ ap Some
-            (max_same (most k) (held s k (w k)) (S.held_le k low)
-            ∙ ap (λ (r : Node EndpointLocal). max (most k) (held s k r)) (sym (put_other w i x k e))))
+            (max_same (most k) (held_buffers s k (w k)) (S.held_le k low)
+            ∙ ap (λ (r : Node EndpointLocal). max (most k) (held_buffers s k r)) (sym (put_other w i x k e))))
       ];
       held_le = λ k low. omega arith;
       most_few =
-          λ k low. max_few (most k) (held s k (w' k)) (greatest_holding s k) (S.most_few k low)
+          λ k low. max_few (most k) (held_buffers s k (w' k)) (greatest_holding s k) (S.most_few k low)
           (few_records s (content_refusal v.settings v.table) (IsEndpointKept v.settings) w' M.invariant_ k);
     })
 
@@ -316,10 +316,10 @@ still_stands z s w most e S = record {
   exchanges = S.exchanges;
   most_is =
       λ k low. S.most_is k low
-      ∙ ap Some (max_same (most k) (held s k (w k)) (subst (λ t. held t k (w k) ≤ most k) e (S.held_le k low)));
+      ∙ ap Some (max_same (most k) (held_buffers s k (w k)) (subst (λ t. held_buffers t k (w k) ≤ most k) e (S.held_le k low)));
   held_le = λ k low. omega (arith, S.held_le k low);
   most_few =
       λ k low. subst (λ m. m ≤ greatest_holding z.settings k)
-      (max_same (most k) (held s k (w k)) (subst (λ t. held t k (w k) ≤ most k) e (S.held_le k low)))
+      (max_same (most k) (held_buffers s k (w k)) (subst (λ t. held_buffers t k (w k) ≤ most k) e (S.held_le k low)))
       (S.most_few k low);
 }

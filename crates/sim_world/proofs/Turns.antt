@@ -6,7 +6,7 @@ use Rattle.std.specs.List.{flat_map, slice_get}
 use Rattle.std.proofs.lemmas.Option.{same_Some}
 use Rattle.std.proofs.lemmas.List.{length-map}
 use Rattle.wire_message.specs.Message.{Message}
-use Rattle.spec_node.specs.Record.{Request, Run, Node, numbered, change}
+use Rattle.spec_node.specs.Record.{Request, Run, Node, element_at, change}
 use Rattle.base_lists.proofs.Update.{slice_get-update_other}
 use Rattle.spec_node.specs.Executed.{run_of}
 use Rattle.spec_node.specs.Invariant.{request_message, reply_message}
@@ -16,12 +16,12 @@ use Rattle.spec_node.specs.Step.{Site, Verdict, Runs, Returns, verdict, after_de
 use Rattle.spec_node.proofs.Lists.{run_of_there}
 use Rattle.spec_node.proofs.Puts.{put_same, put_other}
 use Rattle.spec_node.specs.NodeStep.{Comes, node_after, site_of}
-use Rattle.spec_network.specs.Plain.{plain_of, labelled, is_back}
+use Rattle.spec_network.specs.Plain.{plain_of, plain_request, is_back}
 use Rattle.sim_world.specs.Stands.{WorldStands}
 use Rattle.sim_world.specs.WorldState.{WorldState}
-use Rattle.spec_network.specs.World.{RequestComes, ReplyComes, Timed, request_event, reply_event, after_at}
+use Rattle.spec_network.specs.World.{RequestComes, ReplyComes, EventAt, request_event, reply_event, after_at}
 use Rattle.spec_network.specs.World.{world_after, run}
-use Rattle.node_rules.specs.EndpointRules.{OtherCall, Records, timed}
+use Rattle.node_rules.specs.EndpointRules.{OtherCall, Records, timed_event}
 use Rattle.spec_network.specs.Plain.{IsFirstOut, plain_of, is_back}
 use Rattle.spec_network.proofs.PlainReadings.{is_back_says}
 use Rattle.sim_world.specs.Settling.{AreBack, WorldJob, Moves, exchange_events, turn_events, open_numbers}
@@ -40,8 +40,8 @@ change_other f xs (suc place) k n = slice_get-update_other xs place f k (λ e. n
 
 -- a request that comes changes no list of another node's requests
 request_keeps : (job : WorldJob) (w : Records) (now from to number : ℕ) → from ≢ to
-    → (world_after job w (timed now (RequestComes from to number))) from ≡ w from
-request_keeps job w now from to number n = go (numbered ((w from).asked to) number)
+    → (world_after job w (timed_event now (RequestComes from to number))) from ≡ w from
+request_keeps job w now from to number n = go (element_at ((w from).asked to) number)
   where
     go : (o : Option Request) → (after_at job w now (request_event job.settings from to number o)) from ≡ w from
     go None = refl
@@ -59,7 +59,7 @@ delivery_keeps site r m Returns k n =
 delivery_keeps site r m _ k n = refl
 
 reply_keeps : (job : WorldJob) (w : Records) (now from to number k : ℕ) → suc k ≢ number
-    → slice_get (((world_after job w (timed now (ReplyComes from to number))) from).asked to) k
+    → slice_get (((world_after job w (timed_event now (ReplyComes from to number))) from).asked to) k
     ≡ slice_get ((w from).asked to) k
 reply_keeps job w now from to number k n = go (run_of number ((w to).ran from)) refl
   where
@@ -79,7 +79,7 @@ reply_keeps job w now from to number k n = go (run_of number ((w to).ran from)) 
 exchange_keeps : (job : WorldJob) (w : Records) (now from to number k : ℕ) → from ≢ to → suc k ≢ number
     → slice_get (((run job (exchange_events now from to number) w) from).asked to) k ≡ slice_get ((w from).asked to) k
 exchange_keeps job w now from to number k n other =
-    let mid = world_after job w (timed now (RequestComes from to number)) in
+    let mid = world_after job w (timed_event now (RequestComes from to number)) in
     reply_keeps job mid now from to number k other
     ∙ ap (λ (x : Node EndpointLocal). slice_get (x.asked to) k) (request_keeps job w now from to number n)
 
@@ -129,15 +129,15 @@ abbrev pub requests_of : Turn → List Request
 requests_of turn = (turn.world turn.from).asked turn.to
 
 -- the events of the request of this number
-abbrev pub exchange_of : Turn → (number : ℕ) → List (Timed OtherCall)
+abbrev pub exchange_of : Turn → (number : ℕ) → List (EventAt OtherCall)
 exchange_of turn number = exchange_events turn.now turn.from turn.to number
 
 -- all events
-abbrev pub events_of : Turn → List (Timed OtherCall)
+abbrev pub events_of : Turn → List (EventAt OtherCall)
 events_of turn = turn_events turn.now turn.from turn.to (requests_of turn)
 
 -- the events of the requests from a place on
-abbrev pub events_from : Turn → (place : ℕ) → List (Timed OtherCall)
+abbrev pub events_from : Turn → (place : ℕ) → List (EventAt OtherCall)
 events_from turn place =
     flat_map (exchange_events turn.now turn.from turn.to) (open_numbers (suc place) (drop place (requests_of turn)))
 
@@ -166,7 +166,7 @@ events_skip turn (suc place) back =
     events_skip turn place (λ k low. back k (omega (arith, low))) ∙ events_past turn place (back place (omega arith))
 
 -- how far the turn was taken: the world stands for records from which the rest leads to the same end
-pub record Halfway (turn : Turn) (v : WorldState) (rest : List (Timed OtherCall)) : Type 0 where
+pub record Halfway (turn : Turn) (v : WorldState) (rest : List (EventAt OtherCall)) : Type 0 where
   pub records : Records
   pub most_now : ℕ → ℕ
   pub stands : WorldStands v records most_now
@@ -175,7 +175,7 @@ pub record Halfway (turn : Turn) (v : WorldState) (rest : List (Timed OtherCall)
       ≡ most_after turn.job (events_of turn) turn.world turn.most
 
 -- more events were run, up to what is left of the rest
-abbrev halfway_more : (turn : Turn) (v z : WorldState) (rest events next : List (Timed OtherCall))
+abbrev halfway_more : (turn : Turn) (v z : WorldState) (rest events next : List (EventAt OtherCall))
     (h : Halfway turn v rest) → rest ≡ events ++ next → Moves turn.job (λ x. events) v z → Halfway turn z next
 halfway_more turn v z rest events next h is moves =
     let x = h.records in
@@ -189,7 +189,7 @@ halfway_more turn v z rest events next h is moves =
     }
 
 -- the rest is the same list
-abbrev halfway_same : (turn : Turn) (v : WorldState) (rest next : List (Timed OtherCall)) (h : Halfway turn v rest)
+abbrev halfway_same : (turn : Turn) (v : WorldState) (rest next : List (EventAt OtherCall)) (h : Halfway turn v rest)
     → rest ≡ next → Halfway turn v next
 halfway_same turn v rest next h is = record {
   records = h.records;
@@ -210,7 +210,7 @@ pub record TurnLeft (turn : Turn) (v : WorldState) (place : ℕ) : Type 0 where
 -- how many requests of a pair the world says were accepted
 pub accepted_is : (w : Records) (from to count : ℕ) → count ≡ length ((plain_of w).requests from to)
     → count ≡ length ((w from).asked to)
-accepted_is w from to count e = e ∙ length-map ((w from).asked to) labelled
+accepted_is w from to count e = e ∙ length-map ((w from).asked to) plain_request
 
 -- the answer of the world tells whether the next request is back
 told_back : (o : Option Request) (b c : Bool) → b ≡ is_back o → option_map (λ (x : Request). x.back) o ≡ Some c
@@ -219,8 +219,8 @@ told_back None b c told e = absurd (cc)
 told_back (Some x) b c told e = ap Some (sym told)
 
 -- the number after a place
-numbered_next : (xs : List Request) (place : ℕ) → numbered xs (place + 1) ≡ slice_get xs place
-numbered_next xs place = ap (numbered xs) (let e : place + 1 ≡ suc place = omega arith in e)
+numbered_next : (xs : List Request) (place : ℕ) → element_at xs (place + 1) ≡ slice_get xs place
+numbered_next xs place = ap (element_at xs) (let e : place + 1 ≡ suc place = omega arith in e)
 
 -- so it was back as the turn began
 was_back : (turn : Turn) (v : WorldState) (place : ℕ) (b : Bool) (h : TurnLeft turn v place)
@@ -282,11 +282,11 @@ pub own_turn : (job : WorldJob) (v : WorldState) (now from to : ℕ) → from �
     → Moves job (λ w. turn_events now from to ((w from).asked to)) v v
 own_turn job v now from to same = λ w most h.
     let none : (w from).asked to ≡ [] = ap (λ i. (w from).asked i) (sym same) ∙ h.invariant_.own from in
-    subst (λ (es : List (Timed OtherCall)). StandsAfter job v es w most)
+    subst (λ (es : List (EventAt OtherCall)). StandsAfter job v es w most)
     (sym (ap (λ (xs : List Request). turn_events now from to xs) none)) h
 
 -- what is back in the plain world is back in the list
-back_listed : (xs : List Request) (place : ℕ) → is_back (numbered xs (suc place)) ≡ true
+back_listed : (xs : List Request) (place : ℕ) → is_back (element_at xs (suc place)) ≡ true
     → back_at xs place ≡ Some true
 back_listed xs place h =
     let it = is_back_says (slice_get xs place) h in

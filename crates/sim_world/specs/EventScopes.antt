@@ -8,17 +8,17 @@ use Rattle.spec_node.specs.declared.answer.Asked.TheVariants as asked
 use Rattle.spec_node.specs.declared.answer.Delivered.{Delivered}
 use Rattle.spec_node.specs.declared.answer.Ticked.TheVariants as ticked
 use Rattle.spec_node.specs.declared.answer.Delivered.TheVariants as delivered
-use Rattle.spec_node.specs.Record.{Node, numbered}
+use Rattle.spec_node.specs.Record.{Node, element_at}
 use Rattle.spec_node.specs.Step.{request_slot, reply_slot}
 use Rattle.spec_node.specs.SlotMessages.{message_at}
-use Rattle.spec_node.specs.Held.{held}
+use Rattle.spec_node.specs.Held.{held_buffers}
 use Rattle.node_core.specs.CoreContracts.{IsSameNode}
 use Rattle.node_rules.specs.EndpointLocal.{EndpointLocal}
 use Rattle.part_handlers.specs.Runs.{Meaning}
 use Rattle.node_core.specs.Known.{IsLastRun}
 use Rattle.node_rules.specs.EndpointRules.{transition}
 use Rattle.sim_world.specs.ExchangesState.{ExchangesState}
-use Rattle.sim_world.specs.Exchanges.{requested, with_ran, with_returned}
+use Rattle.sim_world.specs.Exchanges.{new_exchange, with_ran, with_returned}
 use Rattle.node_endpoint.specs.EndpointState.{EndpointState, EndpointStands, EndpointSteps, BytesCome, WouldAcceptAt}
 use Rattle.node_endpoint.specs.EndpointState.{ForItsRecord, IsTickTarget, MayBeCalled}
 use Rattle.sim_world.specs.declared.exchanges.Exchange.{Exchange}
@@ -47,7 +47,7 @@ pub record IsSame (old new : EventScope) : Type 0 where
 -- the greatest number held was raised to what the endpoint holds
 abbrev pub MostIs : ℕ → EndpointState → ℕ → Type 0
 MostIs old endpoint new =
-    ForItsRecord endpoint (λ node. new ≡ max old (held endpoint.core.settings endpoint.core.me node))
+    ForItsRecord endpoint (λ node. new ≡ max old (held_buffers endpoint.core.settings endpoint.core.me node))
 
 -- ---- an event of one node
 
@@ -62,13 +62,13 @@ pub record AloneFalls (meaning : Meaning) (old : EventScope) (step : Transition 
 -- time
 abbrev pub accepted_slot : Answer → Option ℕ
 accepted_slot (answers.Asked (asked.Accepted to slot number)) = Some slot
-accepted_slot (answers.Ticked (ticked.Note at)) = Some at.slot
+accepted_slot (answers.Ticked (ticked.Notification at)) = Some at.slot
 accepted_slot (answers.Ticked (ticked.Chunk at)) = Some at.slot
 accepted_slot _ = None
 
 abbrev pub with_accepted : List Exchange → Option ℕ → List Exchange
 with_accepted list None = list
-with_accepted list (Some slot) = list ++ requested slot ∷ []
+with_accepted list (Some slot) = list ++ new_exchange slot ∷ []
 
 -- what the answer to a request or a tick leaves of the exchanges
 abbrev pub asked_list : List Exchange → Answer → List Exchange
@@ -126,18 +126,19 @@ pub record HoldsMessage (sender : EndpointState) (at : SlotRef) : Type 0 where
   pub message : message_at sender.core.settings sender.core.me node at ≡ Some bytes
 
 -- a message that stands in this slot of its pair at its sender
-pub record Lodged : Type 0 where
+pub record StoredMessage : Type 0 where
   pub sender : EndpointState
   pub slot : ℕ
 
 -- what the answer to a delivered request leaves of the exchanges
 abbrev pub ran_list : List Exchange → (number : ℕ) → Answer → List Exchange
 ran_list list number (answers.Delivered (delivered.Ran at)) = with_ran list number
-ran_list list number (answers.Delivered (delivered.Noted at note)) = with_ran list number
+ran_list list number (answers.Delivered (delivered.Notified at notification)) = with_ran list number
 ran_list list number _ = list
 
 -- a request that didn't run
-pub record RequestRuns (meaning : Meaning) (lodged : Lodged) (old : EventScope) (step : Transition Envelope Answer)
+pub record RequestRuns (meaning : Meaning) (lodged : StoredMessage) (old : EventScope)
+    (step : Transition Envelope Answer)
     (new : EventScope) : Type 0 where
   pub carries : Carries meaning lodged.sender old.endpoint
       (transition step.now (request_slot step.event.receiver lodged.slot) step.answer) new.endpoint
@@ -145,9 +146,9 @@ pub record RequestRuns (meaning : Meaning) (lodged : Lodged) (old : EventScope) 
   pub most_is : MostIs old.most new.endpoint new.most
 
 -- how a request that ran in this slot is answered when it comes again, by whether it is the last one that ran there
-abbrev pub repeated : (from slot : ℕ) → (is_last : Bool) → Delivered
-repeated from slot true = delivered.Duplicate (reply_slot from slot)
-repeated from slot false = delivered.Stale
+abbrev pub answer_to_duplicate : (from slot : ℕ) → (is_last : Bool) → Delivered
+answer_to_duplicate from slot true = delivered.Duplicate (reply_slot from slot)
+answer_to_duplicate from slot false = delivered.Stale
 
 -- a request that ran
 pub record RequestRepeats (slot : ℕ) (old : EventScope) (step : Transition Envelope Answer)
@@ -155,14 +156,14 @@ pub record RequestRepeats (slot : ℕ) (old : EventScope) (step : Transition Env
   pub same : IsSame old new
   pub is_last : Bool
   pub told : IsLastRun old.endpoint.core step.event.sender slot step.event.number is_last
-  pub is_answer : step.answer ≡ answers.Delivered (repeated step.event.sender slot is_last)
+  pub is_answer : step.answer ≡ answers.Delivered (answer_to_duplicate step.event.sender slot is_last)
 
 -- a request that was sent comes
 pub record RequestComes (meaning : Meaning) (sender : EndpointState) (old : EventScope)
     (step : Transition Envelope Answer)
     (new : EventScope) : Type 0 where
   pub exchange : Exchange
-  pub sent : numbered old.exchanges.list step.event.number ≡ Some exchange
+  pub sent : element_at old.exchanges.list step.event.number ≡ Some exchange
   pub repeats : exchange.ran ≡ true → RequestRepeats exchange.slot old step new
   pub runs : exchange.ran ≡ false
       → RequestRuns meaning (record { sender = sender; slot = exchange.slot }) old step new
@@ -170,12 +171,12 @@ pub record RequestComes (meaning : Meaning) (sender : EndpointState) (old : Even
 -- it wasn't sent
 pub record NoRequest (old : EventScope) (envelope : Envelope) (new : EventScope) : Type 0 where
   pub same : IsSame old new
-  pub unsent : numbered old.exchanges.list envelope.number ≡ None
+  pub unsent : element_at old.exchanges.list envelope.number ≡ None
 
 -- a request that was sent and didn't run stands in its slot at its sender
 abbrev pub HoldsRequest : List Exchange → EndpointState → Envelope → Type 0
 HoldsRequest exchanges sender envelope =
-    (exchange : Exchange) → numbered exchanges envelope.number ≡ Some exchange → exchange.ran ≡ false
+    (exchange : Exchange) → element_at exchanges envelope.number ≡ Some exchange → exchange.ran ≡ false
     → HoldsMessage sender (request_slot envelope.receiver exchange.slot)
 
 -- a request of that number comes, where it was sent
@@ -192,7 +193,8 @@ returned_list list number (answers.Delivered (delivered.Returned to slot other))
 returned_list list number _ = list
 
 -- a reply to a request that isn't back
-pub record ReplyReturns (meaning : Meaning) (lodged : Lodged) (old : EventScope) (step : Transition Envelope Answer)
+pub record ReplyReturns (meaning : Meaning) (lodged : StoredMessage) (old : EventScope)
+    (step : Transition Envelope Answer)
     (new : EventScope) : Type 0 where
   pub carries : Carries meaning lodged.sender old.endpoint
       (transition step.now (reply_slot step.event.receiver lodged.slot) step.answer) new.endpoint
@@ -209,7 +211,7 @@ pub record ReplyComes (meaning : Meaning) (sender : EndpointState) (old : EventS
     (step : Transition Envelope Answer)
     (new : EventScope) : Type 0 where
   pub exchange : Exchange
-  pub sent : numbered old.exchanges.list step.event.number ≡ Some exchange
+  pub sent : element_at old.exchanges.list step.event.number ≡ Some exchange
   pub ran : exchange.ran ≡ true
   pub late : exchange.back ≡ true → ReplyIsLate old step.answer new
   pub returns : exchange.back ≡ false
@@ -218,13 +220,13 @@ pub record ReplyComes (meaning : Meaning) (sender : EndpointState) (old : EventS
 -- it wasn't sent: the request didn't run
 pub record NoReply (old : EventScope) (envelope : Envelope) (new : EventScope) : Type 0 where
   pub same : IsSame old new
-  pub unsent : (exchange : Exchange) → numbered old.exchanges.list envelope.number ≡ Some exchange
+  pub unsent : (exchange : Exchange) → element_at old.exchanges.list envelope.number ≡ Some exchange
       → exchange.ran ≡ false
 
 -- a reply that was sent, to a request that isn't back, stands in its slot at its sender
 abbrev pub HoldsReply : List Exchange → EndpointState → Envelope → Type 0
 HoldsReply exchanges sender envelope =
-    (exchange : Exchange) → numbered exchanges envelope.number ≡ Some exchange
+    (exchange : Exchange) → element_at exchanges envelope.number ≡ Some exchange
     → exchange.ran ≡ true → exchange.back ≡ false
     → HoldsMessage sender (reply_slot envelope.receiver exchange.slot)
 

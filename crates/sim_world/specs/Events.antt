@@ -6,7 +6,7 @@ use Rattle.part_handlers.specs.Runs.{Meaning, IsLawfulMeaning}
 use Rattle.spec_node.specs.declared.answer.Asked.TheVariants as asked
 use Rattle.spec_node.specs.declared.answer.Ticked.TheVariants as ticked
 use Rattle.spec_node.specs.NodeStep.{Job, OfRequest, OfTick}
-use Rattle.spec_network.specs.World.{Asks, RequestComes, ReplyComes, Ticks, Timed, world_answer, world_after}
+use Rattle.spec_network.specs.World.{Asks, RequestComes, ReplyComes, Ticks, EventAt, world_answer, world_after}
 use Rattle.spec_network.specs.World.{IsAmong, WorldAnswer as RecordsAnswer, OfNode}
 use Rattle.spec_network.specs.MostHeld.{most_then}
 use Rattle.spec_network.specs.PlainStep.{PlainStep}
@@ -14,7 +14,7 @@ use Rattle.spec_network.specs.Plain.{plain_of}
 use Rattle.spec_network.specs.Headline.{Headline}
 use Rattle.law_transfers.specs.TransferLaws.{TransfersHold}
 use Rattle.law_barrier.specs.BarrierLaws.{BarrierHolds}
-use Rattle.node_rules.specs.EndpointRules.{OtherCall, Records, RecordsEvent, timed, job_of}
+use Rattle.node_rules.specs.EndpointRules.{OtherCall, Records, RecordsEvent, timed_event, job_of}
 use Rattle.sim_world.specs.WorldTold.{world_told}
 use Rattle.spec_node.specs.Transition.{Transition}
 use Rattle.node_rules.specs.declared.answer.Answer.{Answer}
@@ -39,8 +39,8 @@ job_in meaning world = job_of world.settings world.table meaning
 -- by any lawful handlers, each run from the opening by events among the nodes has the headline
 abbrev pub RunsHaveTheHeadline : WorldState → Type 0
 RunsHaveTheHeadline world =
-    (meaning : Meaning) (events : List (Timed OtherCall)) → IsLawfulMeaning meaning
-    → AllByRecursion (λ (timed : Timed OtherCall). IsAmong world.settings timed.event) events
+    (meaning : Meaning) (events : List (EventAt OtherCall)) → IsLawfulMeaning meaning
+    → AllByRecursion (λ (timed : EventAt OtherCall). IsAmong world.settings timed_event.event) events
     → Headline (job_in meaning world) (λ node. nothing_begun world.settings) events
 
 -- by any lawful handlers, the laws of transfers and those of the barrier hold in each run from the opening
@@ -54,8 +54,8 @@ abbrev pub ForItsRecords : WorldState → (Records → (ℕ → ℕ) → Type 0)
 ForItsRecords world Holds = (records : Records) (most : ℕ → ℕ) → WorldStands world records most → Holds records most
 
 -- the event of a transition at its time
-abbrev pub timed_of : Transition RecordsEvent WorldAnswer → Timed OtherCall
-timed_of step = timed step.now step.event
+abbrev pub timed_of : Transition RecordsEvent WorldAnswer → EventAt OtherCall
+timed_of step = timed_event step.now step.event
 
 -- the answer is the records', and the world stands for the records' next ones
 abbrev pub StepsOn : Meaning → WorldState → Transition RecordsEvent WorldAnswer → WorldState → Type 0
@@ -67,7 +67,7 @@ StepsOn meaning old step new = ForItsRecords old (λ records most.
 -- a request is accepted: one that a thread makes, or one that a tick sends for the first time
 abbrev pub Accepts : RecordsAnswer Answer → Type 0
 Accepts (OfNode (OfRequest (asked.Accepted to slot number))) = Unit {0}
-Accepts (OfNode (OfTick (ticked.Note at))) = Unit {0}
+Accepts (OfNode (OfTick (ticked.Notification at))) = Unit {0}
 Accepts (OfNode (OfTick (ticked.Chunk at))) = Unit {0}
 Accepts _ = ⊥
 
@@ -78,7 +78,7 @@ MaySend (Ticks node) = Unit {0}
 MaySend _ = ⊥
 
 -- the event wants memory: all records for which the world stands accept a request by it to another node
-pub record WantsMemory (meaning : Meaning) (old : WorldState) (event : Timed OtherCall) : Type 0 where
+pub record WantsMemory (meaning : Meaning) (old : WorldState) (event : EventAt OtherCall) : Type 0 where
   pub request : MaySend event.event
   pub accepts : ForItsRecords old (λ records most. Accepts (world_answer (job_in meaning old) records event))
 

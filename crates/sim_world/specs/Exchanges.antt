@@ -4,8 +4,8 @@ use Rattle.base_lists.specs.Update.{update}
 use Rattle.sim_world.specs.declared.exchanges.Exchange.{Exchange}
 
 -- a new exchange, of a request in this slot
-abbrev pub requested : (slot : ℕ) → Exchange
-requested slot = record { slot = slot; ran = false; back = false }
+abbrev pub new_exchange : (slot : ℕ) → Exchange
+new_exchange slot = record { slot = slot; ran = false; back = false }
 
 abbrev pub run : Exchange → Exchange
 run exchange = record exchange { ran = true }
@@ -14,14 +14,14 @@ run exchange = record exchange { ran = true }
 abbrev pub with_ran : List Exchange → ℕ → List Exchange
 with_ran list number = update list (number - 1) run
 
-abbrev pub returned : Exchange → Exchange
-returned exchange = record exchange { back = true }
+abbrev pub with_credit_back : Exchange → Exchange
+with_credit_back exchange = record exchange { back = true }
 
 -- the exchanges, where that of the request with this number is back
 abbrev pub with_returned : List Exchange → ℕ → List Exchange
-with_returned list number = update list (number - 1) returned
+with_returned list number = update list (number - 1) with_credit_back
 
--- how many exchanges at the front of the list are back
-abbrev pub front_back : List Exchange → ℕ
-front_back [] = 0
-front_back (exchange ∷ later) = if exchange.back then suc (front_back later) else 0
+-- how many exchanges at the prefix of the list are back
+abbrev pub prefix_back : List Exchange → ℕ
+prefix_back [] = 0
+prefix_back (exchange ∷ later) = if exchange.back then suc (prefix_back later) else 0

@@ -1,9 +1,9 @@
 -- What a world keeps, of the records of its nodes.
 use Rattle.std.specs.Prelude.{ℕ, ◌≡◌, ◌+◌, ◌*◌, ◌<◌, ◌≤◌, List, length, Some, is_some, slice_get}
 use Rattle.wire_message.specs.Parameters.{AreInRange}
-use Rattle.spec_node.specs.Record.{Request, Run, numbered}
+use Rattle.spec_node.specs.Record.{Request, Run, element_at}
 use Rattle.spec_node.specs.Executed.{run_of}
-use Rattle.spec_node.specs.Held.{held}
+use Rattle.spec_node.specs.Held.{held_buffers}
 use Rattle.node_core.specs.ClientRules.{content_refusal}
 use Rattle.node_rules.specs.EndpointLocal.{IsEndpointKept}
 use Rattle.spec_network.specs.Invariant.{WorldInvariant}
@@ -26,8 +26,8 @@ pub record StandsForExchange (exchange : Exchange) (number : ℕ) (request : Req
 -- the exchanges of a pair are those of the requests that were accepted
 pub record StandsForPair (exchanges : List Exchange) (requests : List Request) (runs : List Run) : Type 0 where
   pub count : length exchanges ≡ length requests
-  pub each : (number : ℕ) (request : Request) → numbered requests number ≡ Some request
-      → (exchange : Exchange) × (numbered exchanges number ≡ Some exchange)
+  pub each : (number : ℕ) (request : Request) → element_at requests number ≡ Some request
+      → (exchange : Exchange) × (element_at exchanges number ≡ Some exchange)
       × StandsForExchange exchange number request runs
 
 -- ---- a world
@@ -46,7 +46,7 @@ pub record WorldStands (world : WorldState) (records : Records) (most : ℕ → 
       × (slice_get world.exchanges (from * world.settings.nodes + to) ≡ Some (record { list = list; room = room }))
       × StandsForPair list ((records from).asked to) ((records to).ran from)
   pub most_is : (node : ℕ) → node < world.settings.nodes → slice_get world.most node ≡ Some (most node)
-  pub held_le : (node : ℕ) → node < world.settings.nodes → held world.settings node (records node) ≤ most node
+  pub held_le : (node : ℕ) → node < world.settings.nodes → held_buffers world.settings node (records node) ≤ most node
   pub most_few : (node : ℕ) → node < world.settings.nodes → most node ≤ greatest_holding world.settings node
 
 -- some records for which the world stands

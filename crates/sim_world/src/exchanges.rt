@@ -2,8 +2,8 @@
 
 ghost use Rattle.std.specs.Prelude.{◌≡◌, ◌≤◌, ◌<◌, suc, ◌++◌, ◌∷◌, OnOk, length, [], IfSome};
 ghost use Rattle.std.specs.Prelude.{slice_get};
-ghost use Rattle.spec_node.specs.Record.{numbered};
-ghost use Rattle.sim_world.specs.Exchanges.{front_back, requested, with_ran, with_returned};
+ghost use Rattle.spec_node.specs.Record.{element_at};
+ghost use Rattle.sim_world.specs.Exchanges.{prefix_back, new_exchange, with_ran, with_returned};
 
 use std::alloc::{AllocError, Global};
 use std::marker::Model;
@@ -31,7 +31,7 @@ pub struct Exchanges {
 impl Model for Exchanges {
     ghost use Rattle.std.specs.Prelude.{◌≡◌, ◌-◌, suc, vec_len, vec_capacity};
     ghost use Rattle.sim_world.specs.ExchangesState.{ExchangesState};
-    ghost use Rattle.sim_world.specs.Exchanges.{front_back};
+    ghost use Rattle.sim_world.specs.Exchanges.{prefix_back};
 
     ghost Value = { ExchangesState };
 
@@ -40,7 +40,7 @@ impl Model for Exchanges {
       room = vec_capacity e.list - vec_len e.list;
     } };
 
-    ghost invariant = { λ e. e.first_out ≡ suc (front_back e.list.items) };
+    ghost invariant = { λ e. e.first_out ≡ suc (prefix_back e.list.items) };
 }
 
 impl Exchanges {
@@ -65,7 +65,7 @@ impl Exchanges {
     /// Adds the next request, for which there is room.
     pub fn add(&mut self, slot: u16)
         requires { 1 ≤ self.old.room }
-        ensures { self.new.list ≡ self.old.list ++ requested slot ∷ [] }
+        ensures { self.new.list ≡ self.old.list ++ new_exchange slot ∷ [] }
     {
         self.list.push_reserved(Exchange {
             slot,
@@ -76,7 +76,7 @@ impl Exchanges {
 
     /// The exchange of the request with that number, counted from 1.
     pub fn get(&self, number: u64) -> Option<Exchange>
-        ensures { result ≡ numbered self.now.list number }
+        ensures { result ≡ element_at self.now.list number }
     {
         let place = number.checked_sub(1)?;
         if place >= self.list.len() as u64 {
@@ -85,7 +85,7 @@ impl Exchanges {
         Some(self.list[place as usize])
     }
 
-    /// Notes that the request with that number, which is there, ran.
+    /// Notifications that the request with that number, which is there, ran.
     pub fn set_ran(&mut self, number: u64)
         requires first { 1 ≤ number }
         requires last { number ≤ length self.old.list }
@@ -94,7 +94,7 @@ impl Exchanges {
         self.list[(number - 1) as usize].ran = true;
     }
 
-    /// Notes that the request with that number, which is there, is back.
+    /// Notifications that the request with that number, which is there, is back.
     pub fn set_back(&mut self, number: u64)
         requires first { 1 ≤ number }
         requires last { number ≤ length self.old.list }
@@ -106,7 +106,7 @@ impl Exchanges {
 
     /// The lowest number of a request that isn't back; where all are back, the number after the last.
     pub fn first_out(&self) -> u64
-        ensures { result ≡ suc (front_back self.now.list) }
+        ensures { result ≡ suc (prefix_back self.now.list) }
     {
         self.first_out
     }
@@ -123,8 +123,8 @@ impl Exchanges {
 /// at none of those.
 fn first_out_from(list: &[Exchange], known: u64) -> u64
     requires first { 1 ≤ known }
-    requires last { known ≤ suc (front_back list.now) }
-    ensures { result ≡ suc (front_back list.now) }
+    requires last { known ≤ suc (prefix_back list.now) }
+    ensures { result ≡ suc (prefix_back list.now) }
 {
     for place in (known - 1) as usize..list.len() {
         if !list[place].back {

@@ -2,7 +2,7 @@
 
 ghost use Rattle.std.specs.Prelude.{◌≡◌, ◌<◌, ◌∷◌, [], OnOk, OnErr, IsOk};
 ghost use Rattle.spec_network.specs.World.{IsAmong};
-ghost use Rattle.node_rules.specs.EndpointRules.{timed};
+ghost use Rattle.node_rules.specs.EndpointRules.{timed_event};
 ghost use Rattle.sim_world.specs.Events.{event_of, job_in, MaySend};
 ghost use Rattle.sim_world.specs.Aims.{MayFall};
 ghost use Rattle.sim_world.specs.Settling.{Moves, turn_events, row_events, pair_events};
@@ -146,7 +146,7 @@ impl World {
         ensures table { self.new.table ≡ self.old.table }
         ensures wants { OnErr result (MaySend (event_of event.now)) }
         ensures moves { OnOk result (Moves (job_in (H.meaning handlers.now) self.old)
-            (λ world. timed now (event_of event.now) ∷ []) self.old self.new) }
+            (λ world. timed_event now (event_of event.now) ∷ []) self.old self.new) }
     {
         match self.step(handlers, now, event) {
             WorldAnswer::NoMemory => Err(AllocError),

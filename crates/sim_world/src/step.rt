@@ -6,7 +6,7 @@
 
 ghost use Rattle.std.specs.Prelude.{◌≡◌, ◌<◌, ℕ, length, Some};
 ghost use Rattle.spec_node.specs.Step.{request_slot, reply_slot};
-ghost use Rattle.sim_world.specs.EventScopes.{repeated};
+ghost use Rattle.sim_world.specs.EventScopes.{answer_to_duplicate};
 ghost use Rattle.node_core.specs.CoreContracts.{IsSameNode};
 ghost use Rattle.node_rules.specs.EndpointRules.{transition};
 ghost use Rattle.sim_world.specs.EventScopes.{AskFalls, DeliveredFalls, Happens, IsBetween, CallFalls};
@@ -102,20 +102,20 @@ fn deliver<H: Handlers>(
 {
     let (sender, receiver) = way_of(context.event);
     if sender < receiver {
-        let (front, back) = endpoints.split_at_mut(receiver as usize);
+        let (prefix, back) = endpoints.split_at_mut(receiver as usize);
         arrive(
             context,
-            &front[sender as usize],
+            &prefix[sender as usize],
             &mut back[0],
             exchanges,
             most,
         )
     } else {
-        let (front, back) = endpoints.split_at_mut(sender as usize);
+        let (prefix, back) = endpoints.split_at_mut(sender as usize);
         arrive(
             context,
             &back[0],
-            &mut front[receiver as usize],
+            &mut prefix[receiver as usize],
             exchanges,
             most,
         )
@@ -161,7 +161,7 @@ fn held_message(sender: &Endpoint, at: SlotRef) -> &[u8]
 /// one that ran there.
 #[inline(always)]
 fn repeated(from: u16, slot: u16, is_last: bool) -> Delivered
-    ensures { result ≡ repeated from slot is_last }
+    ensures { result ≡ answer_to_duplicate from slot is_last }
 {
     if is_last {
         Delivered::Duplicate(reply_slot(from, slot))
@@ -178,7 +178,7 @@ fn accepted_slot(answer: &Answer) -> Option<u16>
 {
     match answer {
         Answer::Asked(Asked::Accepted { slot, .. }) => Some(*slot),
-        Answer::Ticked(Ticked::Note(at) | Ticked::Chunk(at)) => Some(at.slot),
+        Answer::Ticked(Ticked::Notification(at) | Ticked::Chunk(at)) => Some(at.slot),
         _ => None,
     }
 }
@@ -329,7 +329,7 @@ fn deliver_request<H: Handlers>(
     }
     let bytes = held_message(sender, request_slot(to, exchange.slot));
     let answer = endpoint.step(context.handlers, context.now, &Event::Deliver { bytes });
-    if let Answer::Delivered(Delivered::Ran(_) | Delivered::Noted(..)) = answer {
+    if let Answer::Delivered(Delivered::Ran(_) | Delivered::Notified(..)) = answer {
         exchanges.set_ran(number);
     }
     *most = (*most).max(endpoint.held());

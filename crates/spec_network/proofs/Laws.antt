@@ -7,26 +7,26 @@ use Rattle.std.proofs.lemmas.Bool.Decides.{nat_tests}
 use Rattle.std.proofs.lemmas.List.{length-map}
 use Rattle.wire_message.specs.Parameters.{Parameters, credits_of}
 use Rattle.wire_message.specs.Content.{Content}
-use Rattle.base_lists.specs.Numbered.{numbered}
+use Rattle.base_lists.specs.Numbered.{element_at}
 use Rattle.base_lists.proofs.Numbered.{numbered_nil, numbered_map}
 use Rattle.spec_node.specs.declared.answer.Asked.{Asked}
 use Rattle.spec_node.specs.declared.answer.Asked.TheVariants as asked
 use Rattle.spec_node.specs.declared.answer.Why.{Why}
 use Rattle.spec_node.specs.Record.{Request, Run}
-use Rattle.spec_node.specs.Requests.{unreturned, free_slot}
+use Rattle.spec_node.specs.Requests.{outstanding, free_slot}
 use Rattle.spec_node.specs.Executed.{slots_run}
 use Rattle.spec_node.specs.Credits.{Limits, limits_of, greatest_holding}
-use Rattle.spec_node.specs.Held.{held_with, held}
+use Rattle.spec_node.specs.Held.{held_with, held_buffers}
 use Rattle.spec_node.specs.Behaviour.{Ask}
 use Rattle.spec_node.specs.Step.{claim_answer, request_answer}
 use Rattle.spec_node.specs.NodeStep.{Job, site_of, IsAllSound, OfRequest}
 use Rattle.spec_node.proofs.Holding.{held_few, no_slots}
 use Rattle.spec_network.specs.World.{World, WorldAnswer, OfNode}
 use Rattle.spec_network.specs.Invariant.{PairInvariant, WorldInvariant, Holds}
-use Rattle.spec_network.specs.Plain.{Labelled, labelled, plain_of}
+use Rattle.spec_network.specs.Plain.{PlainRequest, plain_request, plain_of}
 use Rattle.spec_network.specs.PlainStep.{Passes}
 use Rattle.spec_network.specs.Laws.{HoldsFew, NotYetExactly, RunsOnce, IsLawful}
-use Rattle.spec_network.proofs.PlainReadings.{outstanding_is}
+use Rattle.spec_network.proofs.PlainReadings.{outstanding_in_is}
 use Rattle.spec_network.proofs.PlainHeld.{counts_agree}
 use Rattle.spec_network.proofs.PlainSlots.{back_ran, requests_within, finds_its_slot, reply_stands, none_passes}
 use Rattle.spec_network.proofs.PlainSlots.{finds_its_request}
@@ -38,15 +38,15 @@ pub none_ran : (limits : Limits) (refuses : Content → Option Why) (requests : 
     → requests ≡ [] → PairInvariant limits refuses requests runs → runs ≡ []
 none_ran limits refuses requests [] e P = refl
 none_ran limits refuses requests (r ∷ runs) e P =
-    let it = P.named 0 r refl in absurd (numbered_nil r.number it.0 (ap (λ ys. numbered ys r.number) (sym e) ∙ it.1))
+    let it = P.named 0 r refl in absurd (numbered_nil r.number it.0 (ap (λ ys. element_at ys r.number) (sym e) ∙ it.1))
 
 -- no record holds more than the credits with its peers
 pub holding_few : {Local : Type 0} (settings : Parameters) (refuses : Content → Option Why)
     (IsKept : (me : ℕ) → Local → Type 0) (world : World Local) → WorldInvariant settings refuses IsKept world
-    → (i : ℕ) → held settings i (world i) ≤ greatest_holding settings i
+    → (i : ℕ) → held_buffers settings i (world i) ≤ greatest_holding settings i
 holding_few settings refuses IsKept world holds i =
     let credits = credits_of settings i i in
-    let none_asked = ap unreturned (holds.own i) in
+    let none_asked = ap outstanding (holds.own i) in
     let none =
     ap (λ rs. slots_run rs credits)
     (none_ran (limits_of settings i i) refuses ((world i).asked i) ((world i).ran i) (holds.own i) (holds.pair i i))
@@ -74,15 +74,15 @@ TellsNotYet Told a = of_request Told a ≡ of_request Told asked.NotYet
 
 -- where a number is left, a request is told so exactly where all credits are out
 not_yet_where : (Told : Type 0) (limits : Limits) (j : ℕ) (requests : List Request)
-    → unreturned requests ≤ limits.credits
+    → outstanding requests ≤ limits.credits
     → length requests < limits.last
-    → TellsNotYet Told (claim_answer limits j requests) ↔ (unreturned requests ≡ limits.credits)
+    → TellsNotYet Told (claim_answer limits j requests) ↔ (outstanding requests ≡ limits.credits)
 not_yet_where Told limits j requests few left =
     let given : leb limits.last (length requests) ≡ false = grind (arith, nat_tests) in
-    elim (cases_Bool (leb limits.credits (unreturned requests))) [
-      | inl full ↦ (let all : unreturned requests ≡ limits.credits = grind (arith, nat_tests) in
+    elim (cases_Bool (leb limits.credits (outstanding requests))) [
+      | inl full ↦ (let all : outstanding requests ≡ limits.credits = grind (arith, nat_tests) in
           ((λ e. all), λ e. rw (given, full) refl))
-      | inr free ↦ (let less : unreturned requests ≢ limits.credits = grind (arith, nat_tests) in
+      | inr free ↦ (let less : outstanding requests ≢ limits.credits = grind (arith, nat_tests) in
           ((λ e. absurd (accepted_is (rw (given, free) at e))), λ e. absurd (less e)))
     ]
   where
@@ -102,16 +102,16 @@ not_yet_exactly : {Local Call Told : Type 0} (job : Job Local Call Told) (IsKept
 not_yet_exactly {Told = Told} job IsKept world holds now i ask P left =
     let requests = (world i).asked ask.to in
     let it = not_yet_where Told (limits_of job.settings i ask.to) ask.to requests (holds.pair i ask.to).orderly.few
-    (subst (λ n. n < job.settings.last) (length-map requests labelled) left) in
+    (subst (λ n. n < job.settings.last) (length-map requests plain_request) left) in
     let is = ap (of_request Told) (claims job world i ask P) in
-    ((λ e. outstanding_is requests ∙ it.0 (sym is ∙ e)), (λ e. is ∙ it.1 (sym (outstanding_is requests) ∙ e)))
+    ((λ e. outstanding_in_is requests ∙ it.0 (sym is ∙ e)), (λ e. is ∙ it.1 (sym (outstanding_in_is requests) ∙ e)))
 
 -- ---- a state
 
 -- a request that was accepted, by what its run says
-same_labelled : (request : Request) (run : Run) → request.slot ≡ run.slot → request.content ≡ run.content
-    → ◌≡◌ {A = Labelled} (labelled request) (record { content = run.content; label = run.slot })
-same_labelled request run e f = λ t. record { content = f t; label = e t }
+same_plain_request : (request : Request) (run : Run) → request.slot ≡ run.slot → request.content ≡ run.content
+    → ◌≡◌ {A = PlainRequest} (plain_request request) (record { content = run.content; slot = run.slot })
+same_plain_request request run e f = λ t. record { content = f t; slot = e t }
 
 -- what a node ran is what was accepted, and none of it twice
 runs_once : {Local Call Told : Type 0} (job : Job Local Call Told) (IsKept : (me : ℕ) → Local → Type 0)
@@ -122,7 +122,7 @@ runs_once job IsKept world holds from to =
     record {
       accepted = λ place r e.
           let x = P.named place r e in
-          numbered_map labelled ((world from).asked to) r.number x.0 x.1 ∙ ap Some (same_labelled x.0 r x.2 x.3);
+          numbered_map plain_request ((world from).asked to) r.number x.0 x.1 ∙ ap Some (same_plain_request x.0 r x.2 x.3);
       once = P.once;
     }
 

@@ -4,7 +4,7 @@ use Rattle.std.proofs.Common.{[], Option, Some, sym, ap, ◌∙◌, subst, subst
 use Rattle.std.proofs.lemmas.Bool.{cases_eq}
 use Rattle.wire_message.specs.Parameters.{Parameters}
 use Rattle.wire_message.specs.Content.{Content}
-use Rattle.base_lists.specs.Numbered.{numbered}
+use Rattle.base_lists.specs.Numbered.{element_at}
 use Rattle.base_lists.specs.Put.{put}
 use Rattle.base_lists.proofs.Put.{put_same, put_other}
 use Rattle.spec_node.specs.declared.answer.Why.{Why}
@@ -54,7 +54,7 @@ pub asked_step : {Local : Type 0} (settings : Parameters) (refuses : Content →
     → WorldInvariant settings refuses IsKept world → IsKept from x.local → x.asked ≡ put (world from).asked to requests
     → x.ran ≡ (world from).ran
     → (to ≡ from → requests ≡ [])
-    → ((k : ℕ) (request : Request) → numbered requests k ≡ Some request
+    → ((k : ℕ) (request : Request) → element_at requests k ≡ Some request
     → (from < settings.nodes) × (to < settings.nodes))
     → PairInvariant (limits_of settings from to) refuses requests ((world to).ran from)
     → WorldInvariant settings refuses IsKept (put world from x)
@@ -72,9 +72,9 @@ asked_step settings refuses IsKept world from to x requests holds good e kept ow
       λ a. elim (put_cases (λ n. n.asked) world from x to requests e a a)
       [ inl h ↦ h.2 ∙ own (sym h.1 ∙ h.0) | inr h ↦ h ∙ holds.own a ];
   nodes = λ a b k request f. elim (put_cases (λ n. n.asked) world from x to requests e a b) [
-    | inl h ↦ (let it = there k request (ap (λ l. numbered l k) (sym h.2) ∙ f) in
+    | inl h ↦ (let it = there k request (ap (λ l. element_at l k) (sym h.2) ∙ f) in
         (subst (λ q. q < settings.nodes) (sym h.0) it.0, subst (λ q. q < settings.nodes) (sym h.1) it.1))
-    | inr h ↦ holds.nodes a b k request (ap (λ l. numbered l k) (sym h) ∙ f)
+    | inr h ↦ holds.nodes a b k request (ap (λ l. element_at l k) (sym h) ∙ f)
   ];
   kept = kept_put IsKept world from x holds.kept good;
 }
@@ -101,7 +101,7 @@ ran_step settings refuses IsKept world from to x runs holds good kept e P = reco
   own = λ a. ap (λ f. f a) (put_kept (λ n. n.asked) world from x kept a) ∙ holds.own a;
   nodes =
       λ a b k y f. holds.nodes a b k y
-      (ap (λ g. numbered (g b) k) (sym (put_kept (λ n. n.asked) world from x kept a)) ∙ f);
+      (ap (λ g. element_at (g b) k) (sym (put_kept (λ n. n.asked) world from x kept a)) ∙ f);
   kept = kept_put IsKept world from x holds.kept good;
 }
 
@@ -118,6 +118,6 @@ same_step settings refuses IsKept world i x holds good kept_asked kept_ran = rec
   own = λ a. ap (λ f. f a) (put_kept (λ n. n.asked) world i x kept_asked a) ∙ holds.own a;
   nodes =
       λ a b k y f. holds.nodes a b k y
-      (ap (λ g. numbered (g b) k) (sym (put_kept (λ n. n.asked) world i x kept_asked a)) ∙ f);
+      (ap (λ g. element_at (g b) k) (sym (put_kept (λ n. n.asked) world i x kept_asked a)) ∙ f);
   kept = kept_put IsKept world i x holds.kept good;
 }

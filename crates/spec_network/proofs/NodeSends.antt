@@ -5,7 +5,7 @@ use Rattle.std.specs.List.{Contains, slice_get}
 use Rattle.std.proofs.lemmas.Option.{same_Some}
 use Rattle.wire_message.specs.Content.{Content}
 use Rattle.wire_message.specs.Message.{Message}
-use Rattle.base_lists.specs.Numbered.{numbered}
+use Rattle.base_lists.specs.Numbered.{element_at}
 use Rattle.base_lists.proofs.Members.{contains_none, contains_one}
 use Rattle.spec_node.specs.declared.answer.Asked.{Asked}
 use Rattle.spec_node.specs.declared.answer.Asked.TheVariants as asked
@@ -15,7 +15,7 @@ use Rattle.spec_node.specs.Requests.{is_open, as_back, sent_at, next_claim}
 use Rattle.spec_node.specs.Executed.{greatest, run_of, run_at}
 use Rattle.spec_node.specs.Credits.{Limits, limits_of}
 use Rattle.spec_node.specs.Behaviour.{Ask}
-use Rattle.spec_node.specs.Step.{unless_waiting, taken_back, with_request, said, request_answer}
+use Rattle.spec_node.specs.Step.{unless_waiting, taken_back, with_request, request_content, request_answer}
 use Rattle.spec_node.specs.Step.{after_request, Verdict, Duplicated, Runs, Missed, Returns, Waits, verdict, with_sender}
 use Rattle.spec_node.specs.Step.{after_delivery, TickChoice, Retransmits, Sends, Rests, after_tick}
 use Rattle.spec_node.specs.NodeStep.{Job, site_of}
@@ -63,7 +63,7 @@ replying_had job IsKept world i from slot k (Some t) holds e p h =
     )
 
 -- the record has the request that is sent again
-asking_had : {Local : Type 0} (me to k : ℕ) (r : Node Local) (o : Option Request) → numbered (r.asked to) k ≡ o
+asking_had : {Local : Type 0} (me to k : ℕ) (r : Node Local) (o : Option Request) → element_at (r.asked to) k ≡ o
     → (p : Packet) → Contains (asking me to k o) p → (sender p ≡ me) × Has p r
 asking_had me to k r None e p h = absurd (contains_none p h)
 asking_had me to k r (Some x) e p h =
@@ -76,7 +76,7 @@ pub adds_request : {Local Call Told : Type 0} (job : Job Local Call Told) (r : N
     → Adds i r (after_request (site_of job i) r now ask a) (asked_sends (site_of job i) r ask a)
 adds_request job r now i ask (asked.Accepted peer slot k) e =
     let number = (accepted_says (site_of job i) r ask peer slot k e).number_is in
-    let c = said (site_of job i) r ask in
+    let c = request_content (site_of job i) r ask in
     subst (λ q. Adds i r (with_request r now ask.to slot c) (Asking (place_at i ask.to q slot) c ∷ [])) (sym number)
     (adds_asked i now ask.to slot c r _ refl refl)
 adds_request job r now i ask _ e = adds_same i r _ refl refl
@@ -89,7 +89,7 @@ DeliveryAdds job i r m v = Adds i r (after_delivery (site_of job i) r m v) (deli
 -- a request above every number run in its slot wasn't run
 fresh_run : (limits : Limits) (refuses : Content → Option Why) (requests : List Request) (runs : List Run) (k : ℕ)
     (request : Request)
-    (o : Option Run) → PairInvariant limits refuses requests runs → numbered requests k ≡ Some request
+    (o : Option Run) → PairInvariant limits refuses requests runs → element_at requests k ≡ Some request
     → greatest request.slot runs < k
     → run_of k runs ≡ o → run_of k runs ≡ None
 fresh_run limits refuses requests runs k request None P e more f = f
@@ -99,7 +99,7 @@ fresh_run limits refuses requests runs k request (Some t) P e more f =
 -- a request that was accepted comes
 pub adds_request_comes : {Local Call Told : Type 0} (job : Job Local Call Told) (IsKept : (me : ℕ) → Local → Type 0)
     (world : World Local) (from to number : ℕ) (request : Request) (v : Verdict) → Holds job IsKept world
-    → numbered ((world from).asked to) number ≡ Some request
+    → element_at ((world from).asked to) number ≡ Some request
     → verdict (site_of job to) (world to) (request_message job.settings from to number request) ≡ v
     → DeliveryAdds job to (world to) (request_message job.settings from to number request) v
 adds_request_comes job IsKept world from to number request Runs holds e is =

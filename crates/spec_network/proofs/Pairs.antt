@@ -3,14 +3,14 @@ use Rattle.std.proofs.Common.{◌≡◌, ◌≢◌, inl, inr, ℕ, ◌<◌, ◌�
 use Rattle.std.proofs.Common.{Some, sym, ap, ◌∙◌, subst, arith}
 use Rattle.std.specs.List.{slice_get}
 use Rattle.std.proofs.lemmas.Option.{same_Some}
-use Rattle.base_lists.specs.Numbered.{numbered, change}
+use Rattle.base_lists.specs.Numbered.{element_at, change}
 use Rattle.base_lists.proofs.Numbered.{numbered_nil, numbered_push, numbered_kept, numbered-change, numbered-changed}
 use Rattle.base_lists.proofs.Places.{slice_get_push}
 use Rattle.spec_node.specs.Credits.{Limits}
 use Rattle.wire_message.specs.Content.{Content}
 use Rattle.spec_node.specs.declared.answer.Why.{Why}
 use Rattle.spec_node.specs.Record.{Request, Run}
-use Rattle.spec_node.specs.Requests.{unreturned, as_back, sent_at}
+use Rattle.spec_node.specs.Requests.{outstanding, as_back, sent_at}
 use Rattle.spec_node.specs.Executed.{greatest, run_of}
 use Rattle.spec_node.specs.Behaviour.{asks_well, replies_well}
 use Rattle.spec_node.proofs.Runs.{greatest_bounds, run_of_kept}
@@ -33,7 +33,7 @@ pair_none limits refuses = record {
 pub pair_accepts : (limits : Limits) (refuses : Content → Option Why) (requests : List Request) (runs : List Run)
     (c : Content)
     (now : ℕ) → PairInvariant limits refuses requests runs → asks_well refuses c ≡ true
-    → unreturned requests < limits.credits
+    → outstanding requests < limits.credits
     → length requests < limits.last → PairInvariant limits refuses (requests ++ asks requests c now ∷ []) runs
 pair_accepts limits refuses requests runs c now P good free left = record {
   orderly = orderly_accepts limits requests c now P.orderly free left;
@@ -54,7 +54,7 @@ pair_accepts limits refuses requests runs c now P good free left = record {
 -- a request runs
 pub pair_runs : (limits : Limits) (refuses : Content → Option Why) (requests : List Request) (runs : List Run) (k : ℕ)
     (request : Request)
-    (reply : Content) → PairInvariant limits refuses requests runs → numbered requests k ≡ Some request
+    (reply : Content) → PairInvariant limits refuses requests runs → element_at requests k ≡ Some request
     → greatest request.slot runs < k
     → replies_well refuses reply ≡ true
     → PairInvariant limits refuses requests
@@ -63,7 +63,7 @@ pair_runs limits refuses requests runs k request reply P e g good =
     let new : Run = record { number = k; slot = request.slot; content = request.content; reply = reply } in
     let is_new : (p : ℕ) (run : Run) → slice_get runs p ≡ Some run → run.number ≢ k = λ p run f same.
     let it = P.named p run f in
-    let i : it.0 ≡ request = same_Some _ _ (sym it.1 ∙ (ap (numbered requests) same ∙ e)) in
+    let i : it.0 ≡ request = same_Some _ _ (sym it.1 ∙ (ap (element_at requests) same ∙ e)) in
     let slot : run.slot ≡ request.slot = sym it.2 ∙ ap (λ (z : Request). z.slot) i in
     omega (arith, subst (λ q. run.number ≤ greatest q runs) slot (greatest_bounds runs p run f)) in
     record {
@@ -77,7 +77,7 @@ pair_runs limits refuses requests runs k request reply P e g good =
         | inl h ↦ P.named p run h
         | inr h ↦ (
           request,
-          ap (λ (z : Run). numbered requests z.number) (sym h.1)
+          ap (λ (z : Run). element_at requests z.number) (sym h.1)
               ∙ e,
           ap (λ (z : Run). z.slot) h.1,
           ap (λ (z : Run). z.content) h.1,

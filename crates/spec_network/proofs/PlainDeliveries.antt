@@ -8,7 +8,7 @@ use Rattle.std.proofs.lemmas.Bool.{cases_Bool, cases_order, and_parts}
 use Rattle.std.proofs.lemmas.Option.{same_Some}
 use Rattle.wire_message.specs.Parameters.{credits_of}
 use Rattle.wire_message.specs.Content.{Content}
-use Rattle.base_lists.specs.Numbered.{numbered}
+use Rattle.base_lists.specs.Numbered.{element_at}
 use Rattle.base_lists.specs.Put.{put}
 use Rattle.base_lists.proofs.Cases.{cases_option, none_some, none_is}
 use Rattle.base_lists.proofs.Numbered.{numbered_in, numbered_map, numbered_mapped}
@@ -19,7 +19,7 @@ use Rattle.spec_node.specs.Record.{Request, Run}
 use Rattle.spec_node.specs.Executed.{greatest, run_of}
 use Rattle.spec_node.specs.Credits.{Limits, limits_of}
 use Rattle.spec_node.specs.Behaviour.{RanRequest, is_request, asks_well, replies_well}
-use Rattle.spec_node.specs.Step.{refusal, Verdict, Duplicated, Passed, Runs, Missed, Returns, Waits, judged, taken_back}
+use Rattle.spec_node.specs.Step.{refusal, Verdict, Duplicated, Passed, Runs, Missed, Returns, Waits, verdict_of_number, taken_back}
 use Rattle.spec_node.specs.Step.{verdict, answer_by, with_sender, reply_slot, after_delivery}
 use Rattle.spec_node.specs.NodeStep.{Job, site_of, IsAllSound}
 use Rattle.spec_node.specs.Invariant.{request_message, reply_message}
@@ -28,9 +28,9 @@ use Rattle.spec_node.proofs.Answers.{no_request}
 use Rattle.spec_network.specs.World.{World, RequestComes, ReplyComes, request_event}
 use Rattle.spec_network.specs.World.{reply_event, answer_at, after_at}
 use Rattle.spec_network.specs.Invariant.{PairInvariant, Holds}
-use Rattle.spec_network.specs.Plain.{Labelled, plain_of, labelled, replied, is_among, InRuns}
+use Rattle.spec_network.specs.Plain.{PlainRequest, plain_of, plain_request, run_reply, is_among, InRuns}
 use Rattle.spec_network.specs.Plain.{with_credit}
-use Rattle.spec_network.specs.PlainStep.{named, IsToTake, RunStep, TakeStep}
+use Rattle.spec_network.specs.PlainStep.{request_name, IsToTake, RunStep, TakeStep}
 use Rattle.spec_network.specs.PlainStep.{PlainStep}
 use Rattle.spec_network.proofs.PlainReadings.{is_back_at, among_from, from_among}
 use Rattle.spec_network.proofs.PlainReadings.{reply_of_from}
@@ -40,13 +40,13 @@ use Rattle.spec_network.proofs.PlainParts.{plain_back}
 -- where a request with this number was run, the slot's greatest number isn't below it
 pub past : (limits : Limits) (refuses : Content → Option Why) (requests : List Request) (runs : List Run) (l : ℕ)
     (request : Request)
-    (run : Run) → PairInvariant limits refuses requests runs → numbered requests l ≡ Some request
+    (run : Run) → PairInvariant limits refuses requests runs → element_at requests l ≡ Some request
     → run_of l runs ≡ Some run
     → l ≤ greatest request.slot runs
 past limits refuses requests runs l request run P e f =
     let at = run_of_there l runs run f in
     let y = P.named at.1.0 run at.1.1 in
-    let i : y.0 ≡ request = same_Some _ _ (sym y.1 ∙ (ap (numbered requests) at.0 ∙ e)) in
+    let i : y.0 ≡ request = same_Some _ _ (sym y.1 ∙ (ap (element_at requests) at.0 ∙ e)) in
     let slot : run.slot ≡ request.slot = sym y.2 ∙ ap (λ (z : Request). z.slot) i in
     omega (arith, at.0, subst (λ q. run.number ≤ greatest q runs) slot (greatest_bounds runs at.1.0 run at.1.1))
 
@@ -54,15 +54,15 @@ past limits refuses requests runs l request run P e f =
 pub greatest_run : (limits : Limits) (refuses : Content → Option Why) (requests : List Request) (runs : List Run)
     (slot : ℕ)
     → PairInvariant limits refuses requests runs → 0 < greatest slot runs
-    → (request : Request) × (numbered requests (greatest slot runs) ≡ Some request) × (request.slot ≡ slot) ×
-    (is_among (greatest slot runs) (map replied runs) ≡ true)
+    → (request : Request) × (element_at requests (greatest slot runs) ≡ Some request) × (request.slot ≡ slot) ×
+    (is_among (greatest slot runs) (map run_reply runs) ≡ true)
 greatest_run limits refuses requests runs slot P some = elim (greatest_there slot runs) [
   | inl none ↦ absurd (omega (arith, none))
   | inr it ↦ (let request = P.named it.0 it.1 it.2 in let t = run_of_from runs it.0 it.1 it.2 in (
     request.0,
-    ap (numbered requests) (sym it.4) ∙ request.1,
+    ap (element_at requests) (sym it.4) ∙ request.1,
     request.2 ∙ it.3,
-    ap (λ k. is_among k (map replied runs)) (sym it.4)
+    ap (λ k. is_among k (map run_reply runs)) (sym it.4)
         ∙ among_from runs it.1.number t.0 t.1,
   ))
 ]
@@ -106,15 +106,15 @@ abbrev RunIsPlain : {Local Call Told : Type 0} → Job Local Call Told → World
     → Type 0
 RunIsPlain job world from to number x v =
     let m = request_message job.settings from to number x in
-    RunStep job.behaviour.messages (plain_of world) (named from to number) (answer_by job.behaviour.messages m v)
+    RunStep job.behaviour.messages (plain_of world) (request_name from to number) (answer_by job.behaviour.messages m v)
     (plain_of (put world to (after_delivery (site_of job to) (world to) m v)))
 
 -- a request that was accepted is judged by its number
 pub request_judged : {Local Call Told : Type 0} (job : Job Local Call Told) (IsKept : (me : ℕ) → Local → Type 0)
     (world : World Local) (from to number : ℕ) (request : Request) → Holds job IsKept world
-    → numbered ((world from).asked to) number ≡ Some request
+    → element_at ((world from).asked to) number ≡ Some request
     → verdict (site_of job to) (world to) (request_message job.settings from to number request)
-    ≡ judged number (greatest request.slot ((world to).ran from))
+    ≡ verdict_of_number number (greatest request.slot ((world to).ran from))
     (job.behaviour.messages.waits request.content (world to).local)
 request_judged job IsKept world from to number request holds e =
     let P = holds.pair from to in
@@ -129,10 +129,10 @@ request_judged job IsKept world from to number request holds e =
 first_run : {Local Call Told : Type 0} (job : Job Local Call Told) (IsKept : (me : ℕ) → Local → Type 0)
     (world : World Local)
     (from to number : ℕ) (x : Request) → IsAllSound job.behaviour IsKept
-    → numbered ((world from).asked to) number ≡ Some x
+    → element_at ((world from).asked to) number ≡ Some x
     → (InRuns (plain_of world) from to number → ⊥) → job.behaviour.messages.waits x.content (world to).local ≡ None
     → (a : Delivered) → job.behaviour.messages.runs_as x.content (reply_slot from x.slot) ≡ a
-    → RunStep job.behaviour.messages (plain_of world) (named from to number) a
+    → RunStep job.behaviour.messages (plain_of world) (request_name from to number) a
     (plain_of (put world to
     (after_delivery (site_of job to) (world to) (request_message job.settings from to number x) Runs)))
 first_run job IsKept world from to number x sound e new free a is =
@@ -141,15 +141,15 @@ first_run job IsKept world from to number x sound e new free a is =
   where
     go : (a : Delivered) → job.behaviour.messages.runs_as x.content (reply_slot from x.slot) ≡ a
         → RanRequest a (reply_slot from x.slot)
-        → RunStep job.behaviour.messages (plain_of world) (named from to number) a
+        → RunStep job.behaviour.messages (plain_of world) (request_name from to number) a
         (plain_of (put world to
         (after_delivery (site_of job to) (world to) (request_message job.settings from to number x) Runs)))
     go (delivered.Duplicate at) f run = absurd run
     go delivered.Stale f run = absurd run
     go (delivered.Deferred lock) f run = absurd run
     go a f run = record {
-      request = labelled x;
-      fresh = record { is = numbered_map labelled ((world from).asked to) number x e; new = new };
+      request = plain_request x;
+      fresh = record { is = numbered_map plain_request ((world from).asked to) number x e; new = new };
       free = free;
       runs_as = sym f;
       is_run = run;
@@ -160,7 +160,7 @@ first_run job IsKept world from to number x sound e new free a is =
 run_step : {Local Call Told : Type 0} (job : Job Local Call Told) (IsKept : (me : ℕ) → Local → Type 0)
     (world : World Local)
     (from to number : ℕ) (request : Request) → IsAllSound job.behaviour IsKept → Holds job IsKept world
-    → numbered ((world from).asked to) number ≡ Some request
+    → element_at ((world from).asked to) number ≡ Some request
     → RunIsPlain job world from to number request
     (verdict (site_of job to) (world to) (request_message job.settings from to number request))
 run_step job IsKept world from to number request sound holds e =
@@ -170,19 +170,19 @@ run_step job IsKept world from to number request sound holds e =
     let runs = (world to).ran from in
     let top = greatest request.slot runs in
     let P = holds.pair from to in
-    let is = numbered_map labelled requests number request e in
+    let is = numbered_map plain_request requests number request e in
     let from_one = numbered_in requests number request e in
     let judged_is = request_judged job IsKept world from to number request holds e in
     elim (cases_order number top) [
       | inl same ↦ (let last =
           greatest_run limits refuses requests runs request.slot P (omega (arith, same, from_one.0)) in
           at Duplicated (judged_is ∙ rw (eq-eqb number top same) refl) (
-            labelled request,
-            record { is = is; ran = ap (λ q. is_among q (map replied runs)) same ∙ last.3 },
+            plain_request request,
+            record { is = is; ran = ap (λ q. is_among q (map run_reply runs)) same ∙ last.3 },
             (λ passed.
-                let y = numbered_mapped labelled requests passed.0 passed.1 passed.3 in
+                let y = numbered_mapped plain_request requests passed.0 passed.1 passed.3 in
                 let r = from_among runs passed.0 passed.5 in
-                let slot : y.0.slot ≡ request.slot = ap (λ (z : Labelled). z.label) y.2 ∙ passed.4 in
+                let slot : y.0.slot ≡ request.slot = ap (λ (z : PlainRequest). z.slot) y.2 ∙ passed.4 in
                 omega (
                   arith,
                   same,
@@ -199,9 +199,9 @@ run_step job IsKept world from to number request sound holds e =
             let ran = P.back_ran number request e back in
             let below : ltb number top ≡ true = grind (arith, nat_tests) in
             at Passed (judged_is ∙ rw (ne_eqb number top (λ f. omega (arith, f, less)), below) refl) (
-              labelled request,
+              plain_request request,
               record { is = is; ran = among_from runs number ran.0 ran.1 },
-              (top, labelled last.0, less, numbered_map labelled requests top last.0 last.1, last.2, last.3),
+              (top, plain_request last.0, less, numbered_map plain_request requests top last.0 last.1, last.2, last.3),
               plain_same world to,
             ))
         | inr more ↦ (let above : ltb number top ≡ false = grind (arith, nat_tests) in
@@ -213,7 +213,7 @@ run_step job IsKept world from to number request sound holds e =
                   (first_run job IsKept world from to number request sound e new free _ refl)
               | inr lock ↦ at (Waits lock.0)
                   (judged_is ∙ rw (ne_eqb number top (λ f. omega (arith, f, more)), above, lock.1) refl)
-                  (labelled request, record { is = is; new = new }, lock.1, plain_same world to)
+                  (plain_request request, record { is = is; new = new }, lock.1, plain_same world to)
             ])
       ]
     ]
@@ -230,14 +230,14 @@ abbrev TakeIsPlain : {Local Call Told : Type 0} → Job Local Call Told → Worl
     → Type 0
 TakeIsPlain job world from to number r v =
     let m = reply_message job.settings from to r in
-    TakeStep job.behaviour.messages (plain_of world) (named from to number) (answer_by job.behaviour.messages m v)
+    TakeStep job.behaviour.messages (plain_of world) (request_name from to number) (answer_by job.behaviour.messages m v)
     (plain_of (put world from (after_delivery (site_of job from) (world from) m v)))
 
 -- the reply of a run is taken back by the request with its number
 pub reply_judged : {Local Call Told : Type 0} (job : Job Local Call Told) (IsKept : (me : ℕ) → Local → Type 0)
     (world : World Local) (from to : ℕ) (run : Run) (request : Request) → Holds job IsKept world
     → replies_well job.behaviour.messages.refuses run.reply ≡ true
-    → numbered ((world from).asked to) run.number ≡ Some request → request.slot ≡ run.slot
+    → element_at ((world from).asked to) run.number ≡ Some request → request.slot ≡ run.slot
     → verdict (site_of job from) (world from) (reply_message job.settings from to run)
     ≡ taken_back run.slot (Some request) (job.behaviour.messages.waits run.reply (world from).local)
 reply_judged job IsKept world from to run request holds good e same =
@@ -261,19 +261,19 @@ take_step job IsKept world i j k run holds e =
     let P = holds.pair i j in
     let at_run = run_of_there k runs run e in
     let x = P.named at_run.1.0 run at_run.1.1 in
-    let is : numbered requests k ≡ Some x.0 = subst (λ q. numbered requests q ≡ Some x.0) at_run.0 x.1 in
+    let is : element_at requests k ≡ Some x.0 = subst (λ q. element_at requests q ≡ Some x.0) at_run.0 x.1 in
     let judged_is = reply_judged job IsKept world i j run x.0 holds (P.replies at_run.1.0 run at_run.1.1) x.1 x.2 in
     elim (cases_Bool x.0.back) [
       | inl back ↦ at Missed (judged_is ∙ rw back refl)
-          (is_back_at (numbered requests k) x.0 is ∙ back, plain_same world i)
-      | inr out ↦ (let to_take : IsToTake (plain_of world) (named i j k) (labelled x.0) run.reply = record {
-        is = numbered_map labelled requests k x.0 is;
+          (is_back_at (element_at requests k) x.0 is ∙ back, plain_same world i)
+      | inr out ↦ (let to_take : IsToTake (plain_of world) (request_name i j k) (plain_request x.0) run.reply = record {
+        is = numbered_map plain_request requests k x.0 is;
         reply_is = reply_of_from runs k run e;
-        out = is_back_at (numbered requests k) x.0 is ∙ out;
+        out = is_back_at (element_at requests k) x.0 is ∙ out;
       } in
           elim (cases_option (u.waits run.reply (world i).local)) [
             | inl free ↦ at Returns (judged_is ∙ rw (out, eq-eqb x.0.slot run.slot x.2, free) refl) (record {
-              request = labelled x.0;
+              request = plain_request x.0;
               reply = run.reply;
               to_take = to_take;
               free = free;
@@ -285,7 +285,7 @@ take_step job IsKept world i j k run holds e =
                   (sym x.2) at_run.0;
             })
             | inr lock ↦ at (Waits lock.0) (judged_is ∙ rw (out, eq-eqb x.0.slot run.slot x.2, lock.1) refl)
-                (labelled x.0, run.reply, to_take, lock.1, plain_same world i)
+                (plain_request x.0, run.reply, to_take, lock.1, plain_same world i)
           ])
     ]
   where
@@ -298,11 +298,11 @@ take_step job IsKept world i j k run holds e =
 pub request_comes : {Local Call Told : Type 0} (job : Job Local Call Told) (IsKept : (me : ℕ) → Local → Type 0)
     (world : World Local)
     (now i j k : ℕ) (o : Option Request) → IsAllSound job.behaviour IsKept → Holds job IsKept world
-    → numbered ((world i).asked j) k ≡ o
+    → element_at ((world i).asked j) k ≡ o
     → PlainStep job (plain_of world) (RequestComes i j k) (answer_at job world now (request_event job.settings i j k o))
     (plain_of (after_at job world now (request_event job.settings i j k o)))
 request_comes job IsKept world now i j k None sound holds e =
-    ((λ x f. let y = numbered_mapped labelled ((world i).asked j) k x f in none_some (sym e ∙ y.1)), refl)
+    ((λ x f. let y = numbered_mapped plain_request ((world i).asked j) k x f in none_some (sym e ∙ y.1)), refl)
 request_comes job IsKept world now i j k (Some x) sound holds e = run_step job IsKept world i j k x sound holds e
 
 -- a reply comes, if it was sent

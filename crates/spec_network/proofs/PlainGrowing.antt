@@ -6,14 +6,14 @@ use Rattle.std.proofs.Math.Bool.{or-false}
 use Rattle.std.proofs.lemmas.Bool.{cases_Bool, cases_eq, or_right}
 use Rattle.std.proofs.lemmas.List.Folds.{list_any-append}
 use Rattle.wire_message.specs.Content.{Content}
-use Rattle.base_lists.specs.Numbered.{numbered}
+use Rattle.base_lists.specs.Numbered.{element_at}
 use Rattle.base_lists.specs.Put.{put}
 use Rattle.base_lists.proofs.Numbered.{numbered_kept}
 use Rattle.base_lists.proofs.Put.{put_same, put_other}
 use Rattle.spec_node.specs.declared.answer.Delivered.{Delivered}
 use Rattle.spec_node.specs.NodeStep.{Job, OfDelivery}
 use Rattle.spec_network.specs.World.{Event, RequestComes, ReplyComes, WorldAnswer, OfNode}
-use Rattle.spec_network.specs.Plain.{Plain, Labelled, Replied, InRuns, is_among, reply_of, put_pair, with_plain}
+use Rattle.spec_network.specs.Plain.{Plain, PlainRequest, RunReply, InRuns, is_among, reply_of, put_pair, with_plain}
 use Rattle.spec_network.specs.Plain.{with_replied, with_credit}
 use Rattle.spec_network.specs.PlainStep.{PlainStep}
 use Rattle.spec_network.specs.Headline.{Grows, IsRanAnswer, IsReturned}
@@ -47,7 +47,7 @@ pair_has P f from to y a b go h = elim (pair_cases f from to y a b) [
 ]
 
 -- a reply that is there is there with one run more
-reply_of_kept : (k : ℕ) (rs : List Replied) (t : Replied) (c : Content) → reply_of k rs ≡ Some c
+reply_of_kept : (k : ℕ) (rs : List RunReply) (t : RunReply) (c : Content) → reply_of k rs ≡ Some c
     → reply_of k (rs ++ t ∷ []) ≡ Some c
 reply_of_kept k [] t c e = absurd (cc)
 reply_of_kept k (r ∷ rs) t c e = elim (cases_eq r.number k) [
@@ -66,18 +66,18 @@ grows_local p q i l e =
     subst (Grows p) (sym e) (record { requests = λ a b k x h. h; runs = λ a b k c h. h; back = λ a b k h. h })
 
 -- a request is accepted
-grows_asked : {Local : Type 0} (p q : Plain Local) (from to : ℕ) (request : Labelled) (local : ℕ → Local)
+grows_asked : {Local : Type 0} (p q : Plain Local) (from to : ℕ) (request : PlainRequest) (local : ℕ → Local)
     → q ≡ with_asked p from to request local → Grows p q
 grows_asked p q from to request local e = subst (Grows p) (sym e) (record {
   requests = λ a b k y h.
-      pair_has (λ xs. numbered xs k ≡ Some y) p.requests from to _ a b
+      pair_has (λ xs. element_at xs k ≡ Some y) p.requests from to _ a b
       (λ g. numbered_kept (p.requests from to) request k y g) h;
   runs = λ a b k d h. h;
   back = λ a b k h. h;
 })
 
 -- a request is run
-grows_run : {Local : Type 0} (p q : Plain Local) (from to : ℕ) (x : Replied) (l : Local)
+grows_run : {Local : Type 0} (p q : Plain Local) (from to : ℕ) (x : RunReply) (l : Local)
     → q ≡ with_replied p from to x l
     → Grows p q
 grows_run p q from to x l e = subst (Grows p) (sym e) (record {
@@ -129,12 +129,12 @@ abbrev pub IsBy : {Call Told : Type 0} → Event Call → (Delivered → Type 0)
 IsBy x Says e a = (b : Delivered) × Says b × (e ≡ x) × (a ≡ OfNode (OfDelivery b))
 
 -- among the runs and one more is what was among them, and that one
-among_push : (l : ℕ) (rs : List Replied) (x : Replied) → is_among l (rs ++ x ∷ []) ≡ (is_among l rs || eqb x.number l)
+among_push : (l : ℕ) (rs : List RunReply) (x : RunReply) → is_among l (rs ++ x ∷ []) ≡ (is_among l rs || eqb x.number l)
 among_push l rs x =
     list_any-append (λ r. eqb r.number l) rs _ ∙ ap (λ b. is_among l rs || b) (or-false (eqb x.number l))
 
 -- the request that is run was run
-pub in_replied : {Local : Type 0} (p : Plain Local) (from to : ℕ) (x : Replied) (l : Local)
+pub in_replied : {Local : Type 0} (p : Plain Local) (from to : ℕ) (x : RunReply) (l : Local)
     → InRuns (with_replied p from to x l) from to x.number
 in_replied p from to x l =
     let runs = p.runs from to in
@@ -143,7 +143,7 @@ in_replied p from to x l =
     ∙ or_right (is_among x.number runs) (eqb x.number x.number) (eq-eqb x.number x.number refl))
 
 -- what was run after a request is run was run before, or is that request
-ran_by_run : {Local : Type 0} (p : Plain Local) (from to : ℕ) (x : Replied) (local : Local) (a b l : ℕ)
+ran_by_run : {Local : Type 0} (p : Plain Local) (from to : ℕ) (x : RunReply) (local : Local) (a b l : ℕ)
     → InRuns (with_replied p from to x local) a b l → InRuns p a b l ⊎ ((from ≡ a) × (to ≡ b) × (x.number ≡ l))
 ran_by_run p from to x local a b l h = elim (pair_cases p.runs from to (p.runs from to ++ x ∷ []) a b) [
   | inr other ↦ inl (ap (is_among l) (sym other) ∙ h)

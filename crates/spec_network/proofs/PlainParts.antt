@@ -8,7 +8,7 @@ use Rattle.std.proofs.lemmas.Bool.{cases_Bool}
 use Rattle.std.proofs.lemmas.List.{map_push}
 use Rattle.wire_message.specs.Content.{Content}
 use Rattle.base_lists.specs.Update.{update}
-use Rattle.base_lists.specs.Numbered.{numbered, change}
+use Rattle.base_lists.specs.Numbered.{element_at, change}
 use Rattle.base_lists.specs.Put.{put}
 use Rattle.base_lists.proofs.Update.{update-on}
 use Rattle.base_lists.proofs.Put.{put_own}
@@ -17,7 +17,7 @@ use Rattle.spec_node.specs.Requests.{as_back, sent_at}
 use Rattle.spec_node.specs.Behaviour.{Contact}
 use Rattle.spec_node.specs.Step.{with_local, new_request, with_request, with_run}
 use Rattle.spec_network.specs.World.{World}
-use Rattle.spec_network.specs.Plain.{Plain, plain_of, labelled, replied, is_back, put_pair, with_plain, with_labelled}
+use Rattle.spec_network.specs.Plain.{Plain, plain_of, plain_request, run_reply, is_back, put_pair, with_plain, with_plain_request}
 use Rattle.spec_network.specs.Plain.{with_replied, with_credit}
 use Rattle.spec_network.proofs.NodeChanges.{put_kept}
 
@@ -59,16 +59,16 @@ local_put world i x a = elim (cases_Bool (eqb a i)) [ inl t ↦ rw t refl | inr 
 plain_asked : {Local : Type 0} (world : World Local) (from to : ℕ) (x : Node Local) (ys : List Request)
     → x.asked ≡ put (world from).asked to ys → x.ran ≡ (world from).ran
     → plain_of (put world from x) ≡ record {
-      requests = put_pair (plain_of world).requests from to (map labelled ys);
+      requests = put_pair (plain_of world).requests from to (map plain_request ys);
       runs = (plain_of world).runs;
       back = put_pair
-          (plain_of world).back from to (λ k. is_back (numbered ys k));
+          (plain_of world).back from to (λ k. is_back (element_at ys k));
       local = put (plain_of world).local from x.local;
     }
 plain_asked world from to x ys e kept = same_plain _ _
-    (fun_ext (λ a. fun_ext (λ b. pair_put (λ n. n.asked) (map labelled) world from to x ys e a b)))
-    (fun_ext (λ a. fun_ext (λ b. ap (λ f. map replied (f a)) (put_kept (λ n. n.ran) world from x kept b))))
-    (fun_ext (λ a. fun_ext (λ b. pair_put (λ n. n.asked) (λ l k. is_back (numbered l k)) world from to x ys e a b)))
+    (fun_ext (λ a. fun_ext (λ b. pair_put (λ n. n.asked) (map plain_request) world from to x ys e a b)))
+    (fun_ext (λ a. fun_ext (λ b. ap (λ f. map run_reply (f a)) (put_kept (λ n. n.ran) world from x kept b))))
+    (fun_ext (λ a. fun_ext (λ b. pair_put (λ n. n.asked) (λ l k. is_back (element_at l k)) world from to x ys e a b)))
     (fun_ext (λ a. local_put world from x a))
 
 -- the runs of (i, j) were changed
@@ -77,18 +77,18 @@ plain_ran : {Local : Type 0} (world : World Local) (from to : ℕ) (x : Node Loc
     → x.ran ≡ put (world to).ran from ts
     → plain_of (put world to x) ≡ record {
       requests = (plain_of world).requests;
-      runs = put_pair (plain_of world).runs from to (map replied ts);
+      runs = put_pair (plain_of world).runs from to (map run_reply ts);
       back =
           (plain_of world).back;
       local = put (plain_of world).local to x.local;
     }
 plain_ran world from to x ts kept e = same_plain _ _
-    (fun_ext (λ a. fun_ext (λ b. ap (λ f. map labelled (f b)) (put_kept (λ n. n.asked) world to x kept a))))
+    (fun_ext (λ a. fun_ext (λ b. ap (λ f. map plain_request (f b)) (put_kept (λ n. n.asked) world to x kept a))))
     (fun_ext (λ a. fun_ext
-    (λ b. pair_put (λ n. n.ran) (map replied) world to from x ts e b a
-    ∙ put_pair_turned (λ c d. map replied ((world d).ran c)) from to (map replied ts) a b)))
+    (λ b. pair_put (λ n. n.ran) (map run_reply) world to from x ts e b a
+    ∙ put_pair_turned (λ c d. map run_reply ((world d).ran c)) from to (map run_reply ts) a b)))
     (fun_ext (λ a. fun_ext
-    (λ b. fun_ext (λ k. ap (λ f. is_back (numbered (f b) k)) (put_kept (λ n. n.asked) world to x kept a)))))
+    (λ b. fun_ext (λ k. ap (λ f. is_back (element_at (f b) k)) (put_kept (λ n. n.asked) world to x kept a)))))
     (fun_ext (λ a. local_put world to x a))
 
 -- a node keeps something else
@@ -101,10 +101,10 @@ pub plain_local : {Local : Type 0} (world : World Local) (i : ℕ) (x : Node Loc
           (plain_of world).local i x.local;
     }
 plain_local world i x kept kept_ran = same_plain _ _
-    (fun_ext (λ a. fun_ext (λ b. ap (λ f. map labelled (f b)) (put_kept (λ n. n.asked) world i x kept a))))
-    (fun_ext (λ a. fun_ext (λ b. ap (λ f. map replied (f a)) (put_kept (λ n. n.ran) world i x kept_ran b))))
+    (fun_ext (λ a. fun_ext (λ b. ap (λ f. map plain_request (f b)) (put_kept (λ n. n.asked) world i x kept a))))
+    (fun_ext (λ a. fun_ext (λ b. ap (λ f. map run_reply (f a)) (put_kept (λ n. n.ran) world i x kept_ran b))))
     (fun_ext (λ a. fun_ext
-    (λ b. fun_ext (λ k. ap (λ f. is_back (numbered (f b) k)) (put_kept (λ n. n.asked) world i x kept a)))))
+    (λ b. fun_ext (λ k. ap (λ f. is_back (element_at (f b) k)) (put_kept (λ n. n.asked) world i x kept a)))))
     (fun_ext (λ a. local_put world i x a))
 
 -- a node is as before
@@ -121,18 +121,18 @@ back_push_at (x ∷ requests) request (suc p) e = back_push_at requests request 
 
 -- one request more brings nothing back
 back_push : (requests : List Request) (request : Request) (k : ℕ) → request.back ≡ false
-    → is_back (numbered (requests ++ request ∷ []) k) ≡ is_back (numbered requests k)
+    → is_back (element_at (requests ++ request ∷ []) k) ≡ is_back (element_at requests k)
 back_push requests request zero e = refl
 back_push requests request (suc p) e = back_push_at requests request p e
 
 -- a request is accepted, and its node keeps this
 pub plain_accepted : {Local : Type 0} (world : World Local) (i j now slot : ℕ) (c : Content) (l : Local)
     → plain_of (put world i (with_local (with_request (world i) now j slot c) l))
-    ≡ with_plain (with_labelled (plain_of world) i j (record { content = c; label = slot })) i l
+    ≡ with_plain (with_plain_request (plain_of world) i j (record { content = c; slot = slot })) i l
 plain_accepted world i j now slot c l =
     let new = new_request now slot c in
     plain_asked world i j _ ((world i).asked j ++ new ∷ []) refl refl ∙ same_plain _ _
-    (ap (put_pair (plain_of world).requests i j) (map_push labelled ((world i).asked j) new))
+    (ap (put_pair (plain_of world).requests i j) (map_push plain_request ((world i).asked j) new))
     refl
     (ap (put_pair (plain_of world).back i j) (fun_ext (λ k. back_push ((world i).asked j) new k refl))
     ∙ put_pair_self (plain_of world).back i j)
@@ -146,23 +146,23 @@ plain_run world j contact c out =
     let new : Run = record { number = contact.number; slot = contact.slot; content = c; reply = out.1 } in
     plain_ran world contact.peer j _ ((world j).ran contact.peer ++ new ∷ []) refl refl ∙ same_plain _ _
     refl
-    (ap (put_pair (plain_of world).runs contact.peer j) (map_push replied ((world j).ran contact.peer) new))
+    (ap (put_pair (plain_of world).runs contact.peer j) (map_push run_reply ((world j).ran contact.peer) new))
     refl
     refl
 
--- a change at a place of neither content nor label is not read
+-- a change at a place of neither content nor slot is not read
 map_change_at : (f : Request → Request) (requests : List Request) (p : ℕ)
-    → ((request : Request) → labelled (f request) ≡ labelled request)
-    → map labelled (update requests p f) ≡ map labelled requests
+    → ((request : Request) → plain_request (f request) ≡ plain_request request)
+    → map plain_request (update requests p f) ≡ map plain_request requests
 map_change_at f [] p e = refl
-map_change_at f (request ∷ requests) zero e = ap (λ y. y ∷ map labelled requests) (e request)
+map_change_at f (request ∷ requests) zero e = ap (λ y. y ∷ map plain_request requests) (e request)
 map_change_at f (request ∷ requests) (suc p) e =
-    ap (map labelled) (update-on request requests p f) ∙ ap (λ l. labelled request ∷ l) (map_change_at f requests p e)
+    ap (map plain_request) (update-on request requests p f) ∙ ap (λ l. plain_request request ∷ l) (map_change_at f requests p e)
 
--- a change of neither content nor label is not read
+-- a change of neither content nor slot is not read
 map_change : (f : Request → Request) (requests : List Request) (k : ℕ)
-    → ((request : Request) → labelled (f request) ≡ labelled request)
-    → map labelled (change f requests k) ≡ map labelled requests
+    → ((request : Request) → plain_request (f request) ≡ plain_request request)
+    → map plain_request (change f requests k) ≡ map plain_request requests
 map_change f requests zero e = refl
 map_change f requests (suc p) e = map_change_at f requests p e
 
@@ -178,7 +178,7 @@ back_sent_at now (x ∷ requests) (suc p) (suc q) =
 
 -- a request sent again comes not back by that
 back_sent : (now : ℕ) (requests : List Request) (k l : ℕ)
-    → is_back (numbered (change (sent_at now) requests k) l) ≡ is_back (numbered requests l)
+    → is_back (element_at (change (sent_at now) requests k) l) ≡ is_back (element_at requests l)
 back_sent now requests zero l = refl
 back_sent now requests (suc p) zero = refl
 back_sent now requests (suc p) (suc q) = back_sent_at now requests p q
@@ -214,8 +214,8 @@ back_back_at (z ∷ requests) (suc p) (suc q) request e =
     ∙ (back_back_at requests p q request e ∙ ap (λ b. cond b true (is_back (slice_get requests q))) (eqb_suc q p))
 
 -- the request with this number comes back, and no other
-back_back : (requests : List Request) (k l : ℕ) (request : Request) → numbered requests k ≡ Some request
-    → is_back (numbered (change as_back requests k) l) ≡ put (λ n. is_back (numbered requests n)) k true l
+back_back : (requests : List Request) (k l : ℕ) (request : Request) → element_at requests k ≡ Some request
+    → is_back (element_at (change as_back requests k) l) ≡ put (λ n. is_back (element_at requests n)) k true l
 back_back requests zero l request e = absurd (cc)
 back_back requests (suc p) zero request e = grind (arith, nat_tests)
 back_back requests (suc p) (suc q) request e =
@@ -223,7 +223,7 @@ back_back requests (suc p) (suc q) request e =
 
 -- a credit comes back
 pub plain_back : {Local : Type 0} (world : World Local) (from to number : ℕ) (l : Local) (request : Request)
-    → numbered ((world from).asked to) number ≡ Some request
+    → element_at ((world from).asked to) number ≡ Some request
     → plain_of (put world from
     (record (world from) {
       asked = put (world from).asked to (change as_back ((world from).asked to) number);

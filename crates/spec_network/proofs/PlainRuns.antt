@@ -9,9 +9,9 @@ use Rattle.base_lists.proofs.Put.{put_same}
 use Rattle.spec_node.specs.declared.answer.Delivered.{Delivered}
 use Rattle.spec_node.specs.declared.answer.Delivered.TheVariants as delivered
 use Rattle.spec_node.specs.NodeStep.{Job, OfDelivery}
-use Rattle.spec_network.specs.World.{Event, RequestComes, ReplyComes, Timed, WorldAnswer, OfNode}
-use Rattle.spec_network.specs.Plain.{Plain, Replied, InRuns, put_pair}
-use Rattle.spec_network.specs.PlainStep.{Named, at_target, NodeStep, PlainStep, PlainRun}
+use Rattle.spec_network.specs.World.{Event, RequestComes, ReplyComes, EventAt, WorldAnswer, OfNode}
+use Rattle.spec_network.specs.Plain.{Plain, RunReply, InRuns, put_pair}
+use Rattle.spec_network.specs.PlainStep.{RequestName, at_target, NodeStep, PlainStep, PlainRun}
 use Rattle.spec_network.specs.Headline.{Grows, IsUnrefused, NoneRefused, Delivers, IsRanAnswer, IsReturned}
 use Rattle.spec_network.specs.Headline.{request_comes, reply_comes, Happens, AtMostOnce, RunsAtMostOnce}
 use Rattle.spec_network.proofs.PlainReadings.{reply_among}
@@ -27,7 +27,7 @@ step_unrefused job p q (ReplyComes i j k) (OfNode (OfDelivery (delivered.Refused
 step_unrefused job p q e a h = tt
 
 -- no run refuses a delivery
-pub run_unrefused : {Local Call Told : Type 0} (job : Job Local Call Told) (events : List (Timed Call))
+pub run_unrefused : {Local Call Told : Type 0} (job : Job Local Call Told) (events : List (EventAt Call))
     (given : List (WorldAnswer Told)) (p q : Plain Local) → PlainRun job p events given q → NoneRefused events given
 run_unrefused job [] [] p q h = tt
 run_unrefused job (e ∷ events) (a ∷ given) p q h =
@@ -42,23 +42,23 @@ no_delivery : {Call Told : Type 0} {given : List (WorldAnswer Told)} {place : �
 no_delivery d = let e = d.event_is in cc
 
 -- that of the first event, by its step
-first_step : {Local Call Told : Type 0} (job : Job Local Call Told) (p q : Plain Local) (e : Timed Call)
-    (a : WorldAnswer Told) (events : List (Timed Call)) (given : List (WorldAnswer Told)) (x : Event Call)
+first_step : {Local Call Told : Type 0} (job : Job Local Call Told) (p q : Plain Local) (e : EventAt Call)
+    (a : WorldAnswer Told) (events : List (EventAt Call)) (given : List (WorldAnswer Told)) (x : Event Call)
     (b : Delivered)
     → PlainStep job p e.event a q → Delivers (e ∷ events) (a ∷ given) 0 x b → NodeStep job p x (OfDelivery b) q
 first_step job p q e a events given x b h d =
     subst₂ (λ y c. PlainStep job p y c q)
-    (ap (λ (z : Timed _). z.event) (same_Some e (record { now = d.now; event = x }) d.event_is))
+    (ap (λ (z : EventAt _). z.event) (same_Some e (record { now = d.now; event = x }) d.event_is))
     (same_Some a _ d.answer_is) h
 
 -- one of the later events
-later : {Call Told : Type 0} {e : Timed Call} {a : WorldAnswer Told} {events : List (Timed Call)}
+later : {Call Told : Type 0} {e : EventAt Call} {a : WorldAnswer Told} {events : List (EventAt Call)}
     {given : List (WorldAnswer Told)} {place : ℕ} {x : Event Call} {b : Delivered}
     → Delivers (e ∷ events) (a ∷ given) (suc place) x b → Delivers events given place x b
 later d = record { now = d.now; event_is = d.event_is; answer_is = d.answer_is }
 
 -- with one event before it
-preceded : {Call Told : Type 0} {e : Timed Call} {a : WorldAnswer Told} {events : List (Timed Call)}
+preceded : {Call Told : Type 0} {e : EventAt Call} {a : WorldAnswer Told} {events : List (EventAt Call)}
     {given : List (WorldAnswer Told)} {place : ℕ} {x : Event Call} {b : Delivered}
     → Delivers events given place x b → Delivers (e ∷ events) (a ∷ given) (suc place) x b
 preceded d = record { now = d.now; event_is = d.event_is; answer_is = d.answer_is }
@@ -75,7 +75,7 @@ record Makes {Local Call Told : Type 0} (job : Job Local Call Told) (x : Event C
 
 -- once it is so, the event isn't answered so
 never_again : {Local Call Told : Type 0} (job : Job Local Call Told) (x : Event Call) (Says : Delivered → Type 0)
-    (So : Plain Local → Type 0) (events : List (Timed Call)) (given : List (WorldAnswer Told)) (p q : Plain Local)
+    (So : Plain Local → Type 0) (events : List (EventAt Call)) (given : List (WorldAnswer Told)) (p q : Plain Local)
     (place : ℕ) (b : Delivered) → Makes job x Says So → PlainRun job p events given q → So p → Says b
     → Delivers events given place x b → ⊥
 never_again job x Says So [] given p q place b M h so g d = no_delivery d
@@ -88,7 +88,7 @@ never_again job x Says So (e ∷ events) (a ∷ given) p q (suc place) b M h so 
 
 -- the event is answered so at most once
 at_most_once : {Local Call Told : Type 0} (job : Job Local Call Told) (x : Event Call) (Says : Delivered → Type 0)
-    (So : Plain Local → Type 0) (events : List (Timed Call)) (given : List (WorldAnswer Told)) (p q : Plain Local)
+    (So : Plain Local → Type 0) (events : List (EventAt Call)) (given : List (WorldAnswer Told)) (p q : Plain Local)
     → Makes job x Says So → PlainRun job p events given q → AtMostOnce events given x Says
 at_most_once job x Says So [] given p q M h place other one two = absurd (no_delivery one.delivers)
 at_most_once job x Says So (y ∷ events) [] p q M h place other one two = absurd h
@@ -107,15 +107,15 @@ at_most_once job x Says So (y ∷ events) (a ∷ given) p q M h (suc place) (suc
     (record { answer = two.answer; says = two.says; delivers = later two.delivers }))
 
 -- the request was run
-abbrev pub IsRan : {Local : Type 0} → Named → Plain Local → Type 0
+abbrev pub IsRan : {Local : Type 0} → RequestName → Plain Local → Type 0
 IsRan name p = InRuns p name.from name.to name.number
 
 -- the request is back
-abbrev pub IsBack : {Local : Type 0} → Named → Plain Local → Type 0
+abbrev pub IsBack : {Local : Type 0} → RequestName → Plain Local → Type 0
 IsBack name p = p.back name.from name.to name.number ≡ true
 
 -- a request that is run wasn't among the runs, and is from then on
-run_makes : {Local Call Told : Type 0} (job : Job Local Call Told) (name : Named)
+run_makes : {Local Call Told : Type 0} (job : Job Local Call Told) (name : RequestName)
     → Makes job (request_comes name) IsRanAnswer (IsRan name)
 run_makes {Local = Local} job name = record {
   makes = go;
@@ -134,13 +134,13 @@ run_makes {Local = Local} job name = record {
         (h.fresh.new, subst (IsRan name) (sym h.leaves) (in_replied p name.from name.to new out.0))
 
 -- a request is run at most once
-pub run_at_most_once : {Local Call Told : Type 0} (job : Job Local Call Told) (events : List (Timed Call))
+pub run_at_most_once : {Local Call Told : Type 0} (job : Job Local Call Told) (events : List (EventAt Call))
     (given : List (WorldAnswer Told)) (p q : Plain Local) → PlainRun job p events given q → RunsAtMostOnce events given
 run_at_most_once job events given p q h name =
     at_most_once job (request_comes name) IsRanAnswer (IsRan name) events given p q (run_makes job name) h
 
 -- a request whose reply is taken wasn't back, and is from then on
-take_makes : {Local Call Told : Type 0} (job : Job Local Call Told) (name : Named)
+take_makes : {Local Call Told : Type 0} (job : Job Local Call Told) (name : RequestName)
     → Makes job (reply_comes name) IsReturned (IsBack name)
 take_makes {Local = Local} job name = record {
   makes = go;
@@ -156,14 +156,14 @@ take_makes {Local = Local} job name = record {
 
     go : (p q : Plain Local) (b : Delivered) → IsReturned b → NodeStep job p (reply_comes name) (OfDelivery b) q
         → (IsBack name p → ⊥) × IsBack name q
-    go p q (delivered.Returned to label number) g h =
+    go p q (delivered.Returned to slot number) g h =
         ((λ back. true≢false (sym back ∙ h.to_take.out)), subst (IsBack name) (sym h.leaves) (here p))
     go p q b g h = absurd g
 
 -- a reply is taken at most once
-pub taken_at_most_once : {Local Call Told : Type 0} (job : Job Local Call Told) (events : List (Timed Call))
+pub taken_at_most_once : {Local Call Told : Type 0} (job : Job Local Call Told) (events : List (EventAt Call))
     (given : List (WorldAnswer Told)) (p q : Plain Local) → PlainRun job p events given q
-    → (name : Named) → AtMostOnce events given (reply_comes name) IsReturned
+    → (name : RequestName) → AtMostOnce events given (reply_comes name) IsReturned
 taken_at_most_once job events given p q h name =
     at_most_once job (reply_comes name) IsReturned (IsBack name) events given p q (take_makes job name) h
 
@@ -171,7 +171,7 @@ taken_at_most_once job events given p q h name =
 
 -- what is so after a run was so before it, or became so where the event was answered so
 made_by : {Local Call Told : Type 0} (job : Job Local Call Told) (x : Event Call) (Says : Delivered → Type 0)
-    (So : Plain Local → Type 0) (events : List (Timed Call)) (given : List (WorldAnswer Told)) (p q : Plain Local)
+    (So : Plain Local → Type 0) (events : List (EventAt Call)) (given : List (WorldAnswer Told)) (p q : Plain Local)
     → Makes job x Says So → PlainRun job p events given q → So q
     → So p ⊎ ((place : ℕ) × Happens events given x Says place)
 made_by job x Says So [] [] p q M h so = inl (subst So h so)
@@ -198,9 +198,9 @@ made_by job x Says So (e ∷ events) (a ∷ given) p q M h so =
     ]
 
 -- where nothing was run at first, what is among the runs was run by a delivery
-pub ran_in : {Local Call Told : Type 0} (job : Job Local Call Told) (events : List (Timed Call))
+pub ran_in : {Local Call Told : Type 0} (job : Job Local Call Told) (events : List (EventAt Call))
     (given : List (WorldAnswer Told)) (p q : Plain Local) → PlainRun job p events given q
-    → ((name : Named) → IsRan name p → ⊥) → (name : Named) → IsRan name q
+    → ((name : RequestName) → IsRan name p → ⊥) → (name : RequestName) → IsRan name q
     → (place : ℕ) × Happens events given (request_comes name) IsRanAnswer place
 ran_in job events given p q h none name ran =
     elim (made_by job (request_comes name) IsRanAnswer (IsRan name) events given p q (run_makes job name) h ran) [
@@ -209,9 +209,9 @@ ran_in job events given p q h none name ran =
     ]
 
 -- where nothing was back at first, what is back was brought back by a delivery
-pub returned_in : {Local Call Told : Type 0} (job : Job Local Call Told) (events : List (Timed Call))
+pub returned_in : {Local Call Told : Type 0} (job : Job Local Call Told) (events : List (EventAt Call))
     (given : List (WorldAnswer Told)) (p q : Plain Local) → PlainRun job p events given q
-    → ((name : Named) → IsBack name p → ⊥) → (name : Named) → IsBack name q
+    → ((name : RequestName) → IsBack name p → ⊥) → (name : RequestName) → IsBack name q
     → (place : ℕ) × Happens events given (reply_comes name) IsReturned place
 returned_in job events given p q h none name back =
     elim (made_by job (reply_comes name) IsReturned (IsBack name) events given p q (take_makes job name) h back) [
@@ -222,7 +222,7 @@ returned_in job events given p q h none name back =
 -- ---- a reply comes after its request was run
 
 -- the run before a delivery, and the step of that delivery
-record RunBefore {Local Call Told : Type 0} (job : Job Local Call Told) (events : List (Timed Call))
+record RunBefore {Local Call Told : Type 0} (job : Job Local Call Told) (events : List (EventAt Call))
     (given : List (WorldAnswer Told)) (p : Plain Local) (place : ℕ) (x : Event Call) (b : Delivered) : Type 0 where
   then : Plain Local
   next : Plain Local
@@ -230,7 +230,7 @@ record RunBefore {Local Call Told : Type 0} (job : Job Local Call Told) (events 
   step : NodeStep job then x (OfDelivery b) next
 
 -- each delivery has one
-run_before : {Local Call Told : Type 0} (job : Job Local Call Told) (events : List (Timed Call))
+run_before : {Local Call Told : Type 0} (job : Job Local Call Told) (events : List (EventAt Call))
     (given : List (WorldAnswer Told)) (p q : Plain Local) (place : ℕ) (x : Event Call) (b : Delivered)
     → PlainRun job p events given q → Delivers events given place x b → RunBefore job events given p place x b
 run_before job [] given p q place x b h d = absurd (no_delivery d)
@@ -250,16 +250,16 @@ among_first (suc n) (y ∷ xs) zero x e = (omega arith, e)
 among_first (suc n) (y ∷ xs) (suc k) x e = let it = among_first n xs k x e in (omega (arith, it.0), it.1)
 
 -- a reply that is taken is that of a request that ran
-taken_ran : {Local Call Told : Type 0} (job : Job Local Call Told) (p q : Plain Local) (name : Named) (b : Delivered)
+taken_ran : {Local Call Told : Type 0} (job : Job Local Call Told) (p q : Plain Local) (name : RequestName) (b : Delivered)
     → IsReturned b → NodeStep job p (reply_comes name) (OfDelivery b) q → IsRan name p
-taken_ran job p q name (delivered.Returned to label number) g h =
+taken_ran job p q name (delivered.Returned to slot number) g h =
     reply_among (p.runs name.from name.to) name.number h.reply h.to_take.reply_is
 taken_ran job p q name b g h = absurd g
 
 -- where nothing was run at first, a request whose reply is taken was run before
-pub ran_before : {Local Call Told : Type 0} (job : Job Local Call Told) (events : List (Timed Call))
+pub ran_before : {Local Call Told : Type 0} (job : Job Local Call Told) (events : List (EventAt Call))
     (given : List (WorldAnswer Told)) (p q : Plain Local) → PlainRun job p events given q
-    → ((name : Named) → IsRan name p → ⊥) → (name : Named) (place : ℕ)
+    → ((name : RequestName) → IsRan name p → ⊥) → (name : RequestName) (place : ℕ)
     → Happens events given (reply_comes name) IsReturned place
     → (earlier : ℕ) × (earlier < place) × Happens events given (request_comes name) IsRanAnswer earlier
 ran_before job events given p q h none name place taken =

@@ -6,9 +6,9 @@ use Rattle.std.proofs.lemmas.Bool.{cases_eq, cases_order}
 use Rattle.std.proofs.lemmas.Bool.Decides.{nat_tests}
 use Rattle.std.proofs.lemmas.Option.{same_Some}
 use Rattle.wire_message.specs.Parameters.{Parameters, credits_of}
-use Rattle.wire_message.specs.Content.{Content, addressed}
+use Rattle.wire_message.specs.Content.{Content, message_at_address}
 use Rattle.wire_message.specs.Message.{spelling}
-use Rattle.base_lists.specs.Numbered.{numbered}
+use Rattle.base_lists.specs.Numbered.{element_at}
 use Rattle.base_lists.proofs.Numbered.{numbered_nil, numbered_map, numbered_mapped}
 use Rattle.spec_node.specs.Record.{Run}
 use Rattle.spec_node.specs.Executed.{greatest, run_of, run_at, last_run}
@@ -20,9 +20,9 @@ use Rattle.spec_node.specs.Invariant.{address_in, reply_message}
 use Rattle.spec_node.proofs.Runs.{run_of_there, greatest_bounds}
 use Rattle.spec_network.specs.World.{World, RequestComes, ReplyComes}
 use Rattle.spec_network.specs.Invariant.{Holds}
-use Rattle.spec_network.specs.Plain.{Labelled, IsRequest, IsPassed, plain_of, labelled}
+use Rattle.spec_network.specs.Plain.{PlainRequest, IsRequest, IsPassed, plain_of, plain_request}
 use Rattle.spec_network.specs.Laws.{IsWithinCredits, FindSlots, ReplyStands, NonePasses, RepliesFindRequests, BackRan}
-use Rattle.spec_network.proofs.PlainReadings.{outstanding_is, is_back_at, is_back_says}
+use Rattle.spec_network.proofs.PlainReadings.{outstanding_in_is, is_back_at, is_back_says}
 use Rattle.spec_network.proofs.PlainReadings.{among_from, from_reply, reply_among}
 use Rattle.spec_network.proofs.PlainDeliveries.{greatest_run}
 use Rattle.spec_network.proofs.PlainSteps.{step_plain}
@@ -30,20 +30,20 @@ use Rattle.spec_network.proofs.PlainAnswers.{first_ran, first_waits, then_again,
 
 -- ---- slots
 
--- of two requests of one label the earlier one is back
-label_back : {Local Call Told : Type 0} (job : Job Local Call Told) (IsKept : (me : ℕ) → Local → Type 0)
+-- of two requests of one slot the earlier one is back
+slot_back : {Local Call Told : Type 0} (job : Job Local Call Told) (IsKept : (me : ℕ) → Local → Type 0)
     (world : World Local)
-    (from to number l : ℕ) (request other : Labelled) → Holds job IsKept world
+    (from to number l : ℕ) (request other : PlainRequest) → Holds job IsKept world
     → IsRequest (plain_of world) from to number request
     → IsRequest (plain_of world) from to l other
-    → number < l → other.label ≡ request.label → (plain_of world).back from to number ≡ true
-label_back job IsKept world from to number l request other holds e f less same =
+    → number < l → other.slot ≡ request.slot → (plain_of world).back from to number ≡ true
+slot_back job IsKept world from to number l request other holds e f less same =
     let requests = (world from).asked to in
-    let a = numbered_mapped labelled requests number request e in
-    let b = numbered_mapped labelled requests l other f in
+    let a = numbered_mapped plain_request requests number request e in
+    let b = numbered_mapped plain_request requests l other f in
     let slots : a.0.slot ≡ b.0.slot =
-    ap (λ (z : Labelled). z.label) a.2 ∙ (sym same ∙ ap (λ (z : Labelled). z.label) (sym b.2)) in
-    is_back_at (numbered requests number) a.0 a.1
+    ap (λ (z : PlainRequest). z.slot) a.2 ∙ (sym same ∙ ap (λ (z : PlainRequest). z.slot) (sym b.2)) in
+    is_back_at (element_at requests number) a.0 a.1
     ∙ (holds.pair from to).orderly.apart number l a.0 b.0 a.1 b.1 less slots
 
 -- what is back has run
@@ -51,7 +51,7 @@ pub back_ran : {Local Call Told : Type 0} (job : Job Local Call Told) (IsKept : 
     (world : World Local)
     → Holds job IsKept world → BackRan world
 back_ran job IsKept world holds i j k back =
-    let x = is_back_says (numbered ((world i).asked j) k) back in
+    let x = is_back_says (element_at ((world i).asked j) k) back in
     let r = (holds.pair i j).back_ran k x.0 x.1 x.2 in
     among_from ((world j).ran i) k r.0 r.1
 
@@ -61,17 +61,17 @@ pub requests_within : {Local Call Told : Type 0} (job : Job Local Call Told) (Is
 requests_within job IsKept world holds = record {
   nodes = λ i j k x e.
       let requests = (world i).asked j in
-      let y = numbered_mapped labelled requests k x e in
+      let y = numbered_mapped plain_request requests k x e in
       let there = holds.nodes i j k y.0 y.1 in
       let other : i ≢ j = λ same. numbered_nil k y.0
-      (ap (λ zs. numbered zs k) (sym (holds.own i)) ∙ (ap (λ b. numbered ((world i).asked b) k) same ∙ y.1)) in
+      (ap (λ zs. element_at zs k) (sym (holds.own i)) ∙ (ap (λ b. element_at ((world i).asked b) k) same ∙ y.1)) in
       (there.0, there.1, other);
-  labels = λ i j k x e.
-      let y = numbered_mapped labelled ((world i).asked j) k x e in
-      subst (λ q. q < credits_of job.settings i j) (ap (λ (z : Labelled). z.label) y.2)
+  slots = λ i j k x e.
+      let y = numbered_mapped plain_request ((world i).asked j) k x e in
+      subst (λ q. q < credits_of job.settings i j) (ap (λ (z : PlainRequest). z.slot) y.2)
       ((holds.pair i j).orderly.low k y.0 y.1);
   credits =
-      λ i j. subst (λ n. n ≤ credits_of job.settings i j) (sym (outstanding_is ((world i).asked j)))
+      λ i j. subst (λ n. n ≤ credits_of job.settings i j) (sym (outstanding_in_is ((world i).asked j)))
       (holds.pair i j).orderly.few;
 }
 
@@ -90,19 +90,19 @@ finds_its_slot job IsKept world sound holds name x fresh =
       others = λ l y f same other. elim (cases_order l k) [
         | inl is ↦ absurd (other is)
         | inr apart ↦ elim apart [
-          | inl before ↦ label_back job IsKept world i j l k y x holds f fresh.is before (sym same)
+          | inl before ↦ slot_back job IsKept world i j l k y x holds f fresh.is before (sym same)
           | inr after ↦ absurd
               (fresh.new (back_ran job IsKept world holds i j k
-              (label_back job IsKept world i j k l x y holds fresh.is f after same)))
+              (slot_back job IsKept world i j k l x y holds fresh.is f after same)))
         ]
       ];
     }
 
--- while a request isn't back no later one of its label has run
+-- while a request isn't back no later one of its slot has run
 pub none_passes : {Local Call Told : Type 0} (job : Job Local Call Told) (IsKept : (me : ℕ) → Local → Type 0)
     (world : World Local) → Holds job IsKept world → NonePasses world
 none_passes job IsKept world holds i j k x e out passed =
-    true≢false (sym (label_back job IsKept world i j k passed.0 x passed.1 holds e passed.3 passed.2 passed.4) ∙ out)
+    true≢false (sym (slot_back job IsKept world i j k passed.0 x passed.1 holds e passed.3 passed.2 passed.4) ∙ out)
 
 -- the reply to a request that isn't back finds it
 pub finds_its_request : {Local Call Told : Type 0} (job : Job Local Call Told) (IsKept : (me : ℕ) → Local → Type 0)
@@ -121,39 +121,39 @@ finds_its_request job IsKept world sound holds name x reply T =
 -- a request ran in the slot that it reserved
 ran_in_slot : {Local Call Told : Type 0} (job : Job Local Call Told) (IsKept : (me : ℕ) → Local → Type 0)
     (world : World Local)
-    (from to number : ℕ) (request : Labelled) (run : Run) → Holds job IsKept world
+    (from to number : ℕ) (request : PlainRequest) (run : Run) → Holds job IsKept world
     → IsRequest (plain_of world) from to number request
-    → run_of number ((world to).ran from) ≡ Some run → run.slot ≡ request.label
+    → run_of number ((world to).ran from) ≡ Some run → run.slot ≡ request.slot
 ran_in_slot job IsKept world from to number request run holds e f =
     let at = run_of_there number ((world to).ran from) run f in
     let y = (holds.pair from to).named at.1.0 run at.1.1 in
-    let is = numbered_map labelled ((world from).asked to) number y.0
-    (ap (numbered ((world from).asked to)) (sym at.0) ∙ y.1) in
-    sym y.2 ∙ ap (λ (z : Labelled). z.label) (same_Some (labelled y.0) request (sym is ∙ e))
+    let is = numbered_map plain_request ((world from).asked to) number y.0
+    (ap (element_at ((world from).asked to)) (sym at.0) ∙ y.1) in
+    sym y.2 ∙ ap (λ (z : PlainRequest). z.slot) (same_Some (plain_request y.0) request (sym is ∙ e))
 
 -- the last one that ran in its slot has the greatest number there
 last_is_greatest : {Local Call Told : Type 0} (job : Job Local Call Told) (IsKept : (me : ℕ) → Local → Type 0)
-    (world : World Local) (from to number : ℕ) (request : Labelled) (run : Run) → Holds job IsKept world
+    (world : World Local) (from to number : ℕ) (request : PlainRequest) (run : Run) → Holds job IsKept world
     → IsRequest (plain_of world) from to number request
     → run_of number ((world to).ran from) ≡ Some run → (IsPassed (plain_of world) from to number request → ⊥)
-    → greatest request.label ((world to).ran from) ≡ number
+    → greatest request.slot ((world to).ran from) ≡ number
 last_is_greatest job IsKept world from to number request run holds e f last =
     let runs = (world to).ran from in
     let at = run_of_there number runs run f in
     let behind = subst (λ q. run.number ≤ greatest q runs)
     (ran_in_slot job IsKept world from to number request run holds e f)
     (greatest_bounds runs at.1.0 run at.1.1) in
-    elim (cases_order number (greatest request.label runs)) [
+    elim (cases_order number (greatest request.slot runs)) [
       | inl same ↦ sym same
       | inr apart ↦ elim apart [
         | inl less ↦ (let top = greatest_run (limits_of job.settings from to) job.behaviour.messages.refuses
-            ((world from).asked to) runs request.label
+            ((world from).asked to) runs request.slot
             (holds.pair from to) (omega (arith, less)) in
             absurd (last (
-              greatest request.label runs,
-              labelled top.0,
+              greatest request.slot runs,
+              plain_request top.0,
               less,
-              numbered_map labelled ((world from).asked to) (greatest request.label runs) top.0 top.1,
+              numbered_map plain_request ((world from).asked to) (greatest request.slot runs) top.0 top.1,
               top.2,
               top.3,
             )))
@@ -182,10 +182,10 @@ message_is settings world i j slot run low other in_slot e =
     rw (from, ne_eqb i j other, at) (ap (option_map (λ t. spelling (reply_message settings i j t))) e)
 
 -- the reply of a run, by what the run says
-reply_is : (settings : Parameters) (i j label k : ℕ) (c : Content) (run : Run) → run.slot ≡ label → run.number ≡ k
+reply_is : (settings : Parameters) (i j slot k : ℕ) (c : Content) (run : Run) → run.slot ≡ slot → run.number ≡ k
     → run.reply ≡ c
-    → spelling (reply_message settings i j run) ≡ spelling (addressed (address_in settings j i label k) c)
-reply_is settings i j label k c run e f g = λ t. spelling (addressed (address_in settings j i (e t) (f t)) (g t))
+    → spelling (reply_message settings i j run) ≡ spelling (message_at_address (address_in settings j i slot k) c)
+reply_is settings i j slot k c run e f g = λ t. spelling (message_at_address (address_in settings j i (e t) (f t)) (g t))
 
 -- the reply of the last request that ran in a slot stands there
 pub reply_stands : {Local Call Told : Type 0} (job : Job Local Call Told) (IsKept : (me : ℕ) → Local → Type 0)
@@ -201,11 +201,11 @@ reply_stands job IsKept world sound holds name x reply e f last =
     let nodes = W.nodes i j k x e in
     let r = from_reply runs k reply f in
     let slot = ran_in_slot job IsKept world i j k x r.0 holds e r.1 in
-    let kept = ap (λ n. run_at x.label n runs) (last_is_greatest job IsKept world i j k x r.0 holds e r.1 last)
-    ∙ run_at_of x.label k runs r.0 r.1 slot in
+    let kept = ap (λ n. run_at x.slot n runs) (last_is_greatest job IsKept world i j k x r.0 holds e r.1 last)
+    ∙ run_at_of x.slot k runs r.0 r.1 slot in
     record {
-      message = message_is settings world i j x.label r.0 nodes.0 nodes.2 (W.labels i j k x e) kept
-          ∙ ap Some (reply_is settings i j x.label k reply r.0 slot (run_of_there k runs r.0 r.1).0 r.2);
+      message = message_is settings world i j x.slot r.0 nodes.0 nodes.2 (W.slots i j k x e) kept
+          ∙ ap Some (reply_is settings i j x.slot k reply r.0 slot (run_of_there k runs r.0 r.1).0 r.2);
       again =
           λ now. then_again job (plain_of world) _ name x _ e (reply_among ((plain_of world).runs i j) k reply f) last
           (step_plain job IsKept world (record { now = now; event = RequestComes i j k }) sound holds);

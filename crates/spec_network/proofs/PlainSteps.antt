@@ -3,7 +3,7 @@ use Rattle.std.proofs.Common.{ℕ}
 use Rattle.std.proofs.Common.{refl, sym}
 use Rattle.std.proofs.Common.{ap, ◌∙◌}
 use Rattle.spec_node.specs.NodeStep.{Job, IsAllSound}
-use Rattle.spec_network.specs.World.{World, Event, Asks, Does, RequestComes, ReplyComes, Ticks, Timed}
+use Rattle.spec_network.specs.World.{World, Event, Asks, Does, RequestComes, ReplyComes, Ticks, EventAt}
 use Rattle.spec_network.specs.World.{world_answer, world_after}
 use Rattle.spec_network.specs.Invariant.{Holds}
 use Rattle.spec_network.specs.Plain.{plain_of, with_plain}
@@ -16,7 +16,7 @@ use Rattle.spec_network.proofs.PlainTicks.{exhausted_is, tick_step}
 -- each event of a world of which the invariant holds is a step of the plain world, with the same answer
 pub step_plain : {Local Call Told : Type 0} (job : Job Local Call Told) (IsKept : (me : ℕ) → Local → Type 0)
     (world : World Local)
-    (timed : Timed Call) → IsAllSound job.behaviour IsKept → Holds job IsKept world
+    (timed : EventAt Call) → IsAllSound job.behaviour IsKept → Holds job IsKept world
     → PlainStep job (plain_of world) timed.event (world_answer job world timed) (plain_of (world_after job world timed))
 step_plain {Call = Call} job IsKept world timed sound holds = go timed.event
   where

@@ -8,7 +8,7 @@ use Rattle.std.proofs.lemmas.Bool.{cases_Bool}
 use Rattle.std.proofs.lemmas.Option.{same_Some}
 use Rattle.std.proofs.lemmas.List.{length-map}
 use Rattle.wire_message.specs.Parameters.{Parameters, credits_of}
-use Rattle.base_lists.specs.Numbered.{numbered}
+use Rattle.base_lists.specs.Numbered.{element_at}
 use Rattle.base_lists.specs.Put.{put}
 use Rattle.base_lists.proofs.Members.{all_append}
 use Rattle.base_lists.proofs.Numbered.{numbered_map}
@@ -25,32 +25,32 @@ use Rattle.spec_node.specs.NodeStep.{Job, site_of, IsAllSound}
 use Rattle.spec_node.proofs.Answers.{CanAsk, can_says, sends_choice, retransmits_choice, rests_choice}
 use Rattle.spec_network.specs.World.{World}
 use Rattle.spec_network.specs.Invariant.{Holds}
-use Rattle.spec_network.specs.Plain.{plain_of, labelled}
+use Rattle.spec_network.specs.Plain.{plain_of, plain_request}
 use Rattle.spec_network.specs.PlainStep.{TickStep}
 use Rattle.spec_network.specs.PlainStep.{plain_exhausted, plain_can_ask, next_of}
 use Rattle.spec_network.proofs.PlainReadings.{is_back_at}
-use Rattle.spec_network.proofs.PlainReadings.{outstanding_is}
+use Rattle.spec_network.proofs.PlainReadings.{outstanding_in_is}
 use Rattle.spec_network.proofs.PlainParts.{plain_same, plain_accepted, plain_sent}
 use Rattle.spec_network.proofs.PlainAsks.{is_next}
 
 -- it names a request that isn't back, with its slot
 abbrev pub IsOpenAt : (ℕ → List Request) → Due → Type 0
-IsOpenAt asked d = (request : Request) × (numbered (asked d.peer) d.number ≡ Some request) × (request.back ≡ false)
+IsOpenAt asked d = (request : Request) × (element_at (asked d.peer) d.number ≡ Some request) × (request.back ≡ false)
     × (d.slot ≡ request.slot)
 
 -- each that is due of a peer is such
 dues_open : (now resend peer k : ℕ) (asked : ℕ → List Request) (requests : List Request)
-    → ((p : ℕ) (request : Request) → slice_get requests p ≡ Some request → numbered (asked peer) (k + p) ≡ Some request)
+    → ((p : ℕ) (request : Request) → slice_get requests p ≡ Some request → element_at (asked peer) (k + p) ≡ Some request)
     → AllByRecursion (IsOpenAt asked) (dues now resend peer k requests)
 dues_open now resend peer k asked [] at = tt
 dues_open now resend peer k asked (request ∷ requests) at =
     let ih = dues_open now resend peer (suc k) asked requests
-    (λ p y e. subst (λ q. numbered (asked peer) q ≡ Some y) (omega arith) (at (suc p) y e)) in
+    (λ p y e. subst (λ q. element_at (asked peer) q ≡ Some y) (omega arith) (at (suc p) y e)) in
     elim (cases_Bool (not request.back && leb (request.time + resend) now)) [
       | inl t ↦ rw t (
         (
           request,
-          subst (λ q. numbered (asked peer) q ≡ Some request) (omega arith) (at 0 request refl),
+          subst (λ q. element_at (asked peer) q ≡ Some request) (omega arith) (at 0 request refl),
           not_back request.back t,
           refl,
         ),
@@ -69,7 +69,7 @@ pub all_dues_open : (now resend : ℕ) (asked : ℕ → List Request) (n : ℕ)
 all_dues_open now resend asked zero = tt
 all_dues_open now resend asked (suc peer) = all_append (IsOpenAt asked) _ _ (all_dues_open now resend asked peer)
     (dues_open now resend peer 1 asked (asked peer)
-    (λ p x e. subst (λ q. numbered (asked peer) q ≡ Some x) {x = suc p} (omega arith) e))
+    (λ p x e. subst (λ q. element_at (asked peer) q ≡ Some x) {x = suc p} (omega arith) e))
 
 -- what holds of each holds of the earliest
 pub earliest_has : (P : Due → Type 0) (ds : List Due) (d : Due) → AllByRecursion P ds → earliest ds ≡ Some d → P d
@@ -83,7 +83,7 @@ earliest_has P (c ∷ ds) d a e = subst P (same_Some _ _ e) (go (earliest ds) (�
 -- the same numbers are exhausted
 pub exhausted_is : {Local : Type 0} (settings : Parameters) (world : World Local) (i : ℕ)
     → plain_exhausted settings (plain_of world) i ≡ is_exhausted settings (world i)
-exhausted_is settings world i = fun_ext (λ to. ap (leb settings.last) (length-map ((world i).asked to) labelled))
+exhausted_is settings world i = fun_ext (λ to. ap (leb settings.last) (length-map ((world i).asked to) plain_request))
 
 -- the same nodes can be asked
 can_ask_is : {Local Call Told : Type 0} (job : Job Local Call Told) (world : World Local) (i : ℕ)
@@ -92,7 +92,7 @@ can_ask_is job world i = fun_ext (λ to.
     let requests = (world i).asked to in
     ap₂ (λ count out. (ltb to job.settings.nodes && not (eqb to i))
     && (ltb count job.settings.last && ltb out (credits_of job.settings i to)))
-    (length-map requests labelled) (outstanding_is requests))
+    (length-map requests plain_request) (outstanding_in_is requests))
 
 -- the node's own next request is the same
 next_is : {Local Call Told : Type 0} (job : Job Local Call Told) (world : World Local) (i : ℕ)
@@ -122,12 +122,12 @@ first_sent job IsKept world now i sending sound can given a is =
         let claim = next_claim ((world i).asked sending.to) in
         record {
           to = sending.to;
-          request = record { content = sending.content; label = claim.slot };
+          request = record { content = sending.content; slot = claim.slot };
           claim = claim;
           given = next_is job world i ∙ given;
           other = can.other;
           next = is_next job.settings world i sending.to can.left can.free;
-          label = refl;
+          slot = refl;
           sends_as = sym f;
           is_first = first;
           leaves = plain_accepted world i sending.to now claim.slot sending.content _;
@@ -147,9 +147,9 @@ tick_step job IsKept world now i (Retransmits d) sound holds e =
     let requests = (world i).asked d.peer in (
       d.peer,
       d.number,
-      labelled it.0,
-      numbered_map labelled requests d.number it.0 it.1,
-      is_back_at (numbered requests d.number) it.0 it.1 ∙ it.2,
+      plain_request it.0,
+      numbered_map plain_request requests d.number it.0 it.1,
+      is_back_at (element_at requests d.number) it.0 it.1 ∙ it.2,
       ap (request_slot d.peer) it.3,
       plain_sent world i d.peer now d.number,
     )

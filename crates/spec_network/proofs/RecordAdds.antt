@@ -5,7 +5,7 @@ use Rattle.std.specs.List.{Contains}
 use Rattle.std.proofs.lemmas.Bool.Decides.{nat_tests}
 use Rattle.std.proofs.lemmas.Bool.{cases_eq}
 use Rattle.wire_message.specs.Content.{Content}
-use Rattle.base_lists.specs.Numbered.{numbered, change}
+use Rattle.base_lists.specs.Numbered.{element_at, change}
 use Rattle.base_lists.specs.Put.{put}
 use Rattle.base_lists.proofs.Members.{contains_none, contains_if, contains_one}
 use Rattle.base_lists.proofs.Numbered.{numbered_push, numbered_kept, numbered-change, numbered-changed}
@@ -33,11 +33,11 @@ adds_same me r x e f = record {
 }
   where
     go : (p : Packet) → Has p r → Has p x
-    go (Asking at c) h = (h.0, ap (λ g. numbered (g at.to) at.number) e ∙ h.1, h.2, h.3)
+    go (Asking at c) h = (h.0, ap (λ g. element_at (g at.to) at.number) e ∙ h.1, h.2, h.3)
     go (Replying at c) h = (h.0, ap (λ g. run_of at.number (g at.from)) f ∙ h.1, h.2, h.3)
 
     back : (p : Packet) → Has p x → Has p r
-    back (Asking at c) h = (h.0, ap (λ g. numbered (g at.to) at.number) (sym e) ∙ h.1, h.2, h.3)
+    back (Asking at c) h = (h.0, ap (λ g. element_at (g at.to) at.number) (sym e) ∙ h.1, h.2, h.3)
     back (Replying at c) h = (h.0, ap (λ g. run_of at.number (g at.from)) (sym f) ∙ h.1, h.2, h.3)
 
 -- a place with the same parts is the same
@@ -74,12 +74,12 @@ adds_asked me now to slot m r x e f = record {
     other : (j : ℕ) → j ≢ to → x.asked j ≡ r.asked j
     other j n = ap (λ g. g j) e ∙ put_other r.asked to _ j n
 
-    fresh : (request : Request) × (numbered (x.asked to) (suc (length (r.asked to))) ≡ Some request)
+    fresh : (request : Request) × (element_at (x.asked to) (suc (length (r.asked to))) ≡ Some request)
         × (request.slot ≡ slot) ×
         (request.content ≡ m)
     fresh = (
       new_request now slot m,
-      ap (λ l. numbered l (suc (length (r.asked to)))) (at to refl)
+      ap (λ l. element_at l (suc (length (r.asked to)))) (at to refl)
           ∙ slice_get_last (r.asked to) (new_request now slot m),
       refl,
       refl,
@@ -89,13 +89,13 @@ adds_asked me now to slot m r x e f = record {
     go (Asking where_ c) h = elim (cases_eq where_.to to) [
       | inl is ↦ (
         h.0,
-        ap (λ l. numbered l where_.number) (at where_.to is)
+        ap (λ l. element_at l where_.number) (at where_.to is)
             ∙ numbered_kept (r.asked to) (new_request now slot m) where_.number h.0
-            (ap (λ b. numbered (r.asked b) where_.number) (sym is) ∙ h.1),
+            (ap (λ b. element_at (r.asked b) where_.number) (sym is) ∙ h.1),
         h.2,
         h.3,
       )
-      | inr n ↦ (h.0, ap (λ l. numbered l where_.number) (other where_.to n) ∙ h.1, h.2, h.3)
+      | inr n ↦ (h.0, ap (λ l. element_at l where_.number) (other where_.to n) ∙ h.1, h.2, h.3)
     ]
     go (Replying where_ c) h = (h.0, ap (λ g. run_of where_.number (g where_.from)) f ∙ h.1, h.2, h.3)
 
@@ -103,14 +103,14 @@ adds_asked me now to slot m r x e f = record {
         → Has p r ⊎ Contains (Asking (place_at me to (suc (length (r.asked to))) slot) m ∷ []) p
     only (Asking where_ c) o h = elim (cases_eq where_.to to) [
       | inl is ↦ elim (numbered_push (r.asked to) (new_request now slot m) where_.number h.0
-          (ap (λ l. numbered l where_.number) (sym (at where_.to is)) ∙ h.1)) [
-            | inl was ↦ inl (h.0, ap (λ b. numbered (r.asked b) where_.number) is ∙ was, h.2, h.3)
+          (ap (λ l. element_at l where_.number) (sym (at where_.to is)) ∙ h.1)) [
+            | inl was ↦ inl (h.0, ap (λ b. element_at (r.asked b) where_.number) is ∙ was, h.2, h.3)
             | inr last ↦ inr (contains_if (same_asking
                 (same_place where_ me to (suc (length (r.asked to))) slot o is last.0
                 (sym h.2 ∙ ap (λ (request : Request). request.slot) (sym last.1)))
                 (sym h.3 ∙ ap (λ (request : Request). request.content) (sym last.1))))
           ]
-      | inr n ↦ inl (h.0, ap (λ l. numbered l where_.number) (sym (other where_.to n)) ∙ h.1, h.2, h.3)
+      | inr n ↦ inl (h.0, ap (λ l. element_at l where_.number) (sym (other where_.to n)) ∙ h.1, h.2, h.3)
     ]
     only (Replying where_ c) o h = inl (h.0, ap (λ g. run_of where_.number (g where_.from)) (sym f) ∙ h.1, h.2, h.3)
 
@@ -131,9 +131,9 @@ adds_changed me to k f r x e ran same =
     go : (p : Packet) → Has p r → Has p x
     go (Asking where_ m) h = elim (cases_eq where_.to to) [
       | inl is ↦ (let l = where_.number in
-          let it = numbered-changed f (r.asked to) k l h.0 (ap (λ b. numbered (r.asked b) l) (sym is) ∙ h.1) in (
+          let it = numbered-changed f (r.asked to) k l h.0 (ap (λ b. element_at (r.asked b) l) (sym is) ∙ h.1) in (
             it.0,
-            ap (λ q. numbered q l) (at where_.to is) ∙ it.1,
+            ap (λ q. element_at q l) (at where_.to is) ∙ it.1,
             elim it.2 [
               | inl u ↦ ap (λ (request : Request). request.slot) u ∙ h.2
               | inr u ↦ ap (λ (request : Request). request.slot) u ∙ ((same h.0).0 ∙ h.2)
@@ -143,16 +143,16 @@ adds_changed me to k f r x e ran same =
               | inr u ↦ ap (λ (request : Request). request.content) u ∙ ((same h.0).1 ∙ h.3)
             ],
           ))
-      | inr n ↦ (h.0, ap (λ q. numbered q where_.number) (other where_.to n) ∙ h.1, h.2, h.3)
+      | inr n ↦ (h.0, ap (λ q. element_at q where_.number) (other where_.to n) ∙ h.1, h.2, h.3)
     ]
     go (Replying where_ m) h = (h.0, ap (λ g. run_of where_.number (g where_.from)) ran ∙ h.1, h.2, h.3)
 
     back : (p : Packet) → Has p x → Has p r
     back (Asking where_ m) h = elim (cases_eq where_.to to) [
       | inl is ↦ (let l = where_.number in
-          let it = numbered-change f (r.asked to) k l h.0 (ap (λ q. numbered q l) (sym (at where_.to is)) ∙ h.1) in (
+          let it = numbered-change f (r.asked to) k l h.0 (ap (λ q. element_at q l) (sym (at where_.to is)) ∙ h.1) in (
             it.0,
-            ap (λ b. numbered (r.asked b) l) is ∙ it.1,
+            ap (λ b. element_at (r.asked b) l) is ∙ it.1,
             elim it.2 [
               | inl u ↦ sym (ap (λ (request : Request). request.slot) u.1) ∙ h.2
               | inr u ↦ sym (ap (λ (request : Request). request.slot) u.1 ∙ (same it.0).0) ∙ h.2
@@ -162,7 +162,7 @@ adds_changed me to k f r x e ran same =
               | inr u ↦ sym (ap (λ (request : Request). request.content) u.1 ∙ (same it.0).1) ∙ h.3
             ],
           ))
-      | inr n ↦ (h.0, ap (λ q. numbered q where_.number) (sym (other where_.to n)) ∙ h.1, h.2, h.3)
+      | inr n ↦ (h.0, ap (λ q. element_at q where_.number) (sym (other where_.to n)) ∙ h.1, h.2, h.3)
     ]
     back (Replying where_ m) h = (h.0, ap (λ g. run_of where_.number (g where_.from)) (sym ran) ∙ h.1, h.2, h.3)
 
@@ -222,7 +222,7 @@ adds_run me contact m reply r x asks e none = record {
     )
 
     go : (p : Packet) → Has p r → Has p x
-    go (Asking where_ c) h = (h.0, ap (λ g. numbered (g where_.to) where_.number) asks ∙ h.1, h.2, h.3)
+    go (Asking where_ c) h = (h.0, ap (λ g. element_at (g where_.to) where_.number) asks ∙ h.1, h.2, h.3)
     go (Replying where_ c) h = elim (cases_eq where_.from contact.peer) [
       | inl is ↦ (
         h.0,
@@ -237,7 +237,7 @@ adds_run me contact m reply r x asks e none = record {
 
     only : (p : Packet) → sender p ≡ me → Has p x
         → Has p r ⊎ Contains (Replying (place_at contact.peer me contact.number contact.slot) reply ∷ []) p
-    only (Asking where_ c) o h = inl (h.0, ap (λ g. numbered (g where_.to) where_.number) (sym asks) ∙ h.1, h.2, h.3)
+    only (Asking where_ c) o h = inl (h.0, ap (λ g. element_at (g where_.to) where_.number) (sym asks) ∙ h.1, h.2, h.3)
     only (Replying where_ c) o h = elim (cases_eq where_.from contact.peer) [
       | inl is ↦ elim (run_of_push where_.number (r.ran contact.peer) (new_run contact m reply) h.0
           (ap (run_of where_.number) (sym (at where_.from is)) ∙ h.1)) [

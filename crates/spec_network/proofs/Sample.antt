@@ -15,7 +15,7 @@ use Rattle.spec_node.specs.Credits.{greatest_holding}
 use Rattle.spec_node.specs.Behaviour.{Behaviour, Sending, Short, Lent, asks_well}
 use Rattle.spec_node.specs.Step.{reply_slot, request_slot}
 use Rattle.spec_node.specs.NodeStep.{Job, IsAllSound, OfRequest, OfCall, OfDelivery, OfTick}
-use Rattle.spec_network.specs.World.{Event, Asks, Does, RequestComes, ReplyComes, Ticks, Timed, OfNode, Unsent, IsAmong}
+use Rattle.spec_network.specs.World.{Event, Asks, Does, RequestComes, ReplyComes, Ticks, EventAt, OfNode, Unsent, IsAmong}
 use Rattle.spec_network.specs.World.{opening, answers_of}
 use Rattle.spec_network.specs.Headline.{Headline}
 use Rattle.spec_node.specs.EveryEvent.{Good}
@@ -85,10 +85,10 @@ asks node thread to = Asks node (record {
   what = record { category = Short; handler = 128; args = []; payload = Lent []; offset = 0 };
 })
 
-abbrev at : ℕ → Event ℕ → Timed ℕ
+abbrev at : ℕ → Event ℕ → EventAt ℕ
 at now event = record { now = now; event = event }
 
-abbrev events : List (Timed ℕ)
+abbrev events : List (EventAt ℕ)
 events =
     at 0 (asks 0 0 1) ∷ at 0 (asks 0 0 1) ∷ at 0 (asks 0 9 1) ∷ at 0 (asks 0 0 3) ∷ at 0 (asks 0 0 0)
     ∷ at 0 (Does 1 0 7) ∷ at 0 (RequestComes 0 1 1) ∷ at 0 (asks 1 0 1) ∷ at 0 (Does 1 0 8) ∷ at 0 (RequestComes 0 1 1)
@@ -176,11 +176,11 @@ among_one (ReplyComes from to number) e =
     let parts = and_parts (ltb from 3) (ltb to 3) e in (ltb-true _ _ parts.0, ltb-true _ _ parts.1)
 among_one (Ticks node) e = ltb-true _ _ e
 
-abbrev are_among : List (Timed ℕ) → Bool
+abbrev are_among : List (EventAt ℕ) → Bool
 are_among [] = true
 are_among (timed ∷ more) = is_among timed.event && are_among more
 
-among_all : (timed : List (Timed ℕ)) → are_among timed ≡ true → AreAmong job timed
+among_all : (timed : List (EventAt ℕ)) → are_among timed ≡ true → AreAmong job timed
 among_all [] e = tt
 among_all (timed ∷ more) e =
     let parts = and_parts (is_among timed.event) (are_among more) e in

@@ -4,7 +4,7 @@ use Rattle.std.proofs.Common.{◌∷◌, Option, None, Some, refl, sym, ap, ◌�
 use Rattle.std.specs.List.{AllByRecursion, Contains}
 use Rattle.std.proofs.lemmas.Bool.{cases_eq}
 use Rattle.std.proofs.lemmas.List.Elements.{Contains-append_left, Contains-append_right, Contains-append_cases}
-use Rattle.base_lists.specs.Numbered.{numbered}
+use Rattle.base_lists.specs.Numbered.{element_at}
 use Rattle.base_lists.specs.Put.{put}
 use Rattle.base_lists.proofs.Members.{contains_none}
 use Rattle.base_lists.proofs.Numbered.{numbered_nil}
@@ -13,11 +13,11 @@ use Rattle.spec_node.specs.Record.{Request, Run, Node}
 use Rattle.spec_node.specs.Executed.{run_of}
 use Rattle.spec_node.specs.Step.{tick_choice}
 use Rattle.spec_node.specs.NodeStep.{Job, site_of, IsAllSound}
-use Rattle.spec_network.specs.World.{World, opening, Event, Asks, Does, RequestComes, ReplyComes, Ticks, Timed, Fall}
+use Rattle.spec_network.specs.World.{World, opening, Event, Asks, Does, RequestComes, ReplyComes, Ticks, EventAt, Fall}
 use Rattle.spec_network.specs.World.{falls, request_event, reply_event, after_at, world_after, run, IsAmong}
 use Rattle.spec_network.specs.Invariant.{Holds}
 use Rattle.spec_network.specs.Sent.{Packet, Asking, Replying, sender, Has, IsRecorded}
-use Rattle.spec_network.specs.Sent.{sends_at, sent, SentAreRecorded}
+use Rattle.spec_network.specs.Sent.{sends_at, datagrams_sent, SentAreRecorded}
 use Rattle.spec_network.proofs.Worlds.{step_keeps, opening_holds}
 use Rattle.spec_network.proofs.RecordAdds.{Adds, adds_same}
 use Rattle.spec_network.proofs.NodeSends.{adds_request, adds_request_comes, adds_reply_comes, adds_tick}
@@ -58,7 +58,7 @@ nothing_sent world p = ((λ h. elim h [ inl was ↦ was | inr none ↦ absurd (c
 -- a request comes, if it was sent
 request_sends : {Local Call Told : Type 0} (job : Job Local Call Told) (IsKept : (me : ℕ) → Local → Type 0)
     (world : World Local)
-    (now i j k : ℕ) (o : Option Request) → Holds job IsKept world → numbered ((world i).asked j) k ≡ o
+    (now i j k : ℕ) (o : Option Request) → Holds job IsKept world → element_at ((world i).asked j) k ≡ o
     → (p : Packet) → SendStep job world now (request_event job.settings i j k o) p
 request_sends job IsKept world now i j k None holds e p = nothing_sent world p
 request_sends job IsKept world now i j k (Some x) holds e p =
@@ -89,9 +89,9 @@ step_sends job IsKept world now (ReplyComes i j k) holds p = reply_sends job IsK
 
 -- a run from any state of which the invariant holds
 run_sends : {Local Call Told : Type 0} (job : Job Local Call Told) (IsKept : (me : ℕ) → Local → Type 0)
-    (events : List (Timed Call)) (world : World Local) → IsAllSound job.behaviour IsKept → Holds job IsKept world
-    → AllByRecursion (λ (e : Timed Call). IsAmong job.settings e.event) events
-    → (p : Packet) → (IsRecorded world p ⊎ Contains (sent job events world) p) ↔ IsRecorded (run job events world) p
+    (events : List (EventAt Call)) (world : World Local) → IsAllSound job.behaviour IsKept → Holds job IsKept world
+    → AllByRecursion (λ (e : EventAt Call). IsAmong job.settings e.event) events
+    → (p : Packet) → (IsRecorded world p ⊎ Contains (datagrams_sent job events world) p) ↔ IsRecorded (run job events world) p
 run_sends job IsKept [] world sound holds among p = nothing_sent world p
 run_sends job IsKept (e ∷ events) world sound holds among p =
     let x = world_after job world e in
@@ -100,14 +100,14 @@ run_sends job IsKept (e ∷ events) world sound holds among p =
     let rest = run_sends job IsKept events x sound (step_keeps job IsKept world e sound holds among.0) among.1 p in (
       (λ h. rest.0 (elim h [
         | inl was ↦ inl (one.0 (inl was))
-        | inr given ↦ elim (Contains-append_cases here (sent job events x) p given) [
+        | inr given ↦ elim (Contains-append_cases here (datagrams_sent job events x) p given) [
           | inl g ↦ inl (one.0 (inr g))
           | inr g ↦ inr g
         ]
       ])),
       λ h. elim (rest.1 h) [
-        | inl was ↦ elim (one.1 was) [ inl g ↦ inl g | inr g ↦ inr (Contains-append_left here (sent job events x) p g) ]
-        | inr g ↦ inr (Contains-append_right here (sent job events x) p g)
+        | inl was ↦ elim (one.1 was) [ inl g ↦ inl g | inr g ↦ inr (Contains-append_left here (datagrams_sent job events x) p g) ]
+        | inr g ↦ inr (Contains-append_right here (datagrams_sent job events x) p g)
       ],
     )
 
@@ -121,8 +121,8 @@ nothing_recorded start (Replying at c) h = absurd (no_run h.0 h.1)
 
 -- what was sent is what is recorded
 pub sent_are_recorded : {Local Call Told : Type 0} (job : Job Local Call Told) (IsKept : (me : ℕ) → Local → Type 0)
-    (start : ℕ → Local) (events : List (Timed Call)) → IsAllSound job.behaviour IsKept → ((i : ℕ) → IsKept i (start i))
-    → AllByRecursion (λ (e : Timed Call). IsAmong job.settings e.event) events → SentAreRecorded job start events
+    (start : ℕ → Local) (events : List (EventAt Call)) → IsAllSound job.behaviour IsKept → ((i : ℕ) → IsKept i (start i))
+    → AllByRecursion (λ (e : EventAt Call). IsAmong job.settings e.event) events → SentAreRecorded job start events
 sent_are_recorded job IsKept start events sound good among p =
     let both = run_sends job IsKept events (opening start) sound (opening_holds job IsKept start good) among p in
     ((λ h. both.0 (inr h)), λ h. elim (both.1 h) [ inl was ↦ absurd (nothing_recorded start p was) | inr g ↦ g ])

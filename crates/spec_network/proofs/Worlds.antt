@@ -6,7 +6,7 @@ use Rattle.std.proofs.lemmas.Bool.{and_parts}
 use Rattle.wire_message.specs.Parameters.{Parameters}
 use Rattle.wire_message.specs.Content.{Content}
 use Rattle.wire_message.specs.Message.{Message}
-use Rattle.base_lists.specs.Numbered.{numbered, change}
+use Rattle.base_lists.specs.Numbered.{element_at, change}
 use Rattle.base_lists.specs.Put.{put}
 use Rattle.base_lists.proofs.Numbered.{change_none, numbered-change, numbered_nil}
 use Rattle.spec_node.specs.declared.answer.Asked.{Asked}
@@ -27,7 +27,7 @@ use Rattle.spec_node.proofs.Runs.{run_of_there}
 use Rattle.spec_node.proofs.Answers.{accepted_says, runs_says, returns_says, CanAsk, can_says, sends_choice}
 use Rattle.spec_node.proofs.Answers.{no_request}
 use Rattle.spec_node.proofs.LocalKept.{event_kept}
-use Rattle.spec_network.specs.World.{World, opening, Event, Asks, Does, RequestComes, ReplyComes, Ticks, Timed, Fall}
+use Rattle.spec_network.specs.World.{World, opening, Event, Asks, Does, RequestComes, ReplyComes, Ticks, EventAt, Fall}
 use Rattle.spec_network.specs.World.{request_event, reply_event, falls, after_at, world_after, IsAmong}
 use Rattle.spec_network.specs.Invariant.{PairInvariant, WorldInvariant, Holds}
 use Rattle.spec_network.proofs.Pairs.{pair_none, pair_accepts, pair_runs, pair_back, pair_sent}
@@ -39,7 +39,7 @@ use Rattle.spec_network.proofs.NodeChanges.{asked_step, ran_step, same_step}
 -- or the reply of a run
 abbrev pub Came : {Local Call : Type 0} → Parameters → World Local → (i : ℕ) → NodeEvent Call → Type 0
 Came settings world i (Comes m) =
-    ((from k : ℕ) × (request : Request) × (numbered ((world from).asked i) k ≡ Some request) ×
+    ((from k : ℕ) × (request : Request) × (element_at ((world from).asked i) k ≡ Some request) ×
     (m ≡ request_message settings from i k request))
     ⊎ ((to k : ℕ) × (run : Run) × (run_of k ((world to).ran i) ≡ Some run) × (m ≡ reply_message settings i to run))
 Came settings world i _ = i < settings.nodes
@@ -84,7 +84,7 @@ asks_keep job IsKept world now i ask _ sound holds here good e =
 request_keeps : {Local Call Told : Type 0} (job : Job Local Call Told) (IsKept : (me : ℕ) → Local → Type 0)
     (world : World Local)
     (from i k : ℕ) (request : Request) (v : Verdict) → IsAllSound job.behaviour IsKept → Holds job IsKept world
-    → numbered ((world from).asked i) k ≡ Some request
+    → element_at ((world from).asked i) k ≡ Some request
     → IsKept i (after_delivery (site_of job i) (world i) (request_message job.settings from i k request) v).local
     → verdict (site_of job i) (world i) (request_message job.settings from i k request) ≡ v
     → Holds job IsKept (put world i
@@ -217,7 +217,7 @@ CameAt settings world (Some fall) = Came settings world fall.node fall.event
 -- a request that was accepted
 request_came : {Local : Type 0} (Call : Type 0) (settings : Parameters) (world : World Local) (from to k : ℕ)
     (o : Option Request)
-    → numbered ((world from).asked to) k ≡ o → CameAt {Call = Call} settings world (request_event settings from to k o)
+    → element_at ((world from).asked to) k ≡ o → CameAt {Call = Call} settings world (request_event settings from to k o)
 request_came Call settings world from to k None e = tt
 request_came Call settings world from to k (Some x) e = inl (from, k, x, e, refl)
 
@@ -232,7 +232,7 @@ reply_came Call settings world from to k (Some r) e = inr (to, k, r, e, refl)
 pub falls_came : {Local Call : Type 0} (settings : Parameters) (world : World Local) (e : Event Call)
     → IsAmong settings e → CameAt settings world (falls settings world e)
 falls_came settings world (RequestComes i j k) a =
-    request_came _ settings world i j k (numbered ((world i).asked j) k) refl
+    request_came _ settings world i j k (element_at ((world i).asked j) k) refl
 falls_came settings world (ReplyComes i j k) a = reply_came _ settings world i j k (run_of k ((world j).ran i)) refl
 falls_came settings world (Asks i ask) a = a
 falls_came settings world (Does i thread call) a = a
@@ -251,7 +251,7 @@ after_keeps job IsKept world now (Some fall) sound holds came =
 -- what holds of each pair, and of what each node keeps, holds after an event
 pub step_keeps : {Local Call Told : Type 0} (job : Job Local Call Told) (IsKept : (me : ℕ) → Local → Type 0)
     (world : World Local)
-    (timed : Timed Call) → IsAllSound job.behaviour IsKept → Holds job IsKept world → IsAmong job.settings timed.event
+    (timed : EventAt Call) → IsAllSound job.behaviour IsKept → Holds job IsKept world → IsAmong job.settings timed.event
     → Holds job IsKept (world_after job world timed)
 step_keeps job IsKept world timed sound holds a =
     after_keeps job IsKept world timed.now (falls job.settings world timed.event) sound holds

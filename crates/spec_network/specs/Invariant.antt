@@ -2,7 +2,7 @@
 use Rattle.std.specs.Prelude.{ℕ, ◌≡◌, ◌<◌, true, List, [], Option, Some, slice_get}
 use Rattle.wire_message.specs.Parameters.{Parameters}
 use Rattle.wire_message.specs.Content.{Content}
-use Rattle.base_lists.specs.Numbered.{numbered}
+use Rattle.base_lists.specs.Numbered.{element_at}
 use Rattle.spec_node.specs.declared.answer.Why.{Why}
 use Rattle.spec_node.specs.Record.{Request, Run}
 use Rattle.spec_node.specs.Executed.{run_of}
@@ -19,14 +19,14 @@ pub record PairInvariant
   pub orderly : IsOrderly limits requests
   -- each content may be delivered
   pub well : (number : ℕ) (request : Request)
-      → numbered requests number ≡ Some request → asks_well refuses request.content ≡ true
+      → element_at requests number ≡ Some request → asks_well refuses request.content ≡ true
   pub replies : (place : ℕ) (run : Run) → slice_get runs place ≡ Some run → replies_well refuses run.reply ≡ true
   -- what is back was run
   pub back_ran : (number : ℕ) (request : Request)
-      → numbered requests number ≡ Some request → request.back ≡ true → (run : Run) × (run_of number runs ≡ Some run)
+      → element_at requests number ≡ Some request → request.back ≡ true → (run : Run) × (run_of number runs ≡ Some run)
   -- what was run was accepted, and ran with its slot and its content
   pub named : (place : ℕ) (run : Run) → slice_get runs place ≡ Some run
-      → (request : Request) × (numbered requests run.number ≡ Some request) × (request.slot ≡ run.slot)
+      → (request : Request) × (element_at requests run.number ≡ Some request) × (request.slot ≡ run.slot)
       × (request.content ≡ run.content)
   -- nothing ran twice
   pub once : (place other : ℕ) (run again : Run)
@@ -41,7 +41,7 @@ pub record WorldInvariant
   -- a node asks nothing of itself, and only nodes ask and are asked
   pub own : (node : ℕ) → (world node).asked node ≡ []
   pub nodes : (from to number : ℕ) (request : Request)
-      → numbered ((world from).asked to) number ≡ Some request → (from < settings.nodes) × (to < settings.nodes)
+      → element_at ((world from).asked to) number ≡ Some request → (from < settings.nodes) × (to < settings.nodes)
   -- what it keeps is good
   pub kept : (node : ℕ) → IsKept node (world node).local
 

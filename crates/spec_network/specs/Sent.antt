@@ -4,17 +4,17 @@ use Rattle.std.specs.Prelude.{ℕ, ◌≡◌, List, [], ◌∷◌, ◌++◌, ◌
 use Rattle.std.specs.List.{Contains}
 use Rattle.wire_message.specs.Content.{Content, content_of}
 use Rattle.wire_message.specs.Message.{Message}
-use Rattle.base_lists.specs.Numbered.{numbered}
+use Rattle.base_lists.specs.Numbered.{element_at}
 use Rattle.spec_node.specs.declared.answer.Asked.{Asked}
 use Rattle.spec_node.specs.declared.answer.Asked.TheVariants as asked
 use Rattle.spec_node.specs.Record.{Request, Run, Node}
 use Rattle.spec_node.specs.Requests.{next_claim}
 use Rattle.spec_node.specs.Executed.{run_of, run_at}
 use Rattle.spec_node.specs.Behaviour.{Ask}
-use Rattle.spec_node.specs.Step.{Site, said, with_sender, request_answer, Verdict, Duplicated, Runs, verdict}
+use Rattle.spec_node.specs.Step.{Site, request_content, with_sender, request_answer, Verdict, Duplicated, Runs, verdict}
 use Rattle.spec_node.specs.Step.{TickChoice, Retransmits, Sends, Rests, tick_choice}
 use Rattle.spec_node.specs.NodeStep.{Job, site_of, NodeEvent, Asks, Does, Comes, Ticks}
-use Rattle.spec_network.specs.World.{World, opening, Timed, Fall, falls, world_after, run}
+use Rattle.spec_network.specs.World.{World, opening, EventAt, Fall, falls, world_after, run}
 
 -- the pair and the number of a request, with its slot
 pub record Place : Type 0 where
@@ -36,7 +36,7 @@ sender (Replying place content) = place.to
 -- the record of that node has it
 abbrev pub Has : {Local : Type 0} → Packet → Node Local → Type 0
 Has (Asking place content) node =
-    (request : Request) × (numbered (node.asked place.to) place.number ≡ Some request)
+    (request : Request) × (element_at (node.asked place.to) place.number ≡ Some request)
     × (request.slot ≡ place.slot) × (request.content ≡ content)
 Has (Replying place content) node =
     (run : Run) × (run_of place.number (node.ran place.from) ≡ Some run)
@@ -61,7 +61,7 @@ replying from to number (Some run) =
 -- a thread's request sends its message where it is accepted
 abbrev pub asked_sends : {Local : Type 0} → Site Local → Node Local → Ask → Asked → List Packet
 asked_sends site node ask (asked.Accepted to slot number) =
-    Asking (record { from = site.me; to = ask.to; number = number; slot = slot }) (said site node ask) ∷ []
+    Asking (record { from = site.me; to = ask.to; number = number; slot = slot }) (request_content site node ask) ∷ []
 asked_sends site node ask _ = []
 
 -- a message that is delivered sends a reply where it is a request that runs, or that came again
@@ -76,7 +76,7 @@ delivered_sends site node message _ = []
 
 -- a tick sends the request that is due, or the node's next one
 abbrev pub ticked_sends : {Local : Type 0} → (me : ℕ) → Node Local → TickChoice → List Packet
-ticked_sends me node (Retransmits due) = asking me due.peer due.number (numbered (node.asked due.peer) due.number)
+ticked_sends me node (Retransmits due) = asking me due.peer due.number (element_at (node.asked due.peer) due.number)
 ticked_sends me node (Sends sending) =
     let claim = next_claim (node.asked sending.to) in
     Asking (record { from = me; to = sending.to; number = claim.number; slot = claim.slot }) sending.content ∷ []
@@ -98,16 +98,16 @@ sends_at job world now None = []
 sends_at job world now (Some fall) = sends job fall.node (world fall.node) now fall.event
 
 -- all that was sent in a run
-abbrev pub sent : {Local Call Told : Type 0}
-    → Job Local Call Told → List (Timed Call) → World Local → List Packet
-sent job [] world = []
-sent job (timed ∷ rest) world =
+abbrev pub datagrams_sent : {Local Call Told : Type 0}
+    → Job Local Call Told → List (EventAt Call) → World Local → List Packet
+datagrams_sent job [] world = []
+datagrams_sent job (timed ∷ rest) world =
     sends_at job world timed.now (falls job.settings world timed.event)
-    ++ sent job rest (world_after job world timed)
+    ++ datagrams_sent job rest (world_after job world timed)
 
 -- the messages that were sent in the run from the opening are those that the records have
 abbrev pub SentAreRecorded : {Local Call Told : Type 0}
-    → Job Local Call Told → (ℕ → Local) → List (Timed Call) → Type 0
+    → Job Local Call Told → (ℕ → Local) → List (EventAt Call) → Type 0
 SentAreRecorded job start events =
     (packet : Packet)
-    → Contains (sent job events (opening start)) packet ↔ IsRecorded (run job events (opening start)) packet
+    → Contains (datagrams_sent job events (opening start)) packet ↔ IsRecorded (run job events (opening start)) packet

@@ -1,7 +1,7 @@
 -- Nodes, and every message that they ever sent.
 use Rattle.std.specs.Prelude.{ℕ, ◌<◌, List, [], ◌∷◌, Option, None, Some}
 use Rattle.wire_message.specs.Parameters.{Parameters}
-use Rattle.base_lists.specs.Numbered.{numbered}
+use Rattle.base_lists.specs.Numbered.{element_at}
 use Rattle.base_lists.specs.Put.{put}
 use Rattle.spec_node.specs.Record.{Request, Run, Node, opening_node}
 use Rattle.spec_node.specs.Executed.{run_of}
@@ -28,7 +28,7 @@ pub data Event (Call : Type 0) : Type 0 where
   Ticks : (node : ℕ) → Event Call
 
 -- an event with its time
-pub record Timed (Call : Type 0) : Type 0 where
+pub record EventAt (Call : Type 0) : Type 0 where
   pub now : ℕ
   pub event : Event Call
 
@@ -57,7 +57,7 @@ abbrev pub falls : {Local Call : Type 0} → Parameters → World Local → Even
 falls settings world (Asks node ask) = Some (record { node = node; event = NodeAsks ask })
 falls settings world (Does node thread call) = Some (record { node = node; event = NodeDoes thread call })
 falls settings world (RequestComes from to number) =
-    request_event settings from to number (numbered ((world from).asked to) number)
+    request_event settings from to number (element_at ((world from).asked to) number)
 falls settings world (ReplyComes from to number) =
     reply_event settings from to (run_of number ((world to).ran from))
 falls settings world (Ticks node) = Some (record { node = node; event = NodeTicks })
@@ -69,7 +69,7 @@ answer_at job world now (Some fall) = OfNode (node_answer job fall.node (world f
 
 -- what an event is answered
 abbrev pub world_answer : {Local Call Told : Type 0}
-    → Job Local Call Told → World Local → Timed Call → WorldAnswer Told
+    → Job Local Call Told → World Local → EventAt Call → WorldAnswer Told
 world_answer job world timed = answer_at job world timed.now (falls job.settings world timed.event)
 
 abbrev pub after_at : {Local Call Told : Type 0}
@@ -80,18 +80,18 @@ after_at job world now (Some fall) =
 
 -- the world after an event
 abbrev pub world_after : {Local Call Told : Type 0}
-    → Job Local Call Told → World Local → Timed Call → World Local
+    → Job Local Call Told → World Local → EventAt Call → World Local
 world_after job world timed = after_at job world timed.now (falls job.settings world timed.event)
 
 -- the world after a list of events
 abbrev pub run : {Local Call Told : Type 0}
-    → Job Local Call Told → List (Timed Call) → World Local → World Local
+    → Job Local Call Told → List (EventAt Call) → World Local → World Local
 run job [] world = world
 run job (timed ∷ rest) world = run job rest (world_after job world timed)
 
 -- the answers of a run, in order
 abbrev pub answers_of : {Local Call Told : Type 0}
-    → Job Local Call Told → List (Timed Call) → World Local → List (WorldAnswer Told)
+    → Job Local Call Told → List (EventAt Call) → World Local → List (WorldAnswer Told)
 answers_of job [] world = []
 answers_of job (timed ∷ rest) world =
     world_answer job world timed ∷ answers_of job rest (world_after job world timed)

@@ -12,15 +12,15 @@
 //! - no node holds more message buffers than the sum over its peers of the credits both ways (`HoldsFew`; the plain
 //!   world's counts are the records', `CountsAgree`);
 //! - a request that passes every earlier refusal, with a number left, is answered 'not yet' exactly where all credits
-//!   of its pair are unreturned (`NotYetExactly`);
+//!   of its pair are outstanding (`NotYetExactly`);
 //! - a request that was sent and hasn't run runs where it comes, unless a lock defers it; its reply gets the slot of
-//!   its label, and each other request of that label is back (`FindsItsSlot`); the reply stands there, as the message
-//!   of that slot and as the answer to repeats, until a later request of that label runs (`ReplyStands`), and none does
+//!   its slot, and each other request of that slot is back (`FindsItsSlot`); the reply stands there, as the message
+//!   of that slot and as the answer to repeats, until a later request of that slot runs (`ReplyStands`), and none does
 //!   before the request is back (`NonePasses`); a reply that comes while its request isn't back gives back that
 //!   request's credit, unless a lock defers it (`ReplyFindsItsRequest`);
-//! - a request that ran was accepted and ran with its label and content, none ran twice (`RunsOnce`), and one that is
+//! - a request that ran was accepted and ran with its slot and content, none ran twice (`RunsOnce`), and one that is
 //!   back ran (`BackRan`);
-//! - requests are those of two different nodes that are there, with labels below the pair's credits (`IsWithinCredits`).
+//! - requests are those of two different nodes that are there, with slots below the pair's credits (`IsWithinCredits`).
 //!
 //! Of a whole run (`Headline`, `specs/Headline.antt`): it is a run of the plain world, step by step, and no delivery is
 //! answered Refused; the laws hold in each state; requests and runs only become more; no request runs twice and no

@@ -7,7 +7,7 @@ use Rattle.std.proofs.lemmas.Bool.{and_parts, not-true, eqb-false}
 use Rattle.wire_message.specs.Parameters.{Parameters}
 use Rattle.wire_message.specs.Content.{Content, content_of}
 use Rattle.wire_message.specs.Message.{Message}
-use Rattle.base_lists.specs.Numbered.{numbered}
+use Rattle.base_lists.specs.Numbered.{element_at}
 use Rattle.base_lists.proofs.Cases.{says_no}
 use Rattle.part_handlers.specs.declared.rules.CallKind.TheVariants as call
 use Rattle.part_handlers.specs.declared.rules.Forbidden.{Forbidden}
@@ -17,12 +17,12 @@ use Rattle.spec_node.specs.declared.answer.Asked.{Asked}
 use Rattle.spec_node.specs.declared.answer.Asked.TheVariants as asked
 use Rattle.spec_node.specs.declared.answer.Why.{Why}
 use Rattle.spec_node.specs.Record.{Node}
-use Rattle.spec_node.specs.Requests.{unreturned, free_slot, next_claim, is_open, Due}
+use Rattle.spec_node.specs.Requests.{outstanding, free_slot, next_claim, is_open, Due}
 use Rattle.spec_node.specs.Executed.{greatest}
 use Rattle.spec_node.specs.Credits.{limits_of}
 use Rattle.spec_node.specs.Behaviour.{Behaviour, Ask, Sending, is_request, asks_well, replies_well}
 use Rattle.spec_node.specs.Step.{Site, request_fault, unless_bad, unless_forbidden, own_answer, request_answer}
-use Rattle.spec_node.specs.Step.{said, refusal, address_fault, first_why, Verdict}
+use Rattle.spec_node.specs.Step.{request_content, refusal, address_fault, first_why, Verdict}
 use Rattle.spec_node.specs.Step.{Refused, Duplicated, Passed, Runs, Missed, Returns, unless_refused, unless_waiting}
 use Rattle.spec_node.specs.Step.{verdict, can_ask, Retransmits, Sends}
 use Rattle.spec_node.specs.Step.{Rests, choice_of}
@@ -37,7 +37,7 @@ pub record IsAccepted
   pub to_in : ask.to < site.settings.nodes
   pub other : ask.to ≢ site.me
   pub left : length (node.asked ask.to) < site.settings.last
-  pub free : unreturned (node.asked ask.to) < (limits_of site.settings site.me ask.to).credits
+  pub free : outstanding (node.asked ask.to) < (limits_of site.settings site.me ask.to).credits
   pub peer_is : peer ≡ ask.to
   pub slot_is : slot ≡ (next_claim (node.asked ask.to)).slot
   pub number_is : number ≡ (next_claim (node.asked ask.to)).number
@@ -97,8 +97,8 @@ accepted_says site node ask peer slot number e =
     let a = allowed (site.behaviour.judges ask.thread call.Request node.local) _ peer slot number e in
     let b = faultless (request_fault site.settings site.behaviour ask) _ peer slot number a.1 in
     let parts = fault_parts site.settings site.behaviour ask b.0 in
-    let d = not_own (eqb ask.to site.me) (site.behaviour.busy (said site node ask) node.local) _ peer slot number b.1 in
-    let f = claimed (leb limits.last (length requests)) (leb limits.credits (unreturned requests)) ask.to
+    let d = not_own (eqb ask.to site.me) (site.behaviour.busy (request_content site node ask) node.local) _ peer slot number b.1 in
+    let f = claimed (leb limits.last (length requests)) (leb limits.credits (outstanding requests)) ask.to
     (free_slot requests) (suc (length requests)) peer slot number d.1 in
     record {
       allowed = a.0;
@@ -106,7 +106,7 @@ accepted_says site node ask peer slot number e =
       to_in = parts.0;
       other = eqb-false ask.to site.me d.0;
       left = below_if limits.last (length requests) f.0;
-      free = below_if limits.credits (unreturned requests) f.1;
+      free = below_if limits.credits (outstanding requests) f.1;
       peer_is = f.2;
       slot_is = f.3;
       number_is = f.4;
@@ -196,7 +196,7 @@ pub runs_says : {Local : Type 0} (site : Site Local) (node : Node Local) (messag
 runs_says site node message e =
     let top = greatest message.slot (node.ran message.from) in
     let lock = site.behaviour.waits (content_of message) node.local in
-    let open_ = is_open message.slot (numbered (node.asked message.from) message.number) in
+    let open_ = is_open message.slot (element_at (node.asked message.from) message.number) in
     let a = unrefused (refusal site message) _ Runs e (λ reason f. runs_refused f) in
     let b = kind_parts (is_request message.kind) _ _ Runs a.1 (taken_not_run open_ lock) in
     let d = judged_runs (eqb message.number top) (ltb message.number top) lock b.1 in
@@ -217,7 +217,7 @@ runs_says site node message e =
 pub record IsReturning {Local : Type 0} (site : Site Local) (node : Node Local) (message : Message) : Type 0 where
   pub unrefused : refusal site message ≡ None
   pub reply : is_request message.kind ≡ false
-  pub open_ : is_open message.slot (numbered (node.asked message.from) message.number) ≡ true
+  pub open_ : is_open message.slot (element_at (node.asked message.from) message.number) ≡ true
   pub free : site.behaviour.waits (content_of message) node.local ≡ None
   pub well : replies_well site.behaviour.refuses (content_of message) ≡ true
 
@@ -226,7 +226,7 @@ pub returns_says : {Local : Type 0} (site : Site Local) (node : Node Local) (mes
 returns_says site node message e =
     let top = greatest message.slot (node.ran message.from) in
     let lock = site.behaviour.waits (content_of message) node.local in
-    let open_ = is_open message.slot (numbered (node.asked message.from) message.number) in
+    let open_ = is_open message.slot (element_at (node.asked message.from) message.number) in
     let a = unrefused (refusal site message) _ Returns e (λ reason f. returns_refused f) in
     let b = kind_parts_other (is_request message.kind) _ _ Returns a.1
     (judged_not_back (eqb message.number top) (ltb message.number top) lock) in
@@ -252,22 +252,22 @@ pub record CanAsk {Local : Type 0} (site : Site Local) (node : Node Local) (to :
   pub to_in : to < site.settings.nodes
   pub other : to ≢ site.me
   pub left : length (node.asked to) < site.settings.last
-  pub free : unreturned (node.asked to) < (limits_of site.settings site.me to).credits
+  pub free : outstanding (node.asked to) < (limits_of site.settings site.me to).credits
 
 pub can_says : {Local : Type 0} (site : Site Local) (node : Node Local) (to : ℕ)
     → can_ask site node to ≡ true → CanAsk site node to
 can_says site node to e =
     let limits = limits_of site.settings site.me to in
     let parts = and_parts (ltb to site.settings.nodes && not (eqb to site.me))
-    (ltb (length (node.asked to)) limits.last && ltb (unreturned (node.asked to)) limits.credits) e in
+    (ltb (length (node.asked to)) limits.last && ltb (outstanding (node.asked to)) limits.credits) e in
     let one = and_parts (ltb to site.settings.nodes) (not (eqb to site.me)) parts.0 in
-    let two = and_parts (ltb (length (node.asked to)) limits.last) (ltb (unreturned (node.asked to)) limits.credits)
+    let two = and_parts (ltb (length (node.asked to)) limits.last) (ltb (outstanding (node.asked to)) limits.credits)
     parts.1 in
     record {
       to_in = ltb-true to site.settings.nodes one.0;
       other = eqb-false to site.me (not-true (eqb to site.me) one.1);
       left = ltb-true (length (node.asked to)) limits.last two.0;
-      free = ltb-true (unreturned (node.asked to)) limits.credits two.1;
+      free = ltb-true (outstanding (node.asked to)) limits.credits two.1;
     }
 
 -- a request is sent of the node's own accord where nothing is due

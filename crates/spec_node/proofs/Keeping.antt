@@ -8,20 +8,20 @@ use Rattle.std.proofs.lemmas.Bool.{cases_Bool, cases_eq, cases_order, or_parts, 
 use Rattle.std.proofs.lemmas.Option.{same_Some}
 use Rattle.std.proofs.lemmas.Map.Steps.{length-le_from_distinct_below}
 use Rattle.base_lists.specs.Update.{update}
-use Rattle.base_lists.specs.Numbered.{numbered, change}
+use Rattle.base_lists.specs.Numbered.{element_at, change}
 use Rattle.base_lists.proofs.Update.{update-on}
 pub use Rattle.base_lists.proofs.Cases.{none_if as none_is}
 use Rattle.base_lists.proofs.Cases.{none_if, option_or_none}
 use Rattle.base_lists.proofs.Numbered.{numbered_at, numbered_on, numbered-change, numbered-change_here}
 use Rattle.spec_node.specs.Record.{Request}
-use Rattle.spec_node.specs.Requests.{taken, unreturned, free_slot, is_open, as_back, sent_at, open_from, open_in}
+use Rattle.spec_node.specs.Requests.{taken_slots, outstanding, free_slot, is_open, as_back, sent_at, open_from, open_in}
 use Rattle.spec_node.proofs.Slots.{free_below, free_outside, taken_from, taken_numbered}
 
 -- ---- which slots are taken
 
 -- a slot has an open request exactly where it is taken
 pub open_taken : (slot number : ℕ) (requests : List Request)
-    → is_some (open_from slot number requests) ≡ list_any (eqb slot) (taken requests)
+    → is_some (open_from slot number requests) ≡ list_any (eqb slot) (taken_slots requests)
 open_taken slot number [] = refl
 open_taken slot number (x ∷ requests) =
     let ih = open_taken slot (suc number) requests in
@@ -66,8 +66,8 @@ open_other slot requests request other =
     [ inl t ↦ rw t (option_or_none (open_in slot requests)) | inr f ↦ rw f (option_or_none (open_in slot requests)) ])
 
 -- the smallest slot that is free
-pub least_free : (requests : List Request) (slot : ℕ) → list_any (eqb slot) (taken requests) ≡ false
-    → ((q : ℕ) → q < slot → list_any (eqb q) (taken requests) ≡ true) → slot ≡ free_slot requests
+pub least_free : (requests : List Request) (slot : ℕ) → list_any (eqb slot) (taken_slots requests) ≡ false
+    → ((q : ℕ) → q < slot → list_any (eqb q) (taken_slots requests) ≡ true) → slot ≡ free_slot requests
 least_free requests slot free below = elim (cases_order slot (free_slot requests)) [
   | inl same ↦ same
   | inr apart ↦ elim apart [
@@ -79,7 +79,7 @@ least_free requests slot free below = elim (cases_order slot (free_slot requests
 -- of the requests of one slot all but the last one are back
 abbrev pub Apart : List Request → Type 0
 Apart xs =
-    (k l : ℕ) (request other : Request) → numbered xs k ≡ Some request → numbered xs l ≡ Some other → k < l
+    (k l : ℕ) (request other : Request) → element_at xs k ≡ Some request → element_at xs l ≡ Some other → k < l
     → request.slot ≡ other.slot
     → request.back ≡ true
 
@@ -89,7 +89,7 @@ all_other a [] e = tt
 all_other a (y ∷ ys) e = let parts = or_parts (eqb a y) (list_any (eqb a) ys) e in (parts.0, all_other a ys parts.1)
 
 -- slots that are taken are apart
-pub taken_apart : (requests : List Request) → Apart requests → IsDistinct eqb (taken requests)
+pub taken_apart : (requests : List Request) → Apart requests → IsDistinct eqb (taken_slots requests)
 unfolding IsDistinct
 taken_apart [] apart = tt
 taken_apart (x ∷ requests) apart =
@@ -99,7 +99,7 @@ taken_apart (x ∷ requests) apart =
     elim (cases_Bool x.back) [
       | inl t ↦ rw t ih
       | inr f ↦ rw f (
-        all_other x.slot (taken requests) (elim (cases_Bool (list_any (eqb x.slot) (taken requests))) [
+        all_other x.slot (taken_slots requests) (elim (cases_Bool (list_any (eqb x.slot) (taken_slots requests))) [
           | inl there ↦ (let it = taken_from requests x.slot there in
               absurd (true≢false (sym (apart 1 (suc (suc it.0)) x it.1 refl it.2 (omega arith) (sym it.4)) ∙ f)))
           | inr none ↦ none
@@ -108,15 +108,15 @@ taken_apart (x ∷ requests) apart =
       )
     ]
 
--- with a free slot below n fewer than n are unreturned
+-- with a free slot below n fewer than n are outstanding
 pub fewer : (requests : List Request) (n slot : ℕ) → Apart requests
-    → ((k : ℕ) (request : Request) → numbered requests k ≡ Some request → request.slot < n)
-    → slot < n → list_any (eqb slot) (taken requests) ≡ false → unreturned requests < n
+    → ((k : ℕ) (request : Request) → element_at requests k ≡ Some request → request.slot < n)
+    → slot < n → list_any (eqb slot) (taken_slots requests) ≡ false → outstanding requests < n
 unfolding IsDistinct
 fewer requests n slot apart low below free =
-    length-le_from_distinct_below (slot ∷ taken requests) n
-    (all_other slot (taken requests) free, taken_apart requests apart)
-    (λ q e. elim (or_cases (eqb q slot) (list_any (eqb q) (taken requests)) e) [
+    length-le_from_distinct_below (slot ∷ taken_slots requests) n
+    (all_other slot (taken_slots requests) free, taken_apart requests apart)
+    (λ q e. elim (or_cases (eqb q slot) (list_any (eqb q) (taken_slots requests)) e) [
       | inl same ↦ subst (λ a. a < n) (sym (eqb-true q slot same)) below
       | inr there ↦ (let it = taken_from requests q there in subst (λ a. a < n) it.4 (low (suc it.0) it.1 it.2))
     ])
@@ -153,8 +153,8 @@ is_open_says slot (Some request) e =
 
 -- two open requests of one slot are one
 pub one_open : (requests : List Request) (k l : ℕ) (request y : Request) → Apart requests
-    → numbered requests k ≡ Some request
-    → numbered requests l ≡ Some y → request.slot ≡ y.slot → request.back ≡ false → y.back ≡ false → k ≡ l
+    → element_at requests k ≡ Some request
+    → element_at requests l ≡ Some y → request.slot ≡ y.slot → request.back ≡ false → y.back ≡ false → k ≡ l
 one_open requests k l request y apart e f same a b = elim (cases_order k l) [
   | inl is ↦ is
   | inr other ↦ elim other [
@@ -166,35 +166,35 @@ one_open requests k l request y apart e f same a b = elim (cases_order k l) [
 -- what is open in a slot is open by its number
 pub open_if : (requests : List Request) (slot number : ℕ) (o : ℕ × Request) → open_in slot requests ≡ Some o
     → o.0 ≡ number
-    → is_open slot (numbered requests number) ≡ true
+    → is_open slot (element_at requests number) ≡ true
 open_if requests slot number o here same =
     let it = open_found slot 1 requests o here in
     rw (numbered_at requests number it.0 o.1 it.1 (omega (arith, it.2)), it.3, it.4) (eq-eqb slot slot refl)
 
 -- what is open by its number is what is open in its slot
 pub open_says : (requests : List Request) (slot number : ℕ) → Apart requests
-    → is_open slot (numbered requests number) ≡ true
-    → (request : Request) × (numbered requests number ≡ Some request) × (request.back ≡ false) × (request.slot ≡ slot) ×
+    → is_open slot (element_at requests number) ≡ true
+    → (request : Request) × (element_at requests number ≡ Some request) × (request.back ≡ false) × (request.slot ≡ slot) ×
     (open_in slot requests ≡ Some (number, request))
 open_says requests slot number apart e = go (open_in slot requests) refl
   where
     go : (k : Option (ℕ × Request)) → open_in slot requests ≡ k
-        → (request : Request) × (numbered requests number ≡ Some request) × (request.back ≡ false)
+        → (request : Request) × (element_at requests number ≡ Some request) × (request.back ≡ false)
         × (request.slot ≡ slot) ×
         (open_in slot requests ≡ Some (number, request))
     go None none =
-        let request = is_open_says slot (numbered requests number) e in
+        let request = is_open_says slot (element_at requests number) e in
         absurd (true≢false (sym
-        (ap (λ q. list_any (eqb q) (taken requests)) (sym request.3)
+        (ap (λ q. list_any (eqb q) (taken_slots requests)) (sym request.3)
         ∙ taken_numbered requests number request.0 request.1 request.2)
         ∙ (sym (open_taken slot 1 requests) ∙ ap is_some none)))
     go (Some o) some =
-        let request = is_open_says slot (numbered requests number) e in
+        let request = is_open_says slot (element_at requests number) e in
         let it = open_found slot 1 requests o some in
         let at = numbered_at requests o.0 it.0 o.1 it.1 it.2 in
         let k : o.0 ≡ number =
         one_open requests o.0 number o.1 request.0 apart at request.1 (it.4 ∙ sym request.3) it.3 request.2 in
-        let y : o.1 ≡ request.0 = same_Some o.1 request.0 (sym at ∙ (ap (numbered requests) k ∙ request.1)) in
+        let y : o.1 ≡ request.0 = same_Some o.1 request.0 (sym at ∙ (ap (element_at requests) k ∙ request.1)) in
         let whole : ◌≡◌ {A = ℕ × Request} o (number, request.0) = ap₂ (λ a b. (a, b)) k y in
         (request.0, request.1, request.2, request.3, some ∙ ap Some whole)
 
@@ -211,19 +211,19 @@ open_back_at j k (z ∷ requests) (suc p) request e n =
 
 -- another slot keeps what is open in it
 pub open_back : (slot : ℕ) (requests : List Request) (number : ℕ) (request : Request)
-    → numbered requests number ≡ Some request → request.slot ≢ slot
+    → element_at requests number ≡ Some request → request.slot ≢ slot
     → open_in slot (change as_back requests number) ≡ open_in slot requests
 open_back slot requests zero request e n = refl
 open_back slot requests (suc p) request e n = open_back_at slot 1 requests p request e n
 
 -- after it is back the slot is free
 pub open_free : (slot : ℕ) (requests : List Request) (number : ℕ) (request : Request) → Apart requests
-    → numbered requests number ≡ Some request
+    → element_at requests number ≡ Some request
     → request.back ≡ false → request.slot ≡ slot → open_in slot (change as_back requests number) ≡ None
 open_free slot requests number request apart e open_ same =
     none_if (open_in slot (change as_back requests number))
     (open_taken slot 1 (change as_back requests number)
-    ∙ elim (cases_Bool (list_any (eqb slot) (taken (change as_back requests number)))) [
+    ∙ elim (cases_Bool (list_any (eqb slot) (taken_slots (change as_back requests number)))) [
       | inl t ↦ (let it = taken_from (change as_back requests number) slot t in
           let y = numbered-change as_back requests number (suc it.0) it.1 it.2 in
           absurd (elim y.2 [
@@ -239,7 +239,7 @@ open_free slot requests number request apart e open_ same =
 -- one request fewer isn't back, where it came back by its place
 back_fewer_at : (requests : List Request) (p : ℕ) (request : Request) → slice_get requests p ≡ Some request
     → request.back ≡ false
-    → suc (length (taken (update requests p as_back))) ≡ length (taken requests)
+    → suc (length (taken_slots (update requests p as_back))) ≡ length (taken_slots requests)
 back_fewer_at [] p request e f = absurd (cc)
 back_fewer_at (z ∷ requests) zero request e f =
     let i : z.back ≡ false = ap (λ (a : Request). a.back) (same_Some z request e) ∙ f in rw i refl
@@ -248,9 +248,9 @@ back_fewer_at (z ∷ requests) (suc p) request e f =
     rw (update-on z requests p as_back) (elim (cases_Bool z.back) [ inl t ↦ rw t ih | inr g ↦ rw g (ap suc ih) ])
 
 -- one request fewer isn't back
-pub back_fewer : (requests : List Request) (number : ℕ) (request : Request) → numbered requests number ≡ Some request
+pub back_fewer : (requests : List Request) (number : ℕ) (request : Request) → element_at requests number ≡ Some request
     → request.back ≡ false
-    → suc (unreturned (change as_back requests number)) ≡ unreturned requests
+    → suc (outstanding (change as_back requests number)) ≡ outstanding requests
 back_fewer requests zero request e f = absurd (cc)
 back_fewer requests (suc p) request e f = back_fewer_at requests p request e f
 
@@ -269,14 +269,14 @@ open_sent_at now j k (z ∷ requests) (suc p) request e n =
 
 -- another slot keeps what is open in it
 pub open_sent : (now slot : ℕ) (requests : List Request) (number : ℕ) (request : Request)
-    → numbered requests number ≡ Some request
+    → element_at requests number ≡ Some request
     → request.slot ≢ slot → open_in slot (change (sent_at now) requests number) ≡ open_in slot requests
 open_sent now slot requests zero request e n = refl
 open_sent now slot requests (suc p) request e n = open_sent_at now slot 1 requests p request e n
 
 -- its slot has it with the new time
 pub open_sent_here : (now slot : ℕ) (requests : List Request) (number : ℕ) (request : Request)
-    → Apart (change (sent_at now) requests number) → numbered requests number ≡ Some request → request.back ≡ false
+    → Apart (change (sent_at now) requests number) → element_at requests number ≡ Some request → request.back ≡ false
     → request.slot ≡ slot
     → open_in slot (change (sent_at now) requests number) ≡ Some (number, sent_at now request)
 open_sent_here now slot requests number request apart e open_ same =

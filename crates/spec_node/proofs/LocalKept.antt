@@ -8,7 +8,7 @@ use Rattle.spec_node.specs.declared.answer.Asked.TheVariants as asked
 use Rattle.spec_node.specs.Record.{Node}
 use Rattle.spec_node.specs.Behaviour.{Ask, IsSound}
 use Rattle.spec_node.specs.Step.{Site, request_answer}
-use Rattle.spec_node.specs.Step.{after_request, said, with_itself, Verdict}
+use Rattle.spec_node.specs.Step.{after_request, request_content, with_itself, Verdict}
 use Rattle.spec_node.specs.Step.{Runs, Returns}
 use Rattle.spec_node.specs.Step.{verdict, after_delivery, with_sender, can_ask, next_due, TickChoice, Sends}
 use Rattle.spec_node.specs.Step.{tick_choice, with_asked, after_tick, is_exhausted}
@@ -22,7 +22,7 @@ request_kept : {Local : Type 0} (site : Site Local) (IsKept : (me : ℕ) → Loc
 request_kept site IsKept node now ask (asked.Forbidden forbidden) S G e =
     S.notes site.me ask.thread forbidden node.local G
 request_kept site IsKept node now ask asked.Ran S G e =
-    let content = said site node ask in
+    let content = request_content site node ask in
     let well = S.says site.me ask.what node.local G (here_says site node ask e) in
     let out = site.behaviour.run (with_itself site.me) content node.local in
     S.take (with_itself site.me) out.1 out.0 (S.run (with_itself site.me) content node.local G well)

@@ -11,7 +11,7 @@ use Rattle.spec_node.specs.Record.{Request, Node}
 use Rattle.spec_node.specs.Requests.{free_slot, next_claim, as_back, sent_at}
 use Rattle.spec_node.specs.Credits.{limits_of}
 use Rattle.spec_node.specs.Behaviour.{Ask, Sending}
-use Rattle.spec_node.specs.Step.{Site, new_request, with_request, said, request_answer, after_request}
+use Rattle.spec_node.specs.Step.{Site, new_request, with_request, request_content, request_answer, after_request}
 use Rattle.spec_node.specs.Step.{Verdict, Runs, Returns, after_delivery, can_ask}
 use Rattle.spec_node.specs.Step.{TickChoice, Retransmits, Sends, Rests, next_due, after_tick}
 use Rattle.spec_node.specs.NodeStep.{Job, site_of, IsAllSound, NodeEvent, Asks, Does, Comes, Ticks, node_after}
@@ -82,7 +82,7 @@ pub request_keeps : {Local : Type 0} (site : Site Local) (IsKept : (me : ℕ) �
     → NodeInvariant site.settings IsKept site.me (after_request site r now ask answer)
 request_keeps site IsKept r now ask (asked.Accepted peer slot number) holds kept e spelled =
     let says = accepted_says site r ask peer slot number e in
-    let content = said site r ask in
+    let content = request_content site r ask in
     accept_keeps site IsKept now ask.to slot content r _ holds kept
     (record { to_in = says.to_in; other = says.other; left = says.left; free = says.free }) says.slot_is refl refl
     (subst (λ n. IsMessage (request_message site.settings site.me ask.to n (new_request now slot content)))

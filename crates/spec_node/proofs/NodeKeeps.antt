@@ -4,7 +4,7 @@ use Rattle.std.specs.List.{slice_get}
 use Rattle.std.proofs.lemmas.Bool.{cases_eq}
 use Rattle.wire_message.specs.Parameters.{Parameters}
 use Rattle.wire_message.specs.Message.{IsMessage}
-use Rattle.base_lists.specs.Numbered.{numbered}
+use Rattle.base_lists.specs.Numbered.{element_at}
 use Rattle.base_lists.specs.Put.{put}
 use Rattle.base_lists.proofs.Numbered.{numbered_nil}
 use Rattle.base_lists.proofs.Places.{slice_get_push}
@@ -20,7 +20,7 @@ pub asked_keeps : {Local : Type 0} (settings : Parameters) (IsKept : (me : ℕ) 
     (r q : Node Local) (requests : List Request) → NodeInvariant settings IsKept me r
     → q.asked ≡ put r.asked to requests → q.ran ≡ r.ran → IsKept me q.local → (me ≡ to → requests ≡ [])
     → IsOrderly (limits_of settings me to) requests
-    → ((k : ℕ) (request : Request) → numbered requests k ≡ Some request
+    → ((k : ℕ) (request : Request) → element_at requests k ≡ Some request
     → IsMessage (request_message settings me to k request))
     → NodeInvariant settings IsKept me q
 asked_keeps settings IsKept me to r q requests I asked ran kept own O spelled =
@@ -36,8 +36,8 @@ asked_keeps settings IsKept me to r q requests I asked ran kept own O spelled =
       own = elim (cases_eq me to) [ inl e ↦ ap q.asked e ∙ (here ∙ own e) | inr n ↦ there me n ∙ I.own ];
       asked = λ peer k request f. elim (cases_eq peer to) [
         | inl e ↦ subst (λ p. IsMessage (request_message settings me p k request)) (sym e)
-            (spelled k request (ap (λ ys. numbered ys k) (sym (ap q.asked e ∙ here)) ∙ f))
-        | inr n ↦ I.asked peer k request (ap (λ ys. numbered ys k) (sym (there peer n)) ∙ f)
+            (spelled k request (ap (λ ys. element_at ys k) (sym (ap q.asked e ∙ here)) ∙ f))
+        | inr n ↦ I.asked peer k request (ap (λ ys. element_at ys k) (sym (there peer n)) ∙ f)
       ];
       replied = λ peer place t f.
           I.replied peer place t (ap (λ (g : ℕ → List Run). slice_get (g peer) place) (sym ran) ∙ f);
@@ -53,7 +53,7 @@ ran_keeps settings IsKept me from r q run I asked ran kept spelled = record {
   orderly = λ peer. subst (IsOrderly (limits_of settings me peer)) (ap (λ f. f peer) (sym asked)) (I.orderly peer);
   own = ap (λ f. f me) asked ∙ I.own;
   asked = λ peer k x f.
-      I.asked peer k x (ap (λ (g : ℕ → List Request). numbered (g peer) k) (sym asked) ∙ f);
+      I.asked peer k x (ap (λ (g : ℕ → List Request). element_at (g peer) k) (sym asked) ∙ f);
   replied = λ peer place u f. elim (cases_eq peer from) [
     | inl e ↦ (let here : q.ran peer ≡ r.ran from ++ run ∷ [] =
         ap q.ran e ∙ (ap (λ g. g from) ran ∙ put_same r.ran from (r.ran from ++ run ∷ [])) in

@@ -7,12 +7,12 @@ use Rattle.wire_message.specs.Content.{Content}
 use Rattle.base_lists.specs.Numbered.{change}
 use Rattle.base_lists.proofs.Numbered.{numbered_push, numbered_in, length-change, numbered-change}
 use Rattle.spec_node.specs.Record.{Request}
-use Rattle.spec_node.specs.Requests.{taken, unreturned, free_slot, as_back, sent_at}
+use Rattle.spec_node.specs.Requests.{taken_slots, outstanding, free_slot, as_back, sent_at}
 use Rattle.spec_node.specs.Credits.{Limits}
 use Rattle.spec_node.specs.Step.{new_request}
 use Rattle.spec_node.specs.Invariant.{IsOrderly}
-use Rattle.spec_node.proofs.Slots.{taken_push, taken_numbered, free_le, free_outside, unreturned-back}
-use Rattle.spec_node.proofs.Slots.{unreturned-sent}
+use Rattle.spec_node.proofs.Slots.{taken_push, taken_numbered, free_le, free_outside, outstanding-back}
+use Rattle.spec_node.proofs.Slots.{outstanding-sent}
 
 -- no requests
 pub orderly_none : (limits : Limits) → IsOrderly limits []
@@ -29,10 +29,10 @@ asks xs c now = new_request now (free_slot xs) c
 
 -- a request is accepted
 pub orderly_accepts : (limits : Limits) (requests : List Request) (c : Content) (now : ℕ) → IsOrderly limits requests
-    → unreturned requests < limits.credits → length requests < limits.last
+    → outstanding requests < limits.credits → length requests < limits.last
     → IsOrderly limits (requests ++ asks requests c now ∷ [])
 orderly_accepts limits requests c now P free left = record {
-  few = rw (taken_push requests (asks requests c now), length-append (taken requests) (free_slot requests ∷ []))
+  few = rw (taken_push requests (asks requests c now), length-append (taken_slots requests) (free_slot requests ∷ []))
       (omega arith);
   short = rw (length-append requests (asks requests c now ∷ [])) (omega arith);
   low = λ k x e. elim (numbered_push requests (asks requests c now) k x e) [
@@ -49,7 +49,7 @@ orderly_accepts limits requests c now P free left = record {
         | inl t ↦ t
         | inr n ↦ (let i : x.slot ≡ free_slot requests = g ∙ ap (λ (z : Request). z.slot) (sym new.1) in
             absurd (true≢false (sym (taken_numbered requests k x h n)
-            ∙ (ap (λ q. list_any (eqb q) (taken requests)) i ∙ free_outside requests))))
+            ∙ (ap (λ q. list_any (eqb q) (taken_slots requests)) i ∙ free_outside requests))))
       ]
       | inr h ↦ absurd (omega (arith, h.0, new.0))
     ]
@@ -72,7 +72,7 @@ back_content (inr u) = ap (λ (z : Request). z.content) u.1
 pub orderly_back : (limits : Limits) (requests : List Request) (k : ℕ) → IsOrderly limits requests
     → IsOrderly limits (change as_back requests k)
 orderly_back limits requests k P = record {
-  few = omega (arith, P.few, unreturned-back requests k);
+  few = omega (arith, P.few, outstanding-back requests k);
   short = rw (length-change as_back requests k) P.short;
   low =
       λ l x e. let it =
@@ -112,7 +112,7 @@ sent_content (inr u) = ap (λ (z : Request). z.content) u.1
 pub orderly_sent : (limits : Limits) (now : ℕ) (requests : List Request) (k : ℕ) → IsOrderly limits requests
     → IsOrderly limits (change (sent_at now) requests k)
 orderly_sent limits now requests k P = record {
-  few = rw (unreturned-sent now requests k) P.few;
+  few = rw (outstanding-sent now requests k) P.few;
   short = rw (length-change (sent_at now) requests k) P.short;
   low =
       λ l x e. let it =

@@ -6,21 +6,21 @@ use Rattle.std.proofs.lemmas.Bool.Decides.{nat_tests}
 use Rattle.std.proofs.lemmas.Bool.{cases_Bool, cases_eq}
 use Rattle.std.proofs.lemmas.Map.Steps.{le-length_from_below}
 use Rattle.base_lists.specs.Update.{update}
-use Rattle.base_lists.specs.Numbered.{numbered, change}
+use Rattle.base_lists.specs.Numbered.{element_at, change}
 use Rattle.base_lists.proofs.Update.{update-on}
 use Rattle.spec_node.specs.Record.{Request}
-use Rattle.spec_node.specs.Requests.{taken, unreturned, least_outside, free_slot, as_back, sent_at}
+use Rattle.spec_node.specs.Requests.{taken_slots, outstanding, least_outside, free_slot, as_back, sent_at}
 
 -- ---- slots that are taken
 
 -- one request more takes its slot, unless it is back
 pub taken_push : (requests : List Request) (request : Request)
-    → taken (requests ++ request ∷ []) ≡ taken requests ++ taken (request ∷ [])
+    → taken_slots (requests ++ request ∷ []) ≡ taken_slots requests ++ taken_slots (request ∷ [])
 taken_push [] request = refl
 taken_push (x ∷ requests) request =
-    elim x.back as (λ b. cond b (taken (requests ++ request ∷ [])) (x.slot ∷ taken (requests ++ request ∷ []))
-    ≡ cond b (taken requests)
-    (x.slot ∷ taken requests) ++ taken (request ∷ [])) [
+    elim x.back as (λ b. cond b (taken_slots (requests ++ request ∷ [])) (x.slot ∷ taken_slots (requests ++ request ∷ []))
+    ≡ cond b (taken_slots requests)
+    (x.slot ∷ taken_slots requests) ++ taken_slots (request ∷ [])) [
       | true ↦ taken_push requests request
       | false ↦ ap (λ l. x.slot ∷ l) (taken_push requests request)
     ]
@@ -28,7 +28,7 @@ taken_push (x ∷ requests) request =
 -- the slot of a request that isn't back is taken
 pub taken_has : (requests : List Request) (p : ℕ) (request : Request) → slice_get requests p ≡ Some request
     → request.back ≡ false
-    → list_any (eqb request.slot) (taken requests) ≡ true
+    → list_any (eqb request.slot) (taken_slots requests) ≡ true
 taken_has [] p request e b = absurd (cc)
 taken_has (z ∷ requests) zero request e b = let i : z ≡ request = cc in rw (i, b) (grind arith)
 taken_has (z ∷ requests) (suc p) request e b =
@@ -36,14 +36,14 @@ taken_has (z ∷ requests) (suc p) request e b =
     elim (cases_Bool z.back) [ inl t ↦ rw t ih | inr f ↦ rw f (grind (arith, ih)) ]
 
 -- the slot of a request by its number that isn't back is taken
-pub taken_numbered : (requests : List Request) (k : ℕ) (request : Request) → numbered requests k ≡ Some request
+pub taken_numbered : (requests : List Request) (k : ℕ) (request : Request) → element_at requests k ≡ Some request
     → request.back ≡ false
-    → list_any (eqb request.slot) (taken requests) ≡ true
+    → list_any (eqb request.slot) (taken_slots requests) ≡ true
 taken_numbered requests zero request e b = absurd (cc)
 taken_numbered requests (suc p) request e b = taken_has requests p request e b
 
 -- what is among the slots taken is that of a request which isn't back
-pub taken_from : (requests : List Request) (q : ℕ) → list_any (eqb q) (taken requests) ≡ true
+pub taken_from : (requests : List Request) (q : ℕ) → list_any (eqb q) (taken_slots requests) ≡ true
     → (p : ℕ) × (request : Request) × (slice_get requests p ≡ Some request) × (request.back ≡ false)
     × (request.slot ≡ q)
 taken_from [] q e = absurd (true≢false (sym e))
@@ -89,22 +89,22 @@ least_outside_is xs (suc many) s =
     ]
 
 -- the smallest free slot is at most as great as there are slots taken
-pub free_le : (requests : List Request) → free_slot requests ≤ unreturned requests
-free_le requests = omega (arith, least_le (taken requests) (unreturned requests) 0)
+pub free_le : (requests : List Request) → free_slot requests ≤ outstanding requests
+free_le requests = omega (arith, least_le (taken_slots requests) (outstanding requests) 0)
 
 -- each slot below the smallest free one is taken
-pub free_below : (requests : List Request) (q : ℕ) → q < free_slot requests → list_any (eqb q) (taken requests) ≡ true
-free_below requests q h = least_below (taken requests) (unreturned requests) 0 q (omega arith) h
+pub free_below : (requests : List Request) (q : ℕ) → q < free_slot requests → list_any (eqb q) (taken_slots requests) ≡ true
+free_below requests q h = least_below (taken_slots requests) (outstanding requests) 0 q (omega arith) h
 
 -- the smallest free slot isn't taken
-pub free_outside : (requests : List Request) → list_any (eqb (free_slot requests)) (taken requests) ≡ false
+pub free_outside : (requests : List Request) → list_any (eqb (free_slot requests)) (taken_slots requests) ≡ false
 free_outside requests =
-    elim (least_outside_is (taken requests) (unreturned requests) 0) [
+    elim (least_outside_is (taken_slots requests) (outstanding requests) 0) [
       | inl h ↦ h
-      | inr e ↦ elim (cases_Bool (list_any (eqb (free_slot requests)) (taken requests))) [
+      | inr e ↦ elim (cases_Bool (list_any (eqb (free_slot requests)) (taken_slots requests))) [
         | inl t ↦ absurd (omega (
           arith,
-          le-length_from_below (taken requests) (suc (unreturned requests))
+          le-length_from_below (taken_slots requests) (suc (outstanding requests))
               (λ q l. elim (cases_eq q (free_slot requests))
               [ inl h ↦ rw h t | inr n ↦ free_below requests q (omega (arith, e)) ]),
         ))
@@ -116,19 +116,19 @@ free_outside requests =
 
 -- no more slots are taken where the request at a place is back
 pub taken-back_at : (requests : List Request) (p : ℕ)
-    → length (taken (update requests p as_back)) ≤ length (taken requests)
+    → length (taken_slots (update requests p as_back)) ≤ length (taken_slots requests)
 taken-back_at [] p = omega arith
 taken-back_at (x ∷ requests) zero = grind arith
 taken-back_at (x ∷ requests) (suc p) = let ih = taken-back_at requests p in
     rw (update-on x requests p as_back) (grind arith)
 
 -- no more requests are out where one is back
-pub unreturned-back : (requests : List Request) (k : ℕ) → unreturned (change as_back requests k) ≤ unreturned requests
-unreturned-back requests zero = omega arith
-unreturned-back requests (suc p) = taken-back_at requests p
+pub outstanding-back : (requests : List Request) (k : ℕ) → outstanding (change as_back requests k) ≤ outstanding requests
+outstanding-back requests zero = omega arith
+outstanding-back requests (suc p) = taken-back_at requests p
 
 -- the same slots are taken where the request at a place is sent again
-taken-sent_at : (now : ℕ) (requests : List Request) (p : ℕ) → taken (update requests p (sent_at now)) ≡ taken requests
+taken-sent_at : (now : ℕ) (requests : List Request) (p : ℕ) → taken_slots (update requests p (sent_at now)) ≡ taken_slots requests
 taken-sent_at now [] p = refl
 taken-sent_at now (x ∷ requests) zero = refl
 taken-sent_at now (x ∷ requests) (suc p) =
@@ -137,11 +137,11 @@ taken-sent_at now (x ∷ requests) (suc p) =
     (elim (cases_Bool x.back) [ inl t ↦ rw t ih | inr f ↦ rw f (ap (λ l. x.slot ∷ l) ih) ])
 
 -- the same slots are taken
-pub taken-sent : (now : ℕ) (requests : List Request) (k : ℕ) → taken (change (sent_at now) requests k) ≡ taken requests
+pub taken-sent : (now : ℕ) (requests : List Request) (k : ℕ) → taken_slots (change (sent_at now) requests k) ≡ taken_slots requests
 taken-sent now requests zero = refl
 taken-sent now requests (suc p) = taken-sent_at now requests p
 
 -- as many requests aren't back
-pub unreturned-sent : (now : ℕ) (requests : List Request) (k : ℕ)
-    → unreturned (change (sent_at now) requests k) ≡ unreturned requests
-unreturned-sent now requests k = ap length (taken-sent now requests k)
+pub outstanding-sent : (now : ℕ) (requests : List Request) (k : ℕ)
+    → outstanding (change (sent_at now) requests k) ≡ outstanding requests
+outstanding-sent now requests k = ap length (taken-sent now requests k)

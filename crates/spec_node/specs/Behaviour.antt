@@ -86,12 +86,12 @@ pub record Behaviour (Local : Type 0) : Type 0 where
 -- the answer says that a request was run, and that its reply is kept there
 abbrev pub RanRequest : Delivered → SlotRef → Type 0
 RanRequest (delivered.Ran at) place = at ≡ place
-RanRequest (delivered.Noted at note) place = at ≡ place
+RanRequest (delivered.Notified at notification) place = at ≡ place
 RanRequest _ place = ⊥
 
 -- the answer says that a request was sent for the first time, and that it is kept there
 abbrev pub IsFirstSent : Ticked → SlotRef → Type 0
-IsFirstSent (ticked.Note at) place = at ≡ place
+IsFirstSent (ticked.Notification at) place = at ≡ place
 IsFirstSent (ticked.Chunk at) place = at ≡ place
 IsFirstSent _ place = ⊥
 

@@ -8,17 +8,18 @@ use Rattle.spec_node.specs.NodeStep.{Job, IsAllSound, NodeEvent, node_after}
 use Rattle.spec_node.specs.Spelled.{IsSpelled}
 
 -- what a node of the one job keeps, what its threads call, and what they are told
-abbrev pub Kept : Type 0
-Kept = List ℕ
+abbrev pub KeptNumbers : Type 0
+KeptNumbers = List ℕ
 
 -- the test of what a node keeps, as a fact
-abbrev pub Good : (ℕ → Kept → Bool) → (me : ℕ) → Kept → Type 0
+abbrev pub Good : (ℕ → KeptNumbers → Bool) → (me : ℕ) → KeptNumbers → Type 0
 Good is_kept me local = is_kept me local ≡ true
 
 -- each event keeps what holds of a record, whatever bytes come, where what it sends has a spelling
 abbrev pub EventsKeep : Type 0
 EventsKeep =
-    (job : Job Kept ℕ ℕ) (is_kept : ℕ → Kept → Bool) (me : ℕ) (node : Node Kept) (now : ℕ) (event : NodeEvent ℕ)
+    (job : Job KeptNumbers ℕ ℕ) (is_kept : ℕ → KeptNumbers → Bool) (me : ℕ) (node : Node KeptNumbers) (now : ℕ)
+    (event : NodeEvent ℕ)
     → IsAllSound job.behaviour (Good is_kept)
     → NodeInvariant job.settings (Good is_kept) me node
     → IsSpelled job me node now event

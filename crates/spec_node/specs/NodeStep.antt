@@ -49,16 +49,16 @@ pub data NodeAnswer (Told : Type 0) : Type 0 where
   OfTick : Ticked → NodeAnswer Told
 
 -- what another call of the node does
-abbrev pub done : {Local Call Told : Type 0}
+abbrev pub call_outcome : {Local Call Told : Type 0}
     → Job Local Call Told → (me : ℕ) → Node Local → (thread : ℕ) → Call → Told × Local
-done job me node thread call =
+call_outcome job me node thread call =
     job.behaviour.does me (is_exhausted job.settings node) thread call node.local
 
 -- what the node `me` answers to an event at this time
 abbrev pub node_answer : {Local Call Told : Type 0}
     → Job Local Call Told → (me : ℕ) → Node Local → (now : ℕ) → NodeEvent Call → NodeAnswer Told
 node_answer job me node now (Asks ask) = OfRequest (request_answer (site_of job me) node ask)
-node_answer job me node now (Does thread call) = OfCall (done job me node thread call).0
+node_answer job me node now (Does thread call) = OfCall (call_outcome job me node thread call).0
 node_answer job me node now (Comes message) =
     OfDelivery (answer_by job.behaviour.messages message (verdict (site_of job me) node message))
 node_answer job me node now Ticks =
@@ -69,7 +69,7 @@ abbrev pub node_after : {Local Call Told : Type 0}
     → Job Local Call Told → (me : ℕ) → Node Local → (now : ℕ) → NodeEvent Call → Node Local
 node_after job me node now (Asks ask) =
     after_request (site_of job me) node now ask (request_answer (site_of job me) node ask)
-node_after job me node now (Does thread call) = with_local node (done job me node thread call).1
+node_after job me node now (Does thread call) = with_local node (call_outcome job me node thread call).1
 node_after job me node now (Comes message) =
     after_delivery (site_of job me) node message (verdict (site_of job me) node message)
 node_after job me node now Ticks = after_tick (site_of job me) node now (tick_choice (site_of job me) node now)

@@ -3,7 +3,7 @@
 -- profile.
 use Rattle.std.specs.Prelude.{ℕ, Bool, List, []}
 use Rattle.wire_message.specs.Content.{Content}
-pub use Rattle.base_lists.specs.Numbered.{numbered, change}
+pub use Rattle.base_lists.specs.Numbered.{element_at, change}
 
 -- a request that was accepted. The first one to a peer has the number 1, the next one 2, and so on
 pub record Request : Type 0 where

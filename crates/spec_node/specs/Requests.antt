@@ -9,13 +9,13 @@ use Rattle.spec_node.specs.Record.{Request}
 -- ---- slots
 
 -- the slots of the requests that aren't back
-abbrev pub taken : List Request → List ℕ
-taken [] = []
-taken (request ∷ rest) = if request.back then taken rest else request.slot ∷ taken rest
+abbrev pub taken_slots : List Request → List ℕ
+taken_slots [] = []
+taken_slots (request ∷ rest) = if request.back then taken_slots rest else request.slot ∷ taken_slots rest
 
 -- how many requests aren't back
-abbrev pub unreturned : List Request → ℕ
-unreturned requests = length (taken requests)
+abbrev pub outstanding : List Request → ℕ
+outstanding requests = length (taken_slots requests)
 
 -- the smallest number from this one on that isn't among those, of which there are at most so many
 abbrev pub least_outside : List ℕ → ℕ → ℕ → ℕ
@@ -25,7 +25,7 @@ least_outside those (suc many) number =
 
 -- the smallest slot that no request which isn't back has
 abbrev pub free_slot : List Request → ℕ
-free_slot requests = least_outside (taken requests) (unreturned requests) 0
+free_slot requests = least_outside (taken_slots requests) (outstanding requests) 0
 
 -- the slot and the number of a request
 pub record Claim : Type 0 where

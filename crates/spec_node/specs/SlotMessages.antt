@@ -17,8 +17,8 @@ slots_of settings me side.Request peer = credits_of settings me peer
 slots_of settings me side.Reply peer = credits_of settings peer me
 
 -- the message of a slot that has one
-abbrev pub sealed_message : {Local : Type 0} → Parameters → (me : ℕ) → Node Local → SlotRef → Option (List ℕ)
-sealed_message settings me node at = of_side at.side
+abbrev pub committed_message : {Local : Type 0} → Parameters → (me : ℕ) → Node Local → SlotRef → Option (List ℕ)
+committed_message settings me node at = of_side at.side
   where
     of_side : Side → Option (List ℕ)
     of_side side.Request =
@@ -28,8 +28,8 @@ sealed_message settings me node at = of_side at.side
         option_map (λ run. spelling (reply_message settings at.peer me run)) (last_run at.slot (node.ran at.peer))
 
 -- the number of the message of a slot that has one
-abbrev pub sealed_number : {Local : Type 0} → Node Local → SlotRef → Option ℕ
-sealed_number node at = of_side at.side
+abbrev pub committed_number : {Local : Type 0} → Node Local → SlotRef → Option ℕ
+committed_number node at = of_side at.side
   where
     of_side : Side → Option ℕ
     of_side side.Request = option_map (λ open_. open_.0) (open_in at.slot (node.asked at.peer))
@@ -42,8 +42,8 @@ has_slot settings me at =
 
 -- the message at a slot of the node `me`
 abbrev pub message_at : {Local : Type 0} → Parameters → (me : ℕ) → Node Local → SlotRef → Option (List ℕ)
-message_at settings me node at = if has_slot settings me at then sealed_message settings me node at else None
+message_at settings me node at = if has_slot settings me at then committed_message settings me node at else None
 
 -- the number of that message
 abbrev pub number_in_slot : {Local : Type 0} → Parameters → (me : ℕ) → Node Local → SlotRef → Option ℕ
-number_in_slot settings me node at = if has_slot settings me at then sealed_number node at else None
+number_in_slot settings me node at = if has_slot settings me at then committed_number node at else None

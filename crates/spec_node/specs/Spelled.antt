@@ -7,7 +7,8 @@ use Rattle.spec_node.specs.declared.answer.Asked.TheVariants as asked
 use Rattle.spec_node.specs.Record.{Run, Node}
 use Rattle.spec_node.specs.Requests.{next_claim}
 use Rattle.spec_node.specs.Behaviour.{Ask}
-use Rattle.spec_node.specs.Step.{Site, new_request, said, request_answer, with_sender, Verdict, Runs, verdict}
+use Rattle.spec_node.specs.Step.{Site, new_request, request_content, request_answer, with_sender, Verdict, Runs}
+use Rattle.spec_node.specs.Step.{verdict}
 use Rattle.spec_node.specs.Step.{TickChoice, Sends, tick_choice}
 use Rattle.spec_node.specs.NodeStep.{Job, site_of, NodeEvent, Asks, Does, Comes, Ticks}
 use Rattle.spec_node.specs.Invariant.{request_message, reply_message}
@@ -15,7 +16,8 @@ use Rattle.spec_node.specs.Invariant.{request_message, reply_message}
 -- a request of a thread, where it is accepted
 abbrev pub IsAskSpelled : {Local : Type 0} → Site Local → Node Local → (now : ℕ) → Ask → Asked → Type 0
 IsAskSpelled site node now ask (asked.Accepted to slot number) =
-    IsMessage (request_message site.settings site.me ask.to number (new_request now slot (said site node ask)))
+    IsMessage (request_message site.settings site.me ask.to number
+    (new_request now slot (request_content site node ask)))
 IsAskSpelled site node now ask _ = Unit {0}
 
 -- the run of the request that is delivered

@@ -7,7 +7,7 @@ use Rattle.wire_message.specs.Parameters.{Parameters, credits_of}
 use Rattle.wire_message.specs.Content.{Content, content_of}
 use Rattle.wire_message.specs.Message.{Message}
 pub use Rattle.base_lists.specs.Put.{put}
-use Rattle.base_lists.specs.Numbered.{numbered, change}
+use Rattle.base_lists.specs.Numbered.{element_at, change}
 use Rattle.part_handlers.specs.declared.rules.CallKind.{CallKind}
 use Rattle.part_handlers.specs.declared.rules.CallKind.TheVariants as call
 use Rattle.part_handlers.specs.declared.rules.Forbidden.{Forbidden}
@@ -24,7 +24,7 @@ use Rattle.spec_node.specs.declared.answer.Delivered.TheVariants as delivered
 use Rattle.spec_node.specs.declared.answer.Ticked.{Ticked}
 use Rattle.spec_node.specs.declared.answer.Ticked.TheVariants as ticked
 use Rattle.spec_node.specs.Record.{Request, Node}
-use Rattle.spec_node.specs.Requests.{unreturned, next_claim, is_open, as_back, sent_at, Due, all_dues, earliest}
+use Rattle.spec_node.specs.Requests.{outstanding, next_claim, is_open, as_back, sent_at, Due, all_dues, earliest}
 use Rattle.spec_node.specs.Executed.{greatest}
 use Rattle.spec_node.specs.Credits.{Limits, limits_of}
 use Rattle.spec_node.specs.Behaviour.{Behaviour, Contact, Sending, Ask, is_request}
@@ -66,7 +66,7 @@ after_check behaviour node thread kind =
 abbrev pub claim_answer : Limits → (to : ℕ) → List Request → Asked
 claim_answer limits to requests =
     if nat_le limits.last (length requests) then asked.Exhausted
-    else (if nat_le limits.credits (unreturned requests) then asked.NotYet
+    else (if nat_le limits.credits (outstanding requests) then asked.NotYet
     else asked.Accepted to (next_claim requests).slot (next_claim requests).number)
 
 -- the first thing that is wrong with a request
@@ -88,15 +88,15 @@ own_answer None = asked.Ran
 own_answer (Some lock) = asked.LockBusy lock
 
 -- what the request says
-abbrev pub said : {Local : Type 0} → Site Local → Node Local → Ask → Content
-said site node ask = site.behaviour.says ask.what node.local
+abbrev pub request_content : {Local : Type 0} → Site Local → Node Local → Ask → Content
+request_content site node ask = site.behaviour.says ask.what node.local
 
 -- what a node answers to a request that one of its threads makes
 abbrev pub request_answer : {Local : Type 0} → Site Local → Node Local → Ask → Asked
 request_answer site node ask =
     unless_forbidden (site.behaviour.judges ask.thread call.Request node.local)
     (unless_bad (request_fault site.settings site.behaviour ask)
-    (if ask.to == site.me then own_answer (site.behaviour.busy (said site node ask) node.local)
+    (if ask.to == site.me then own_answer (site.behaviour.busy (request_content site node ask) node.local)
     else claim_answer (limits_of site.settings site.me ask.to) ask.to (node.asked ask.to)))
 
 -- between the node and itself: there is no slot and no number
@@ -121,9 +121,9 @@ with_request node now to slot content =
 -- the node after one of its threads made a request, by its answer
 abbrev pub after_request : {Local : Type 0} → Site Local → Node Local → (now : ℕ) → Ask → Asked → Node Local
 after_request site node now ask (asked.Accepted to slot number) =
-    with_request node now ask.to slot (said site node ask)
+    with_request node now ask.to slot (request_content site node ask)
 after_request site node now ask asked.Ran =
-    with_local node (ran_here site.behaviour site.me (said site node ask) node.local)
+    with_local node (ran_here site.behaviour site.me (request_content site node ask) node.local)
 after_request site node now ask (asked.Forbidden forbidden) =
     with_local node (site.behaviour.notes ask.thread forbidden node.local)
 after_request site node now ask _ = node
@@ -173,8 +173,8 @@ unless_waiting None verdict = verdict
 unless_waiting (Some lock) verdict = Waits lock
 
 -- a request that passes the checks, by the greatest number run in its slot and the lock for which it waits
-abbrev pub judged : (number greatest : ℕ) → Option ℕ → Verdict
-judged number greatest lock =
+abbrev pub verdict_of_number : (number greatest : ℕ) → Option ℕ → Verdict
+verdict_of_number number greatest lock =
     if number == greatest then Duplicated
     else (if nat_lt number greatest then Passed
     else unless_waiting lock Runs)
@@ -188,9 +188,9 @@ abbrev pub verdict : {Local : Type 0} → Site Local → Node Local → Message 
 verdict site node message =
     unless_refused (refusal site message)
     (if is_request message.kind
-    then judged message.number (greatest message.slot (node.ran message.from))
+    then verdict_of_number message.number (greatest message.slot (node.ran message.from))
     (site.behaviour.waits (content_of message) node.local)
-    else taken_back message.slot (numbered (node.asked message.from) message.number)
+    else taken_back message.slot (element_at (node.asked message.from) message.number)
     (site.behaviour.waits (content_of message) node.local))
 
 -- how a delivery is answered
@@ -258,7 +258,7 @@ abbrev pub can_ask : {Local : Type 0} → Site Local → Node Local → (to : �
 can_ask site node to =
     let limits = limits_of site.settings site.me to in
     (nat_lt to site.settings.nodes && not (to == site.me))
-    && (nat_lt (length (node.asked to)) limits.last && nat_lt (unreturned (node.asked to)) limits.credits)
+    && (nat_lt (length (node.asked to)) limits.last && nat_lt (outstanding (node.asked to)) limits.credits)
 
 -- no number is left for that node
 abbrev pub is_exhausted : {Local : Type 0} → Parameters → Node Local → (to : ℕ) → Bool

@@ -3,7 +3,7 @@
 use part_handlers::{Forbidden, Which};
 use std::error::Error;
 use std::fmt;
-use wire_message::{BarrierNote, Refused};
+use wire_message::{BarrierNotification, Refused};
 
 /// Which messages a slot keeps.
 #[derive(Clone, Copy, PartialEq, Eq, Debug)]
@@ -95,8 +95,8 @@ impl Error for Why {}
 pub enum Delivered {
     /// A request's handler ran, and its reply is kept in that slot.
     Ran(SlotRef),
-    /// A note of the barrier ran: its reply, an Ack, is kept in that slot.
-    Noted(SlotRef, BarrierNote),
+    /// A notification of the barrier ran: its reply, an Ack, is kept in that slot.
+    Notified(SlotRef, BarrierNotification),
     /// The last request run in its slot came again; its reply is kept in that slot. Nothing happened.
     Duplicate(SlotRef),
     /// An earlier request of its slot came again. Nothing happened.
@@ -123,8 +123,8 @@ pub enum Delivered {
 pub enum Ticked {
     /// The request in this slot is sent again.
     Retransmission(SlotRef),
-    /// A note of the barrier is sent from this slot.
-    Note(SlotRef),
+    /// A notification of the barrier is sent from this slot.
+    Notification(SlotRef),
     /// A chunk of a transfer is sent from this slot.
     Chunk(SlotRef),
     /// There is nothing to send.

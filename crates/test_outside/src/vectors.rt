@@ -1,7 +1,7 @@
 //! Messages as docs/FORMATS.md spells them, and the codes of RFC 4231.
 
 use proc_seal::Hmac;
-use wire_message::{BarrierNote, Kind, Outgoing, note_args, spell};
+use wire_message::{BarrierNotification, Kind, Outgoing, notification_args, spell};
 
 /// A Short request of node 0 to node 1, for handler 128 with argument 5.
 const REQUEST: [u8; 44] =
@@ -39,7 +39,7 @@ const MEDIUM_REPLY: [u8; 41] =
 const SECOND: [u8; 44] =
     *b"\x47\x41\x4d\x32\x00\x80\x01\x00\0\0\0\0\0\0\0\x07\0\0\0\x01\0\0\0\0\0\0\0\0\0\0\0\x01\0\0\0\0\0\0\0\0\0\0\0\x05";
 
-/// A barrier note of version 2, from node 64 to node 65.
+/// A barrier notification of version 2, from node 64 to node 65.
 const NOTE: [u8; 88] =
     *b"\x47\x41\x4d\x32\x00\x43\x0c\x00\0\0\0\0\0\0\0\x07\0\x40\0\x41\0\0\0\0\0\0\0\0\0\0\0\x01\0\0\0\0\0\0\0\0\0\0\0\0\0\0\0\0\0\0\0\0\0\0\0\0\0\0\0\x01\0\0\0\0\0\0\0\0\0\0\0\0\0\0\0\0\0\0\0\0\0\0\0\x05\0\0\0\0";
 
@@ -114,40 +114,40 @@ fn spells_the_second_version(rt: HostRuntime) {
         version: 2,
         ..parts(Kind::ShortRequest, 128, &[5], 0, &[])
     };
-    let note = Outgoing {
+    let notification = Outgoing {
         version: 2,
         from: 64,
         to: 65,
         ..parts(Kind::ShortRequest, 67, &WIDE_ARGS, 0, &[])
     };
-    assert!(rt; is_spelled(&request, &SECOND) && is_spelled(&note, &NOTE));
+    assert!(rt; is_spelled(&request, &SECOND) && is_spelled(&notification, &NOTE));
 }
 
-/// A note of version 1 with each of its parts.
-const NARROW: BarrierNote = BarrierNote {
+/// A notification of version 1 with each of its parts.
+const NARROW: BarrierNotification = BarrierNotification {
     phase: 0x1_0000_0002,
     mask: [0x8000_0002_0000_0001, 0, 0, 0],
     id: -7,
     flags: 3,
 };
 
-/// The note of node 64 alone, with identifier 5 and flags 0.
-const WIDE: BarrierNote = BarrierNote {
+/// The notification of node 64 alone, with identifier 5 and flags 0.
+const WIDE: BarrierNotification = BarrierNotification {
     phase: 0,
     mask: [0, 1, 0, 0],
     id: 5,
     flags: 0,
 };
 
-/// The arguments of that note.
+/// The arguments of that notification.
 const WIDE_ARGS: [i32; 12] = [0, 0, 0, 0, 1, 0, 0, 0, 0, 0, 5, 0];
 
 #[test]
-fn writes_notes(rt: HostRuntime) {
+fn writes_notifications(rt: HostRuntime) {
     let (mut narrow, mut wide) = ([9; 12], [9; 12]);
     let counts = [
-        note_args(&NARROW, 1, &mut narrow),
-        note_args(&WIDE, 2, &mut wide),
+        notification_args(&NARROW, 1, &mut narrow),
+        notification_args(&WIDE, 2, &mut wide),
     ];
     assert!(rt; counts == [6, 12]);
     assert!(rt; narrow == [1, 2, 1, -0x7fff_fffe, -7, 3, 9, 9, 9, 9, 9, 9]);

@@ -4,21 +4,21 @@ use Rattle.std.proofs.Common.{Option, Some, refl, ap, sym, subst, ◌∙◌, ari
 use Rattle.std.specs.List.{AllByRecursion, flat_map}
 use Rattle.std.specs.Str.{bytes_eq}
 use Rattle.std.proofs.lemmas.Bool.{leb-true, le-leb, or_parts}
-use Rattle.base_text.specs.Lines.{Word, is_stop, front, back, spaced}
+use Rattle.base_text.specs.Lines.{Word, is_stop, prefix, back, after_space}
 use Rattle.text_calls.specs.Forms.{Part, Meaning, word_text, IsSaid, word_at, part_at, each_at, parts_at}
 use Rattle.base_text.specs.Lines.{has_space}
 use Rattle.text_calls.specs.Forms.{many_at, Together, together_text, AreTogether, together_at}
 use Rattle.text_calls.specs.Forms.{Strides, Spans, Split, Number, split_at, split_text}
-use Rattle.text_calls.specs.Forms.{Bundle, Operations, parts_of, Bundled, bundled, unbundled, bundle_text}
+use Rattle.text_calls.specs.Forms.{Bundle, Operations, parts_of, BundleValue, bundle_value, bundle_words, bundle_text}
 use Rattle.text_calls.specs.Forms.{IsBundle}
 use Rattle.text_calls.specs.Forms.{bundle_at, bundles_at}
-use Rattle.text_calls.specs.Forms.{Shape, End, ◌▸◌, Many, Any, Bundles, Inner, Values, made, values_at}
+use Rattle.text_calls.specs.Forms.{Shape, End, ◌▸◌, Many, Any, Bundles, Inner, Values, value_made, values_at}
 use Rattle.text_calls.specs.Forms.{values_text}
 use Rattle.text_calls.specs.Forms.{AreSaid}
 use Rattle.text_calls.specs.Forms.{Row, Entry, row_at, named_at, table_at, entry_text, IsEntry, IsOf, none_at}
 use Rattle.text_calls.specs.Forms.{none_text, none_fits}
-use Rattle.base_text.proofs.Fronts.{cond_yes}
-use Rattle.base_text.proofs.Seams.{is_end, whole, front_seam, back_seam, spaced_takes}
+use Rattle.base_text.proofs.Prefixes.{cond_yes}
+use Rattle.base_text.proofs.Seams.{is_end, whole, prefix_seam, back_seam, spaced_takes}
 use Rattle.base_text.proofs.Takes.{Takes, takes_some, takes_none, takes_then, takes_if, takes_weaker}
 use Rattle.base_text.proofs.WordRuns.{IsRun}
 use Rattle.text_calls.proofs.WordLaws.{same_word, word_takes, word_again, word_run}
@@ -32,7 +32,7 @@ IsWordOf p bytes x = (bytes ≡ word_text p x.0 ++ x.1) × IsSaid p x.0
 pub word_at_takes : (p : Part) (bytes : List ℕ) → Takes (IsWordOf p bytes) (word_at p bytes)
 unfolding word_at
 word_at_takes p bytes =
-    takes_then (λ x. (front bytes ≡ word_text p x) × IsSaid p x) (word_takes p (front bytes)) (λ x h. takes_some
+    takes_then (λ x. (prefix bytes ≡ word_text p x) × IsSaid p x) (word_takes p (prefix bytes)) (λ x h. takes_some
     (whole bytes ∙ ap (λ (w : Word). w ++ back bytes) h.0, h.1))
 
 pub word_at_again : (p : Part) (x : Meaning p) (rest : List ℕ) → IsSaid p x → is_end rest ≡ true → word_at p
@@ -40,7 +40,7 @@ pub word_at_again : (p : Part) (x : Meaning p) (rest : List ℕ) → IsSaid p x 
 unfolding word_at
 word_at_again p x rest h e =
     let run = word_run p x h in
-    rw (front_seam (word_text p x) rest run e, back_seam (word_text p x) rest run e, word_again p x h) refl
+    rw (prefix_seam (word_text p x) rest run e, back_seam (word_text p x) rest run e, word_again p x h) refl
 
 -- the same behind a space
 abbrev pub IsPartOf : (p : Part) → List ℕ → Meaning p × List ℕ → Type 0
@@ -204,29 +204,29 @@ together_again (p ∷ parts) said rest h e =
     ) refl
 
 -- what they make has them again
-bundled_back : (b : Bundle) (said : Together (parts_of b)) → unbundled b (bundled b said) ≡ said
+bundled_back : (b : Bundle) (said : Together (parts_of b)) → bundle_words b (bundle_value b said) ≡ said
 bundled_back Operations said = refl
 bundled_back Strides said = refl
 bundled_back Spans said = refl
 
-unbundled_back : (b : Bundle) (value : Bundled b) → bundled b (unbundled b value) ≡ value
+unbundled_back : (b : Bundle) (value : BundleValue b) → bundle_value b (bundle_words b value) ≡ value
 unbundled_back Operations value = refl
 unbundled_back Strides value = refl
 unbundled_back Spans value = refl
 
 -- the bytes are the text of a bundle, and the bytes after it
-abbrev pub IsBundleOf : (b : Bundle) → List ℕ → Bundled b × List ℕ → Type 0
+abbrev pub IsBundleOf : (b : Bundle) → List ℕ → BundleValue b × List ℕ → Type 0
 IsBundleOf b bytes x = (bytes ≡ bundle_text b x.0 ++ x.1) × IsBundle b x.0
 
 bundle_takes : (b : Bundle) (bytes : List ℕ) → Takes (IsBundleOf b bytes) (bundle_at b bytes)
 unfolding bundle_at
 bundle_takes b bytes =
     takes_then (AreTogetherOf (parts_of b) bytes) (together_takes (parts_of b) bytes) (λ x h.
-    takes_some {P = IsBundleOf b bytes} {x = (bundled b x.0, x.1)}
+    takes_some {P = IsBundleOf b bytes} {x = (bundle_value b x.0, x.1)}
     (subst (λ (said : Together (parts_of b)). (bytes ≡ together_text (parts_of b) said ++ x.1)
     × AreTogether (parts_of b) said) (sym (bundled_back b x.0)) h))
 
-bundle_space : (b : Bundle) (value : Bundled b) (rest : List ℕ) → has_space (bundle_text b value ++ rest) ≡ true
+bundle_space : (b : Bundle) (value : BundleValue b) (rest : List ℕ) → has_space (bundle_text b value ++ rest) ≡ true
 bundle_space Operations value rest = refl
 bundle_space Strides value rest = refl
 bundle_space Spans value rest = refl
@@ -234,12 +234,12 @@ bundle_space Spans value rest = refl
 bundle_spaced : (b : Bundle) → IsSpaced (bundle_at b) (bundle_text b) (IsBundle b)
 unfolding bundle_at
 bundle_spaced b = record {
-  again = λ value rest h e. rw (together_again (parts_of b) (unbundled b value) rest h e, unbundled_back b value) refl;
+  again = λ value rest h e. rw (together_again (parts_of b) (bundle_words b value) rest h e, unbundled_back b value) refl;
   space = bundle_space b;
 }
 
 -- a list of bundles that was read
-abbrev pub AreBundlesOf : (least most : ℕ) → (b : Bundle) → List ℕ → List (Bundled b) × List ℕ → Type 0
+abbrev pub AreBundlesOf : (least most : ℕ) → (b : Bundle) → List ℕ → List (BundleValue b) × List ℕ → Type 0
 AreBundlesOf least most b bytes xs = (bytes ≡ flat_map (bundle_text b) xs.0 ++ xs.1) × (least ≤ length xs.0)
     × (length xs.0 ≤ most) × AllByRecursion (IsBundle b) xs.0
 
@@ -252,13 +252,13 @@ bundles_takes least most b bytes =
     takes_if (λ t. takes_some (h.0, leb-true least (length xs.0) t, h.1, h.2)) (λ t. takes_none))
 
 -- two lists of which the first is counted
-abbrev pub AreSplitOf : (most : ℕ) → (b : Bundle) → List ℕ → (List (Bundled b) × List (Bundled b)) × List ℕ → Type 0
+abbrev pub AreSplitOf : (most : ℕ) → (b : Bundle) → List ℕ → (List (BundleValue b) × List (BundleValue b)) × List ℕ → Type 0
 AreSplitOf most b bytes x = (bytes ≡ split_text b x.0 ++ x.1) × (IsSaid (Number 1 most) (length x.0.0)
     × AllByRecursion (IsBundle b) x.0.0 × (1 ≤ length x.0.1) × (length x.0.1 ≤ most)
     × AllByRecursion (IsBundle b) x.0.1)
 
 -- the parts of them, joined
-split_joined : (b : Bundle) (xs ys : List (Bundled b)) (count : ℕ) (bytes r s rest : List ℕ)
+split_joined : (b : Bundle) (xs ys : List (BundleValue b)) (count : ℕ) (bytes r s rest : List ℕ)
     → bytes ≡ 32 ∷ (decimal count ++ r) → r ≡ flat_map (bundle_text b) xs ++ s
     → s ≡ flat_map (bundle_text b) ys ++ rest → length xs ≡ count → bytes ≡ split_text b (xs, ys) ++ rest
 split_joined b xs ys count bytes r s rest h k m e =
@@ -283,23 +283,23 @@ split_takes most b bytes =
       (subst (λ (n : ℕ). IsSaid (Number 1 most) n) (sym same) h.1, k.3, m.1, m.2, m.3),
     ))))
 
-split_again : (most : ℕ) (b : Bundle) (v : List (Bundled b) × List (Bundled b)) (rest : List ℕ)
+split_again : (most : ℕ) (b : Bundle) (v : List (BundleValue b) × List (BundleValue b)) (rest : List ℕ)
     → IsSaid (Number 1 most) (length v.0) → AllByRecursion (IsBundle b) v.0 → 1 ≤ length v.1 → length v.1 ≤ most
     → AllByRecursion (IsBundle b) v.1 → split_at most b (split_text b v ++ 10 ∷ rest) ≡ Some (v, 10 ∷ rest)
 unfolding split_at bundles_at
 split_again most b v rest said first low high others =
-    let spaced = bundle_spaced b in
+    let after_space = bundle_spaced b in
     let firsts = flat_map (bundle_text b) v.0 in
     let tail = flat_map (bundle_text b) v.1 ++ 10 ∷ rest in
-    let ends = each_ends (bundle_at b) (bundle_text b) (IsBundle b) spaced v.1 (10 ∷ rest) refl in
+    let ends = each_ends (bundle_at b) (bundle_text b) (IsBundle b) after_space v.1 (10 ∷ rest) refl in
     rw (
       append_assoc (decimal (length v.0)) (firsts ++ flat_map (bundle_text b) v.1) (10 ∷ rest),
       append_assoc firsts (flat_map (bundle_text b) v.1) (10 ∷ rest),
       part_at_again (Number 1 most) (length v.0) (firsts ++ tail) said
-          (each_ends (bundle_at b) (bundle_text b) (IsBundle b) spaced v.0 tail ends),
-      each_full (bundle_at b) (bundle_text b) (IsBundle b) spaced v.0 tail first ends,
+          (each_ends (bundle_at b) (bundle_text b) (IsBundle b) after_space v.0 tail ends),
+      each_full (bundle_at b) (bundle_text b) (IsBundle b) after_space v.0 tail first ends,
       le-leb (length v.0) (length v.0) (omega arith),
-      each_again (bundle_at b) (bundle_text b) (IsBundle b) spaced most v.1 rest high others,
+      each_again (bundle_at b) (bundle_text b) (IsBundle b) after_space most v.1 rest high others,
       le-leb 1 (length v.1) low,
     ) refl
 
@@ -339,15 +339,15 @@ together_flat (p ∷ parts) said h = (
 )
 
 -- nor a list of them
-bundles_flat : (b : Bundle) (values : List (Bundled b)) → AllByRecursion (IsBundle b) values
+bundles_flat : (b : Bundle) (values : List (BundleValue b)) → AllByRecursion (IsBundle b) values
     → IsFlat (flat_map (bundle_text b) values)
 bundles_flat b [] h = tt
 bundles_flat b (value ∷ values) h =
     flat_join (bundle_text b value) (flat_map (bundle_text b) values)
-    (together_flat (parts_of b) (unbundled b value) h.0) (bundles_flat b values h.1)
+    (together_flat (parts_of b) (bundle_words b value) h.0) (bundles_flat b values h.1)
 
 -- nor two lists of which the first is counted
-split_flat : (most : ℕ) (b : Bundle) (v : List (Bundled b) × List (Bundled b))
+split_flat : (most : ℕ) (b : Bundle) (v : List (BundleValue b) × List (BundleValue b))
     → IsSaid (Number 1 most) (length v.0) → AllByRecursion (IsBundle b) v.0 → AllByRecursion (IsBundle b) v.1
     → IsFlat (split_text b v)
 split_flat most b v said first others = (
@@ -458,7 +458,7 @@ values_flat at text fits exact Inner v h = (refl, exact.flat v h)
 -- each row makes a value whose entry it is
 abbrev pub AreMade : {X A : Type 0} → (A → Entry X A) → List (Row X A) → Type 0
 AreMade {X} {A} entry rows = AllByRecursion (λ (row : Row X A). (v : Values X row.shape) → entry
-    (made X row.shape row.make v) ≡ record { row = row; values = v }) rows
+    (value_made X row.shape row.make v) ≡ record { row = row; values = v }) rows
 
 -- whether a row of this name is among the rows
 abbrev pub has_row : {X A : Type 0} → Word → List (Row X A) → Bool
@@ -477,7 +477,7 @@ IsMadeOf text fits entry bytes x = (bytes ≡ entry_text text (entry x.0) ++ x.1
 -- what a row made
 row_takes : {X A : Type 0} (at : List ℕ → Option (X × List ℕ)) (text : X → List ℕ) (fits : X → Type 0) (entry : A
     → Entry X A) → IsExact at text fits → (row : Row X A) → ((v : Values X row.shape) → entry
-    (made X row.shape row.make v) ≡ record { row = row; values = v }) → (name bytes : List ℕ) → name ≡ row.name
+    (value_made X row.shape row.make v) ≡ record { row = row; values = v }) → (name bytes : List ℕ) → name ≡ row.name
     → Takes (IsMadeOf text fits entry (name ++ bytes)) (row_at at row bytes)
 row_takes {X} {A} at text fits entry exact row is name bytes same =
     takes_then (AreValuesOf text fits row.shape bytes) (values_takes at text fits exact row.shape bytes) (λ v h.
@@ -530,12 +530,12 @@ run_from (b ∷ word) h = run_by (is_stop b) b word refl h (run_from word)
 
 -- an entry makes its value, and its row is the first of its name
 pub record IsEntryOf {X A : Type 0} (rows : List (Row X A)) (entry : A → Entry X A) (a : A) : Type 0 where
-  pub makes : made X (entry a).row.shape (entry a).row.make (entry a).values ≡ a
+  pub makes : value_made X (entry a).row.shape (entry a).row.make (entry a).values ≡ a
   pub first : IsRowOf (entry a).row rows
   pub runs : is_run (entry a).row.name ≡ true
 
 -- the same by its parts
-pub entry_of : {X A : Type 0} {rows : List (Row X A)} {entry : A → Entry X A} {a : A} → made X (entry a).row.shape
+pub entry_of : {X A : Type 0} {rows : List (Row X A)} {entry : A → Entry X A} {a : A} → value_made X (entry a).row.shape
     (entry a).row.make (entry a).values ≡ a → IsRowOf (entry a).row rows → is_run (entry a).row.name ≡ true
     → IsEntryOf rows entry a
 entry_of m f r = record { makes = m; first = f; runs = r }
@@ -547,7 +547,7 @@ pub record IsTable {X A : Type 0} (rows : List (Row X A)) (entry : A → Entry X
 
 -- what a table makes, by the first word and the bytes after it
 table_by : {X A : Type 0} (at : List ℕ → Option (X × List ℕ)) (rows : List (Row X A)) (test : A → Bool)
-    (row : Row X A) (tail : List ℕ) (a : A) (rest : List ℕ) → front (row.name ++ tail) ≡ row.name → back (row.name
+    (row : Row X A) (tail : List ℕ) (a : A) (rest : List ℕ) → prefix (row.name ++ tail) ≡ row.name → back (row.name
     ++ tail) ≡ tail → named_at at rows row.name tail ≡ Some (a, rest) → test a ≡ true → table_at at rows test
     (row.name ++ tail) ≡ Some (a, rest)
 table_by at rows test row tail a rest f b n t = rw (f, b, n) (cond_yes _ _ _ t)
@@ -559,8 +559,8 @@ pub table_exact : {X A : Type 0} (at : List ℕ → Option (X × List ℕ)) (tex
     (IsOf fits entry test)
 table_exact {X} {A} at text fits rows entry test exact table = record {
   takes = λ bytes. takes_then (IsMadeOf text fits entry bytes)
-      (takes_weaker (IsMadeOf text fits entry (front bytes ++ back bytes))
-      (named_takes at text fits entry exact rows table.makes (front bytes) (back bytes)) (λ x h.
+      (takes_weaker (IsMadeOf text fits entry (prefix bytes ++ back bytes))
+      (named_takes at text fits entry exact rows table.makes (prefix bytes) (back bytes)) (λ x h.
       (whole bytes ∙ h.0, h.1)))
       (λ x h. takes_if {b = test x.0} (λ t. takes_some (h.0, (h.1, t))) (λ t. takes_none));
   again = λ a rest h.
@@ -570,7 +570,7 @@ table_exact {X} {A} at text fits rows entry test exact table = record {
       let tail = values_text text e.row.shape e.values ++ 10 ∷ rest in
       let ends : is_end tail ≡ true = values_end text e.row.shape e.values rest in
       ap (table_at at rows test) (append_assoc e.row.name (values_text text e.row.shape e.values) (10 ∷ rest))
-      ∙ table_by at rows test e.row tail a (10 ∷ rest) (front_seam e.row.name tail run ends)
+      ∙ table_by at rows test e.row tail a (10 ∷ rest) (prefix_seam e.row.name tail run ends)
       (back_seam e.row.name tail run ends)
       (named_is at e.row rows tail one.first ∙ rw (
         values_again at text fits exact e.row.shape e.values rest h.0,

@@ -11,9 +11,9 @@ use Rattle.text_calls.specs.declared.values.Payload.{Payload as PayloadValue}
 use Rattle.text_calls.specs.declared.values.Payload.TheVariants as payload
 use Rattle.base_text.specs.Lines.{Word}
 use Rattle.base_text.specs.HexBytes.{bytes_word, AreBytes}
-use Rattle.text_calls.specs.Payloads.{plus_front, plus_back, range_of, payload_of, body_payload_of}
+use Rattle.text_calls.specs.Payloads.{plus_prefix, plus_back, range_of, payload_of, body_payload_of}
 use Rattle.text_calls.specs.Payloads.{payload_word, IsPayload, IsBodyPayload}
-use Rattle.base_text.proofs.Fronts.{cond_no}
+use Rattle.base_text.proofs.Prefixes.{cond_no}
 use Rattle.base_text.proofs.Decimals.{own, number_of-decimal}
 use Rattle.base_text.proofs.Integers.{number_takes}
 use Rattle.base_text.proofs.Takes.{Takes, takes_some, takes_then, takes_if, takes_weaker}
@@ -24,20 +24,20 @@ use Rattle.base_text.proofs.ByteLaws.{bytes_take, bytes_again, bytes_run}
 
 -- the bytes by their first `+`
 plus_by : (plus : Bool) (byte : ℕ) (bytes behind : List ℕ) → eqb byte 43 ≡ plus
-    → (plus_back bytes ≡ Some behind → bytes ≡ plus_front bytes ++ 43 ∷ behind) → cond plus (Some bytes)
+    → (plus_back bytes ≡ Some behind → bytes ≡ plus_prefix bytes ++ 43 ∷ behind) → cond plus (Some bytes)
     (plus_back bytes) ≡ Some behind → ◌≡◌ {A = Word} (byte ∷ bytes)
-    (cond plus [] (byte ∷ plus_front bytes) ++ 43 ∷ behind)
+    (cond plus [] (byte ∷ plus_prefix bytes) ++ 43 ∷ behind)
 plus_by true byte bytes behind test more found =
     let same : bytes ≡ behind = cc in rw (eqb-true byte 43 test, same) refl
 plus_by false byte bytes behind test more found = ap (λ (word : Word). byte ∷ word) (more found)
 
-plus_whole : (word behind : Word) → plus_back word ≡ Some behind → word ≡ plus_front word ++ 43 ∷ behind
+plus_whole : (word behind : Word) → plus_back word ≡ Some behind → word ≡ plus_prefix word ++ 43 ∷ behind
 plus_whole [] behind found = absurd (cc)
 plus_whole (byte ∷ bytes) behind found =
     plus_by (eqb byte 43) byte bytes behind refl (plus_whole bytes behind) found
 
 -- digits before a `+`
-plus_seam : (digits behind : Word) → AllDigits 10 digits → (plus_front (digits ++ 43 ∷ behind) ≡ digits)
+plus_seam : (digits behind : Word) → AllDigits 10 digits → (plus_prefix (digits ++ 43 ∷ behind) ≡ digits)
     × (plus_back (digits ++ 43 ∷ behind) ≡ Some behind)
 plus_seam [] behind all = (refl, refl)
 plus_seam (digit ∷ digits) behind all =
@@ -50,9 +50,9 @@ plus_seam (digit ∷ digits) behind all =
 range_takes : (word : Word) → Takes (λ said. (word ≡ payload_word said) × IsPayload said) (range_of word)
 unfolding range_of
 range_takes word =
-    takes_then (λ (behind : Word). word ≡ plus_front word ++ 43 ∷ behind)
+    takes_then (λ (behind : Word). word ≡ plus_prefix word ++ 43 ∷ behind)
     (record { so = λ behind found. plus_whole word behind found }) (λ behind split.
-    takes_then (λ number. (plus_front word ≡ decimal number) × (number < 2 ^ 64)) (number_takes (plus_front word))
+    takes_then (λ number. (plus_prefix word ≡ decimal number) × (number < 2 ^ 64)) (number_takes (plus_prefix word))
     (λ offset first. takes_then (λ number. (behind ≡ decimal number) × (number < 2 ^ 64)) (number_takes behind)
     (λ len second. takes_some {x = payload.Range offset len} (
       split ∙ ap (λ (digits : Word). digits ++ 43 ∷ behind) first.0

@@ -2,9 +2,9 @@
 use Rattle.std.proofs.Common.{◌≡◌, ℕ, ◌+◌, List, [], ◌∷◌, Option, Some, None, Bool, true, false, cond, refl, ap, ◌∙◌}
 use Rattle.std.proofs.Common.{map}
 use Rattle.std.specs.Str.{bytes_eq}
-use Rattle.base_text.specs.Lines.{Word, ◌>>=◌, front, back}
+use Rattle.base_text.specs.Lines.{Word, ◌>>=◌, prefix, back}
 use Rattle.base_text.specs.Reasons.{words_left}
-use Rattle.text_calls.specs.Forms.{Shape, End, ◌▸◌, Many, Any, Bundles, Split, Inner, Row, row_at, named_at, passed}
+use Rattle.text_calls.specs.Forms.{Shape, End, ◌▸◌, Many, Any, Bundles, Split, Inner, Row, row_at, named_at, if_passes}
 use Rattle.text_calls.specs.Forms.{table_at}
 use Rattle.text_calls.specs.FormTests.{shape_form, named_form}
 use Rattle.text_calls.specs.Tables.{first_named, fits, IsCounted}
@@ -29,19 +29,19 @@ read_named at row (form ∷ forms) name bytes =
 
 -- a test behind two steps
 then_passed : {F A : Type 0} (found : Option F) (at : F → Option (A × List ℕ)) (test : A → Bool)
-    → ◌>>=◌ {B = A × List ℕ} (◌>>=◌ {B = A × List ℕ} found at) (passed test)
-    ≡ (found >>= λ form. ◌>>=◌ {B = A × List ℕ} (at form) (passed test))
+    → ◌>>=◌ {B = A × List ℕ} (◌>>=◌ {B = A × List ℕ} found at) (if_passes test)
+    ≡ (found >>= λ form. ◌>>=◌ {B = A × List ℕ} (at form) (if_passes test))
 then_passed None at test = refl
 then_passed (Some form) at test = refl
 
 -- the same for a line, and for what passes a test
 pub read_table : {F X A : Type 0} (at : List ℕ → Option (X × List ℕ)) (row : F → Row X A) (forms : List F)
     (test : A → Bool) (bytes : List ℕ) → table_at at (map row forms) test bytes
-    ≡ (first_named (λ form. (row form).name) forms (front bytes) >>= λ form. row_at at (row form) (back bytes)
-    >>= passed test)
+    ≡ (first_named (λ form. (row form).name) forms (prefix bytes) >>= λ form. row_at at (row form) (back bytes)
+    >>= if_passes test)
 read_table at row forms test bytes =
-    ap (λ o. o >>= passed test) (read_named at row forms (front bytes) (back bytes))
-    ∙ then_passed (first_named (λ form. (row form).name) forms (front bytes))
+    ap (λ o. o >>= if_passes test) (read_named at row forms (prefix bytes) (back bytes))
+    ∙ then_passed (first_named (λ form. (row form).name) forms (prefix bytes))
     (λ form. row_at at (row form) (back bytes)) test
 
 -- ---- the words of a form

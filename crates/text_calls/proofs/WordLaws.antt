@@ -32,7 +32,7 @@ use Rattle.text_calls.specs.Names.{first_named}
 use Rattle.text_calls.specs.declared.operands.NumberPlace.TheVariants.{Schedule, Body}
 use Rattle.text_calls.specs.Forms.{Bytes, Payload, BodyPayload, Integer, Implicit, Operation, Collective}
 use Rattle.text_calls.specs.Forms.{Part, Number, NumberOf, Kind, Role, Meaning, word_text, IsSaid, word_says}
-use Rattle.base_text.proofs.Fronts.{cond_yes, cond_no}
+use Rattle.base_text.proofs.Prefixes.{cond_yes, cond_no}
 use Rattle.base_text.proofs.Decimals.{own, number_of-decimal}
 use Rattle.base_text.proofs.Integers.{IsInteger, number_takes, integer_takes, integer_again, first_is}
 use Rattle.base_text.proofs.WordRuns.{IsRun, decimal_run, integer_run}

@@ -4,12 +4,12 @@ use Rattle.std.specs.Prelude.{is_none, if◌then◌else◌, codes}
 use Rattle.std.specs.Str.{bytes_eq}
 use Rattle.node_atomics.specs.BatchRequests.{batch_fault}
 use Rattle.node_atomics.specs.declared.word.WordOp.{WordOp}
-use Rattle.base_text.specs.Lines.{Word, ◌>>=◌, front}
+use Rattle.base_text.specs.Lines.{Word, ◌>>=◌, prefix}
 use Rattle.text_calls.specs.Forms.{Number, Value, Kind, Bytes, Payload, Integer, Implicit, Shape, End, ◌▸◌}
 use Rattle.text_calls.specs.Forms.{Many, Maker}
 use Rattle.text_calls.specs.Forms.{Bundles, Operations}
 use Rattle.text_calls.specs.Forms.{Values, Row, Entry}
-use Rattle.text_calls.specs.Forms.{passed, row_at, table_at, entry_text, IsOf, none_at, none_text, none_fits, U64}
+use Rattle.text_calls.specs.Forms.{if_passes, row_at, table_at, entry_text, IsOf, none_at, none_text, none_fits, U64}
 use Rattle.text_calls.specs.Forms.{U16, U8}
 use Rattle.text_calls.specs.FormTests.{table_form}
 use Rattle.text_calls.specs.Tables.{first_named}
@@ -329,7 +329,7 @@ call_fits scope call = true
 
 -- what was found, where it may stand in the job
 abbrev pub fitting : Scope → Option (ScheduledCall × List ℕ) → Option (ScheduledCall × List ℕ)
-fitting scope found = found >>= passed (call_fits scope)
+fitting scope found = found >>= if_passes (call_fits scope)
 
 -- what reads the words of a form behind its name, where the call may stand in the job
 unfoldable pub form_at : Scope → CallForm → List ℕ → Option (ScheduledCall × List ℕ)
@@ -345,7 +345,7 @@ is_call_name scope name = scope.atomics || not (bytes_eq name (codes "atomic"))
 
 -- whether bytes have the form of a call
 unfoldable pub call_form : Scope → List ℕ → Bool
-call_form scope bytes = table_form (λ bytes. false) calls bytes && is_call_name scope (front bytes)
+call_form scope bytes = table_form (λ bytes. false) calls bytes && is_call_name scope (prefix bytes)
 
 -- the text of a call
 abbrev pub call_text : ScheduledCall → List ℕ

@@ -2,7 +2,7 @@
 use Rattle.std.specs.Prelude.{ℕ, ◌+◌, ◌-◌, ◌*◌, ◌%◌, List, [], ◌∷◌, length, Option, Some, None}
 use Rattle.std.specs.Prelude.{Bool, false, ◌&&◌, nat_le, ◌==◌, if◌then◌else◌}
 use Rattle.std.specs.Str.{bytes_eq}
-use Rattle.base_text.specs.Lines.{Word, front, back, spaced}
+use Rattle.base_text.specs.Lines.{Word, prefix, back, after_space}
 use Rattle.base_text.specs.Reasons.{words_left, after_words}
 use Rattle.text_calls.specs.Forms.{Shape, End, ◌▸◌, Many, Any, Bundles, Split, Inner, Row, Number, parts_of}
 use Rattle.text_calls.specs.Forms.{part_at}
@@ -36,7 +36,7 @@ shape_form form n (Bundles least most b) bytes =
     are_bundles n least most (length (parts_of b)) (words_left bytes)
 shape_form form n (Split most b) bytes =
     are_split n most (length (parts_of b)) (words_left bytes) (part_at (Number 1 most) (after_words n bytes))
-shape_form form n Inner bytes = behind form (spaced (after_words n bytes))
+shape_form form n Inner bytes = behind form (after_space (after_words n bytes))
 
 -- whether a row has this name, and the bytes after it have the words of its shape
 abbrev pub named_form : {X A : Type 0} → (form : List ℕ → Bool) → List (Row X A) → (name : Word) → List ℕ → Bool
@@ -46,4 +46,4 @@ named_form form (row ∷ rows) name bytes = if bytes_eq name row.name then shape
 
 -- whether bytes have a form of the table
 abbrev pub table_form : {X A : Type 0} → (form : List ℕ → Bool) → List (Row X A) → List ℕ → Bool
-table_form form rows bytes = named_form form rows (front bytes) (back bytes)
+table_form form rows bytes = named_form form rows (prefix bytes) (back bytes)

@@ -7,7 +7,7 @@ use Rattle.std.specs.Int.{w32}
 use Rattle.std.specs.Int.RustNames.{FitsSigned}
 use Rattle.std.specs.List.{AllByRecursion, flat_map}
 use Rattle.std.specs.Str.{bytes_eq}
-use Rattle.base_text.specs.Lines.{Word, ◌>>=◌, front, back, spaced, has_space}
+use Rattle.base_text.specs.Lines.{Word, ◌>>=◌, prefix, back, after_space, has_space}
 use Rattle.base_text.specs.Words.{integer_of, integer_read, number_in}
 use Rattle.text_calls.specs.Kinds.{operand_of, operand_word, IsOperand}
 use Rattle.text_calls.specs.Kinds.{kind_word, named_kinds, IsNamed, role_word, all_roles, implicit_word, all_implicit}
@@ -111,11 +111,11 @@ word_says Collective word = first_named collective_word all_collectives word
 
 -- what the first word says, and the bytes after it
 unfoldable pub word_at : (p : Part) → List ℕ → Option (Meaning p × List ℕ)
-word_at p bytes = word_says p (front bytes) >>= λ x. Some (x, back bytes)
+word_at p bytes = word_says p (prefix bytes) >>= λ x. Some (x, back bytes)
 
 -- the same behind a space
 unfoldable pub part_at : (p : Part) → List ℕ → Option (Meaning p × List ℕ)
-part_at p bytes = spaced bytes >>= word_at p
+part_at p bytes = after_space bytes >>= word_at p
 
 -- what the first word says as a number of a schedule, by the first byte
 unfoldable pub value_read : List ℕ → Option (Operand × List ℕ)
@@ -193,47 +193,48 @@ parts_of Strides = U64 ∷ U64 ∷ U64 ∷ []
 parts_of Spans = U64 ∷ U64 ∷ []
 
 -- the value of them
-abbrev pub Bundled : Bundle → Type 0
-Bundled Operations = WordOp
-Bundled Strides = Level
-Bundled Spans = ℕ × ℕ
+abbrev pub BundleValue : Bundle → Type 0
+BundleValue Operations = WordOp
+BundleValue Strides = Level
+BundleValue Spans = ℕ × ℕ
 
-abbrev pub bundled : (b : Bundle) → Together (parts_of b) → Bundled b
-bundled Operations said = record { op = said.0; offset = said.1.0; a = said.1.1.0; b = said.1.1.1.0 }
-bundled Strides said = record { count = said.0; remote = said.1.0; local = said.1.1.0 }
-bundled Spans said = (said.0, said.1.0)
+abbrev pub bundle_value : (b : Bundle) → Together (parts_of b) → BundleValue b
+bundle_value Operations said = record { op = said.0; offset = said.1.0; a = said.1.1.0; b = said.1.1.1.0 }
+bundle_value Strides said = record { count = said.0; remote = said.1.0; local = said.1.1.0 }
+bundle_value Spans said = (said.0, said.1.0)
 
 -- and the words of a value
-abbrev pub unbundled : (b : Bundle) → Bundled b → Together (parts_of b)
-unbundled Operations word = (word.op, (word.offset, (word.a, (word.b, tt))))
-unbundled Strides level = (level.count, (level.remote, (level.local, tt)))
-unbundled Spans range = (range.0, (range.1, tt))
+abbrev pub bundle_words : (b : Bundle) → BundleValue b → Together (parts_of b)
+bundle_words Operations word = (word.op, (word.offset, (word.a, (word.b, tt))))
+bundle_words Strides level = (level.count, (level.remote, (level.local, tt)))
+bundle_words Spans range = (range.0, (range.1, tt))
 
 -- the bytes that say it
-abbrev pub bundle_text : (b : Bundle) → Bundled b → List ℕ
-bundle_text b value = together_text (parts_of b) (unbundled b value)
+abbrev pub bundle_text : (b : Bundle) → BundleValue b → List ℕ
+bundle_text b value = together_text (parts_of b) (bundle_words b value)
 
 -- what can be said so
-abbrev pub IsBundle : (b : Bundle) → Bundled b → Type 0
-IsBundle b value = AreTogether (parts_of b) (unbundled b value)
+abbrev pub IsBundle : (b : Bundle) → BundleValue b → Type 0
+IsBundle b value = AreTogether (parts_of b) (bundle_words b value)
 
 -- what the bytes say, and the bytes after them
-unfoldable pub bundle_at : (b : Bundle) → List ℕ → Option (Bundled b × List ℕ)
-bundle_at b bytes = together_at (parts_of b) bytes >>= λ x. Some (bundled b x.0, x.1)
+unfoldable pub bundle_at : (b : Bundle) → List ℕ → Option (BundleValue b × List ℕ)
+bundle_at b bytes = together_at (parts_of b) bytes >>= λ x. Some (bundle_value b x.0, x.1)
 
 -- a number of them
-unfoldable pub bundles_at : (least most : ℕ) → (b : Bundle) → List ℕ → Option (List (Bundled b) × List ℕ)
+unfoldable pub bundles_at : (least most : ℕ) → (b : Bundle) → List ℕ → Option (List (BundleValue b) × List ℕ)
 bundles_at least most b bytes =
     each_at (bundle_at b) most bytes >>= λ xs. if nat_le least (length xs.0) then Some xs else None
 
 -- how many come first, these, and others: 1 to so many each
-unfoldable pub split_at : (most : ℕ) → (b : Bundle) → List ℕ → Option ((List (Bundled b) × List (Bundled b)) × List ℕ)
+unfoldable pub split_at : (most : ℕ) → (b : Bundle) → List ℕ
+    → Option ((List (BundleValue b) × List (BundleValue b)) × List ℕ)
 split_at most b bytes =
     part_at (Number 1 most) bytes >>= λ count. bundles_at count.0 count.0 b count.1 >>= λ first.
     bundles_at 1 most b first.1 >>= λ others. Some ((first.0, others.0), others.1)
 
 -- the bytes that say it
-abbrev pub split_text : (b : Bundle) → List (Bundled b) × List (Bundled b) → List ℕ
+abbrev pub split_text : (b : Bundle) → List (BundleValue b) × List (BundleValue b) → List ℕ
 split_text b v =
     32 ∷ (decimal (length v.0) ++ (flat_map (bundle_text b) v.0 ++ flat_map (bundle_text b) v.1))
 
@@ -256,8 +257,8 @@ Values X End = Unit {0}
 Values X (p ▸ s) = Meaning p × Values X s
 Values X (Many least most p) = List (Meaning p)
 Values X (Any p) = List (Meaning p)
-Values X (Bundles least most b) = List (Bundled b)
-Values X (Split most b) = List (Bundled b) × List (Bundled b)
+Values X (Bundles least most b) = List (BundleValue b)
+Values X (Split most b) = List (BundleValue b) × List (BundleValue b)
 Values X Inner = X
 
 -- what makes an A of them
@@ -266,19 +267,19 @@ Maker X End A = A
 Maker X (p ▸ s) A = Meaning p → Maker X s A
 Maker X (Many least most p) A = List (Meaning p) → A
 Maker X (Any p) A = List (Meaning p) → A
-Maker X (Bundles least most b) A = List (Bundled b) → A
-Maker X (Split most b) A = (first others : List (Bundled b)) → A
+Maker X (Bundles least most b) A = List (BundleValue b) → A
+Maker X (Split most b) A = (first others : List (BundleValue b)) → A
 Maker X Inner A = X → A
 
 -- the A that it makes
-abbrev pub made : (X : Type 0) → {A : Type 0} → (s : Shape) → Maker X s A → Values X s → A
-made X End make v = make
-made X (p ▸ s) make v = made X s (make v.0) v.1
-made X (Many least most p) make v = make v
-made X (Any p) make v = make v
-made X (Bundles least most b) make v = make v
-made X (Split most b) make v = make v.0 v.1
-made X Inner make v = make v
+abbrev pub value_made : (X : Type 0) → {A : Type 0} → (s : Shape) → Maker X s A → Values X s → A
+value_made X End make v = make
+value_made X (p ▸ s) make v = value_made X s (make v.0) v.1
+value_made X (Many least most p) make v = make v
+value_made X (Any p) make v = make v
+value_made X (Bundles least most b) make v = make v
+value_made X (Split most b) make v = make v.0 v.1
+value_made X Inner make v = make v
 
 -- what the bytes say, and the bytes after them, where at reads a line of the other table
 abbrev pub values_at : {X : Type 0} → (at : List ℕ → Option (X × List ℕ)) → (s : Shape) → List ℕ → Option (Values X s
@@ -289,7 +290,7 @@ values_at at (Many least most p) bytes = many_at least most p bytes
 values_at at (Any p) bytes = parts_at p (length bytes) bytes
 values_at at (Bundles least most b) bytes = bundles_at least most b bytes
 values_at at (Split most b) bytes = split_at most b bytes
-values_at at Inner bytes = spaced bytes >>= at
+values_at at Inner bytes = after_space bytes >>= at
 
 -- the bytes that say it, where text writes a line of the other table
 abbrev pub values_text : {X : Type 0} → (text : X → List ℕ) → (s : Shape) → Values X s → List ℕ
@@ -328,7 +329,7 @@ pub record Entry (X A : Type 0) : Type 0 where
 
 -- what a row makes of the bytes after its name
 abbrev pub row_at : {X A : Type 0} → (at : List ℕ → Option (X × List ℕ)) → Row X A → List ℕ → Option (A × List ℕ)
-row_at {X} at row bytes = values_at at row.shape bytes >>= λ v. Some (made X row.shape row.make v.0, v.1)
+row_at {X} at row bytes = values_at at row.shape bytes >>= λ v. Some (value_made X row.shape row.make v.0, v.1)
 
 -- what the row of this name makes of the bytes after it
 abbrev pub named_at : {X A : Type 0} → (at : List ℕ → Option (X × List ℕ)) → List (Row X A) → (name : Word) → List ℕ
@@ -338,13 +339,13 @@ named_at at (row ∷ rows) name bytes = if bytes_eq name row.name then row_at at
     bytes
 
 -- what passes a test
-abbrev pub passed : {A : Type 0} → (A → Bool) → A × List ℕ → Option (A × List ℕ)
-passed test x = if test x.0 then Some x else None
+abbrev pub if_passes : {A : Type 0} → (A → Bool) → A × List ℕ → Option (A × List ℕ)
+if_passes test x = if test x.0 then Some x else None
 
 -- what a table makes of bytes, and the bytes after them
 abbrev pub table_at : {X A : Type 0} → (at : List ℕ → Option (X × List ℕ)) → List (Row X A) → (A → Bool) → List ℕ
     → Option (A × List ℕ)
-table_at at rows test bytes = named_at at rows (front bytes) (back bytes) >>= passed test
+table_at at rows test bytes = named_at at rows (prefix bytes) (back bytes) >>= if_passes test
 
 -- the bytes of an entry
 abbrev pub entry_text : {X A : Type 0} → (text : X → List ℕ) → Entry X A → List ℕ

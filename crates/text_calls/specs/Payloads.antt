@@ -9,9 +9,9 @@ use Rattle.text_calls.specs.declared.values.Payload.{Payload as PayloadValue}
 use Rattle.text_calls.specs.declared.values.Payload.TheVariants as payload
 
 -- the bytes before the first `+`
-abbrev pub plus_front : (bytes : List ℕ) → List ℕ
-plus_front [] = []
-plus_front (byte ∷ bytes) = if byte == 43 then [] else byte ∷ plus_front bytes
+abbrev pub plus_prefix : (bytes : List ℕ) → List ℕ
+plus_prefix [] = []
+plus_prefix (byte ∷ bytes) = if byte == 43 then [] else byte ∷ plus_prefix bytes
 
 -- the bytes after it, where there is one
 abbrev pub plus_back : (bytes : List ℕ) → Option (List ℕ)
@@ -21,7 +21,7 @@ plus_back (byte ∷ bytes) = if byte == 43 then Some bytes else plus_back bytes
 -- a range by its word, `OFF+LEN`
 unfoldable pub range_of : Word → Option PayloadValue
 range_of word =
-    plus_back word >>= λ behind. number_of (plus_front word) >>= λ offset. number_of behind >>= λ len.
+    plus_back word >>= λ behind. number_of (plus_prefix word) >>= λ offset. number_of behind >>= λ len.
     Some (payload.Range offset len)
 
 -- a payload of a schedule by its word: bytes, or a range

@@ -28,7 +28,7 @@ use Rattle.text_job.specs.JobReading.{with_handler}
 use Rattle.text_job.specs.JobReading.{with_steps, with_script, total_rounds, next, has_index, has_pair}
 use Rattle.text_job.specs.JobReading.{has_thread}
 use Rattle.text_job.specs.JobReading.{rounds_of, is_full, is_reserved, most_handlers, with_atomics}
-use Rattle.text_job.specs.JobReading.{front_with, read}
+use Rattle.text_job.specs.JobReading.{prefix_with, read}
 use Rattle.text_job.specs.JobReading.{amounts_of, is_full_script, lines_of, with_collect}
 use Rattle.text_job.specs.PlanPieces.{most_pieces, event_pieces, schedule_pieces}
 use Rattle.text_job.specs.StepPieces.{step_pieces, steps_pieces}
@@ -87,21 +87,21 @@ reach_join a b c (x ∷ xs) ys h k = record {
 }
 
 -- parts, each behind those before it, where the test says of others that they may come behind these
-parts_reach : {A : Type 0} (state : List A → State) (lines : A → List Line) (May : (front rest : List A) → Type 0)
-    → ((front : List A) (part : A) (rest : List A) → May front (part ∷ rest)
-    → Reaches (state front) (lines part) (state (front ++ part ∷ [])) × May (front ++ part ∷ []) rest)
-    → (front parts rest : List A) → May front (parts ++ rest)
-    → Reaches (state front) (flat_map lines parts) (state (front ++ parts)) × May (front ++ parts) rest
-parts_reach {A} state lines May one front [] rest may =
-    let same = sym (append-nil front) in
+parts_reach : {A : Type 0} (state : List A → State) (lines : A → List Line) (May : (prefix rest : List A) → Type 0)
+    → ((prefix : List A) (part : A) (rest : List A) → May prefix (part ∷ rest)
+    → Reaches (state prefix) (lines part) (state (prefix ++ part ∷ [])) × May (prefix ++ part ∷ []) rest)
+    → (prefix parts rest : List A) → May prefix (parts ++ rest)
+    → Reaches (state prefix) (flat_map lines parts) (state (prefix ++ parts)) × May (prefix ++ parts) rest
+parts_reach {A} state lines May one prefix [] rest may =
+    let same = sym (append-nil prefix) in
     (ap state same, subst (λ (all : List A). May all rest) same may)
-parts_reach {A} state lines May one front (part ∷ parts) rest may =
-    let first = one front part (parts ++ rest) may in
-    let others = parts_reach state lines May one (front ++ part ∷ []) parts rest first.1 in
-    let same = append_assoc front (part ∷ []) parts in (
-      reach_join (state front) (state (front ++ part ∷ [])) (state (front ++ part ∷ parts)) (lines part)
+parts_reach {A} state lines May one prefix (part ∷ parts) rest may =
+    let first = one prefix part (parts ++ rest) may in
+    let others = parts_reach state lines May one (prefix ++ part ∷ []) parts rest first.1 in
+    let same = append_assoc prefix (part ∷ []) parts in (
+      reach_join (state prefix) (state (prefix ++ part ∷ [])) (state (prefix ++ part ∷ parts)) (lines part)
           (flat_map lines parts) first.0
-          (subst (λ (all : List A). Reaches (state (front ++ part ∷ [])) (flat_map lines parts) (state all)) same
+          (subst (λ (all : List A). Reaches (state (prefix ++ part ∷ [])) (flat_map lines parts) (state all)) same
           others.0),
       subst (λ (all : List A). May all rest) same others.1,
     )
@@ -354,12 +354,12 @@ head_reach job is =
 -- ---- pairs
 
 -- pairs of which the first ones are these
-are_first : (nodes : ℕ) (front pairs : List PairCredits) → ArePairs nodes (front ++ pairs) → ArePairs nodes front
+are_first : (nodes : ℕ) (prefix pairs : List PairCredits) → ArePairs nodes (prefix ++ pairs) → ArePairs nodes prefix
 are_first nodes [] pairs are = tt
-are_first nodes (pair ∷ front) pairs are = (
+are_first nodes (pair ∷ prefix) pairs are = (
   are.0,
-  own_first front pairs pair.from pair.to are.1,
-  are_first nodes front pairs are.2,
+  own_first prefix pairs pair.from pair.to are.1,
+  are_first nodes prefix pairs are.2,
 )
   where
     own_first : (xs ys : List PairCredits) (from to : ℕ) → own_credits (xs ++ ys) from to ≡ None
@@ -386,13 +386,13 @@ not_among (x ∷ xs) pair e = among_by (eqb x.from pair.from && eqb x.to pair.to
     among_by false c o b f h = f h
 
 -- the first so many of them
-take_front : (front : List PairCredits) (pair : PairCredits) (pairs : List PairCredits) → take (length front + 1)
-    (front ++ pair ∷ pairs) ≡ front ++ pair ∷ []
-take_front [] pair [] = refl
-take_front [] pair (x ∷ xs) = refl
-take_front (x ∷ front) pair pairs = ap (λ (n : ℕ). take n (x ∷ (front ++ pair ∷ pairs))) (let e : suc
-    (length front) + 1 ≡ suc (length front + 1) = omega arith in e) ∙ ap (λ (ys : List PairCredits). x ∷ ys)
-    (take_front front pair pairs)
+take_prefix : (prefix : List PairCredits) (pair : PairCredits) (pairs : List PairCredits) → take (length prefix + 1)
+    (prefix ++ pair ∷ pairs) ≡ prefix ++ pair ∷ []
+take_prefix [] pair [] = refl
+take_prefix [] pair (x ∷ xs) = refl
+take_prefix (x ∷ prefix) pair pairs = ap (λ (n : ℕ). take n (x ∷ (prefix ++ pair ∷ pairs))) (let e : suc
+    (length prefix) + 1 ≡ suc (length prefix + 1) = omega arith in e) ∙ ap (λ (ys : List PairCredits). x ∷ ys)
+    (take_prefix prefix pair pairs)
 
 not_same : (a b : ℕ) → a ≢ b → not (eqb a b) ≡ true
 not_same a b h = rw (ne_eqb a b h) refl
@@ -402,19 +402,19 @@ abbrev pub with_pairs : Parameters → List PairCredits → Parameters
 with_pairs settings pairs = record settings { pairs = pairs }
 
 -- a pair that may stand behind others
-pub record IsNext (settings : Parameters) (front : List PairCredits) (pair : PairCredits) : Type 0 where
+pub record IsNext (settings : Parameters) (prefix : List PairCredits) (pair : PairCredits) : Type 0 where
   pub is : IsPair settings.nodes pair
   pub nodes : settings.nodes ≤ 256
-  pub none : own_credits front pair.from pair.to ≡ None
-  pub sum : credits_in_all (with_pairs settings (front ++ pair ∷ [])) ≤ 65536
-  pub few : length front < 64
+  pub none : own_credits prefix pair.from pair.to ≡ None
+  pub sum : credits_in_all (with_pairs settings (prefix ++ pair ∷ [])) ≤ 65536
+  pub few : length prefix < 64
 
-pair_item : (settings : Parameters) (front : List PairCredits) (pair : PairCredits) → IsNext settings front pair
-    → IsItem AtPairs (record { settings = with_pairs settings front; atomics = false; collect = false }) (Named pair)
-pair_item settings front pair n =
+pair_item : (settings : Parameters) (prefix : List PairCredits) (pair : PairCredits) → IsNext settings prefix pair
+    → IsItem AtPairs (record { settings = with_pairs settings prefix; atomics = false; collect = false }) (Named pair)
+pair_item settings prefix pair n =
     let i = n.is in
-    let sum : credits_in_all (in_place (with_pairs settings front) pair) ≤ 65536 = rw (← sum_beside
-    (with_pairs settings front) pair i n.none) n.sum in
+    let sum : credits_in_all (in_place (with_pairs settings prefix) pair) ≤ 65536 = rw (← sum_beside
+    (with_pairs settings prefix) pair i n.none) n.sum in
     let from = i.from in
     let to = i.to in
     let nodes = n.nodes in
@@ -432,77 +432,77 @@ pair_item settings front pair n =
       ),
       and_from _ _ (lt-ltb pair.from settings.nodes from) (and_from _ _ (lt-ltb pair.to settings.nodes to)
           (and_from _ _ (not_same pair.from pair.to i.apart) (le-leb
-          (credits_in_all (in_place (with_pairs settings front) pair)) 65536 sum))),
+          (credits_in_all (in_place (with_pairs settings prefix) pair)) 65536 sum))),
     )
 
-next_pair : (job : Job) → IsJob job → (front : List PairCredits) (pair : PairCredits) (rest : List PairCredits)
-    → front ++ pair ∷ rest ≡ job.settings.pairs → IsNext job.settings front pair
-next_pair job is front pair rest e =
-    let are : ArePairs job.settings.nodes ((front ++ pair ∷ []) ++ rest) = subst (λ
+next_pair : (job : Job) → IsJob job → (prefix : List PairCredits) (pair : PairCredits) (rest : List PairCredits)
+    → prefix ++ pair ∷ rest ≡ job.settings.pairs → IsNext job.settings prefix pair
+next_pair job is prefix pair rest e =
+    let are : ArePairs job.settings.nodes ((prefix ++ pair ∷ []) ++ rest) = subst (λ
     (ps : List PairCredits). ArePairs job.settings.nodes ps) (sym
-    (append_assoc front (pair ∷ []) rest ∙ e)) is.settings.pairs in
-    let last = last_pair job.settings.nodes front pair (are_first job.settings.nodes (front ++ pair ∷ []) rest are) in
-    let first : take (length front + 1) job.settings.pairs ≡ front ++ pair ∷ [] = ap (take (length front + 1))
-    (sym e) ∙ take_front front pair rest in
-    let all : length (front ++ pair ∷ rest) ≤ 64 = subst (λ (ps : List PairCredits). length ps ≤ 64)
+    (append_assoc prefix (pair ∷ []) rest ∙ e)) is.settings.pairs in
+    let last = last_pair job.settings.nodes prefix pair (are_first job.settings.nodes (prefix ++ pair ∷ []) rest are) in
+    let first : take (length prefix + 1) job.settings.pairs ≡ prefix ++ pair ∷ [] = ap (take (length prefix + 1))
+    (sym e) ∙ take_prefix prefix pair rest in
+    let all : length (prefix ++ pair ∷ rest) ≤ 64 = subst (λ (ps : List PairCredits). length ps ≤ 64)
     (sym e) is.settings.few_pairs in
-    let many : length (front ++ pair ∷ rest) ≡ length front + suc (length rest) = simp length-append in
+    let many : length (prefix ++ pair ∷ rest) ≡ length prefix + suc (length rest) = simp length-append in
     record {
       is = last.is;
       nodes = is.settings.nodes;
       none = last.none;
       sum = subst (λ (ps : List PairCredits). credits_in_all (with_pairs job.settings ps) ≤ 65536) first (is.sums
-          (length front + 1));
+          (length prefix + 1));
       few = omega (arith, all, many);
     }
 
-pub pairs_reach : (job : Job) → IsJob job → (front rest : List PairCredits) → front ++ rest ≡ job.settings.pairs
-    → Reaches (record { place = AtPairs; job = of_head job front }) (map pair_line rest)
-    (record { place = AtPairs; job = of_head job (front ++ rest) })
-pairs_reach job is front [] e = ap (λ (ps : List PairCredits). record { place = AtPairs; job = of_head job ps }) (sym
-    (append-nil front))
-pairs_reach job is front (pair ∷ rest) e =
-    let n = next_pair job is front pair rest e in
+pub pairs_reach : (job : Job) → IsJob job → (prefix rest : List PairCredits) → prefix ++ rest ≡ job.settings.pairs
+    → Reaches (record { place = AtPairs; job = of_head job prefix }) (map pair_line rest)
+    (record { place = AtPairs; job = of_head job (prefix ++ rest) })
+pairs_reach job is prefix [] e = ap (λ (ps : List PairCredits). record { place = AtPairs; job = of_head job ps }) (sym
+    (append-nil prefix))
+pairs_reach job is prefix (pair ∷ rest) e =
+    let n = next_pair job is prefix pair rest e in
     record {
       item = Named pair;
-      to = record { place = AtPairs; job = of_head job (front ++ pair ∷ []) };
+      to = record { place = AtPairs; job = of_head job (prefix ++ pair ∷ []) };
       text = refl;
-      is = pair_item job.settings front pair n;
-      goes = rw (not_among front pair n.none, lt-leb 64 (length front) n.few) refl;
+      is = pair_item job.settings prefix pair n;
+      goes = rw (not_among prefix pair n.none, lt-leb 64 (length prefix) n.few) refl;
       behind = subst (λ (ps : List PairCredits). Reaches (record {
         place = AtPairs;
-        job = of_head job (front
+        job = of_head job (prefix
             ++ pair ∷ []);
       }) (map pair_line rest) (record { place = AtPairs; job = of_head job ps }))
-          (append_assoc front (pair ∷ []) rest)
-          (pairs_reach job is (front ++ pair ∷ []) rest (append_assoc front (pair ∷ []) rest ∙ e));
+          (append_assoc prefix (pair ∷ []) rest)
+          (pairs_reach job is (prefix ++ pair ∷ []) rest (append_assoc prefix (pair ∷ []) rest ∙ e));
     }
 
 -- ---- handlers
 
-body_reach : (handler : HandlerText) (front rest : List Action) (job : Job) → AllByRecursion IsAction rest → length
-    (front ++ rest) ≤ 64
-    → Reaches (record { place = AtBody (with_body front handler); job = job }) (map action_text rest)
-    (record { place = AtBody (with_body (front ++ rest) handler); job = job })
-body_reach handler front [] job all few = ap (λ (body : List Action). record {
+body_reach : (handler : HandlerText) (prefix rest : List Action) (job : Job) → AllByRecursion IsAction rest → length
+    (prefix ++ rest) ≤ 64
+    → Reaches (record { place = AtBody (with_body prefix handler); job = job }) (map action_text rest)
+    (record { place = AtBody (with_body (prefix ++ rest) handler); job = job })
+body_reach handler prefix [] job all few = ap (λ (body : List Action). record {
   place = AtBody (with_body body handler);
   job = job;
-}) (sym (append-nil front))
-body_reach handler front (action ∷ rest) job all few =
-    let many : length (front ++ action ∷ rest) ≡ length front + suc (length rest) = simp length-append in
+}) (sym (append-nil prefix))
+body_reach handler prefix (action ∷ rest) job all few =
+    let many : length (prefix ++ action ∷ rest) ≡ length prefix + suc (length rest) = simp length-append in
     record {
       item = Some action;
-      to = record { place = AtBody (with_body (front ++ action ∷ []) handler); job = job };
+      to = record { place = AtBody (with_body (prefix ++ action ∷ []) handler); job = job };
       text = refl;
       is = all.0;
-      goes = rw (lt-leb 64 (length front) (omega (arith, many))) refl;
+      goes = rw (lt-leb 64 (length prefix) (omega (arith, many))) refl;
       behind = subst (λ (body : List Action). Reaches (record {
-        place = AtBody (with_body (front ++ action ∷ []) handler);
+        place = AtBody (with_body (prefix ++ action ∷ []) handler);
         job = job;
       }) (map action_text rest) (record { place = AtBody (with_body body handler); job = job }))
-          (append_assoc front (action ∷ []) rest)
-          (body_reach handler (front ++ action ∷ []) rest job all.1 (subst (λ (body : List Action). length body ≤ 64)
-          (sym (append_assoc front (action ∷ []) rest)) few));
+          (append_assoc prefix (action ∷ []) rest)
+          (body_reach handler (prefix ++ action ∷ []) rest job all.1 (subst (λ (body : List Action). length body ≤ 64)
+          (sym (append_assoc prefix (action ∷ []) rest)) few));
     }
 
 -- the line that ends a handler
@@ -554,46 +554,46 @@ abbrev pub with_handlers : Job → List HandlerText → Job
 with_handlers job handlers = record job { handlers = handlers }
 
 -- handlers of which the first ones stand
-abbrev pub MayFollow : Scope → (front rest : List HandlerText) → Type 0
-MayFollow scope front rest = AllByRecursion IsHandler rest
-    × AreFresh (map (λ (x : HandlerText). x.index) front) rest × (length (front ++ rest) ≤ most_handlers scope)
+abbrev pub MayFollow : Scope → (prefix rest : List HandlerText) → Type 0
+MayFollow scope prefix rest = AllByRecursion IsHandler rest
+    × AreFresh (map (λ (x : HandlerText). x.index) prefix) rest × (length (prefix ++ rest) ≤ most_handlers scope)
     × AreUnreserved scope rest
 
-abbrev pub behind_front : Job → List HandlerText → State
-behind_front job front = record { place = AtHandlers; job = with_handlers job front }
+abbrev pub behind_prefix : Job → List HandlerText → State
+behind_prefix job prefix = record { place = AtHandlers; job = with_handlers job prefix }
 
 -- a handler behind others
-pub handler_opens : (job : Job) (front : List HandlerText) (h : HandlerText) (rest : List HandlerText)
-    → MayFollow (scope_of job) front (h ∷ rest)
-    → Reaches (behind_front job front) (header_line h ∷ map action_text h.body)
-    (record { place = AtBody h; job = with_handlers job front })
-handler_opens job front h rest may =
-    let many : length (front ++ h ∷ rest) ≡ length front + suc (length rest) = simp length-append in
+pub handler_opens : (job : Job) (prefix : List HandlerText) (h : HandlerText) (rest : List HandlerText)
+    → MayFollow (scope_of job) prefix (h ∷ rest)
+    → Reaches (behind_prefix job prefix) (header_line h ∷ map action_text h.body)
+    (record { place = AtBody h; job = with_handlers job prefix })
+handler_opens job prefix h rest may =
+    let many : length (prefix ++ h ∷ rest) ≡ length prefix + suc (length rest) = simp length-append in
     let few = may.2 in
-    handler_begins h (with_handlers job front) may.0.0 (fresh_to front h.index may.1.0) may.3.0
+    handler_begins h (with_handlers job prefix) may.0.0 (fresh_to prefix h.index may.1.0) may.3.0
     (omega (arith, many, few))
 
-next_handler : (job : Job) (front : List HandlerText) (h : HandlerText) (rest : List HandlerText)
-    → MayFollow (scope_of job) front (h ∷ rest)
-    → Reaches (behind_front job front) (handler_lines h) (behind_front job (front ++ h ∷ []))
-    × MayFollow (scope_of job) (front ++ h ∷ []) rest
-next_handler job front h rest may =
-    let begun : State = record { place = AtBody h; job = with_handlers job front } in
-    let one = reach_join (behind_front job front) begun (behind_front job (front ++ h ∷ []))
-    (header_line h ∷ map action_text h.body) (end_line ∷ []) (handler_opens job front h rest may)
-    (body_end h (with_handlers job front)) in
-    let indexes : map (λ (x : HandlerText). x.index) (front ++ h ∷ []) ≡ map (λ (x : HandlerText). x.index) front
-    ++ h.index ∷ [] = map-append (λ (x : HandlerText). x.index) front (h ∷ []) in
+next_handler : (job : Job) (prefix : List HandlerText) (h : HandlerText) (rest : List HandlerText)
+    → MayFollow (scope_of job) prefix (h ∷ rest)
+    → Reaches (behind_prefix job prefix) (handler_lines h) (behind_prefix job (prefix ++ h ∷ []))
+    × MayFollow (scope_of job) (prefix ++ h ∷ []) rest
+next_handler job prefix h rest may =
+    let begun : State = record { place = AtBody h; job = with_handlers job prefix } in
+    let one = reach_join (behind_prefix job prefix) begun (behind_prefix job (prefix ++ h ∷ []))
+    (header_line h ∷ map action_text h.body) (end_line ∷ []) (handler_opens job prefix h rest may)
+    (body_end h (with_handlers job prefix)) in
+    let indexes : map (λ (x : HandlerText). x.index) (prefix ++ h ∷ []) ≡ map (λ (x : HandlerText). x.index) prefix
+    ++ h.index ∷ [] = map-append (λ (x : HandlerText). x.index) prefix (h ∷ []) in
     let fresh = subst (λ (t : List ℕ). AreFresh t rest) (sym indexes) may.1.1 in
     let room = subst (λ (hs : List HandlerText). length hs ≤ most_handlers (scope_of job))
-    (sym (append_assoc front (h ∷ []) rest)) may.2 in
+    (sym (append_assoc prefix (h ∷ []) rest)) may.2 in
     (one, (may.0.1, fresh, room, may.3.1))
 
-handlers_reach : (job : Job) (front hs rest : List HandlerText) → MayFollow (scope_of job) front (hs ++ rest)
-    → Reaches (behind_front job front) (flat_map handler_lines hs) (behind_front job (front ++ hs))
-    × MayFollow (scope_of job) (front ++ hs) rest
-handlers_reach job front hs rest may =
-    parts_reach (behind_front job) handler_lines (MayFollow (scope_of job)) (next_handler job) front hs rest may
+handlers_reach : (job : Job) (prefix hs rest : List HandlerText) → MayFollow (scope_of job) prefix (hs ++ rest)
+    → Reaches (behind_prefix job prefix) (flat_map handler_lines hs) (behind_prefix job (prefix ++ hs))
+    × MayFollow (scope_of job) (prefix ++ hs) rest
+handlers_reach job prefix hs rest may =
+    parts_reach (behind_prefix job) handler_lines (MayFollow (scope_of job)) (next_handler job) prefix hs rest may
 
 -- ---- atomics and collectives
 
@@ -718,32 +718,32 @@ steps_free : (pieces steps : ℕ) (s : ScriptStep) → steps < 4096 → pieces +
     → is_full_script pieces steps s ≡ false
 steps_free pieces steps s a b = rw (lt-leb 4096 steps a, le-ltb 65536 (pieces + step_pieces s) b) refl
 
-steps_reach : (script : NodeScript) (front rest : List ScriptStep) (job : Job)
-    → AllByRecursion (IsStep (scope_of job)) rest → length (front ++ rest) ≤ 4096
-    → scripts_pieces job.scripts + steps_pieces (front ++ rest) ≤ most_pieces
-    → Reaches (record { place = AtSteps (with_steps front script); job = job }) (map step_text rest)
-    (record { place = AtSteps (with_steps (front ++ rest) script); job = job })
-steps_reach script front [] job all few room = ap (λ (steps : List ScriptStep). record {
+steps_reach : (script : NodeScript) (prefix rest : List ScriptStep) (job : Job)
+    → AllByRecursion (IsStep (scope_of job)) rest → length (prefix ++ rest) ≤ 4096
+    → scripts_pieces job.scripts + steps_pieces (prefix ++ rest) ≤ most_pieces
+    → Reaches (record { place = AtSteps (with_steps prefix script); job = job }) (map step_text rest)
+    (record { place = AtSteps (with_steps (prefix ++ rest) script); job = job })
+steps_reach script prefix [] job all few room = ap (λ (steps : List ScriptStep). record {
   place = AtSteps (with_steps steps script);
   job = job;
-}) (sym (append-nil front))
-steps_reach script front (s ∷ rest) job all few room =
-    let many : length (front ++ s ∷ rest) ≡ length front + suc (length rest) = simp length-append in
+}) (sym (append-nil prefix))
+steps_reach script prefix (s ∷ rest) job all few room =
+    let many : length (prefix ++ s ∷ rest) ≡ length prefix + suc (length rest) = simp length-append in
     let pieces = steps_join front (s ∷ rest) in
-    let same = sym (append_assoc front (s ∷ []) rest) in
+    let same = sym (append_assoc prefix (s ∷ []) rest) in
     record {
       item = Some s;
-      to = record { place = AtSteps (with_steps (front ++ s ∷ []) script); job = job };
+      to = record { place = AtSteps (with_steps (prefix ++ s ∷ []) script); job = job };
       text = refl;
       is = all.0;
-      goes = rw (steps_free (scripts_pieces job.scripts + steps_pieces front) (length front) s
+      goes = rw (steps_free (scripts_pieces job.scripts + steps_pieces prefix) (length prefix) s
           (omega (arith, many)) (omega (arith, pieces, room))) refl;
       behind = subst (λ (steps : List ScriptStep). Reaches (record {
-        place = AtSteps (with_steps (front ++ s ∷ []) script);
+        place = AtSteps (with_steps (prefix ++ s ∷ []) script);
         job = job;
       }) (map step_text rest) (record { place = AtSteps (with_steps steps script); job = job }))
-          (append_assoc front (s ∷ []) rest)
-          (steps_reach script (front ++ s ∷ []) rest job all.1
+          (append_assoc prefix (s ∷ []) rest)
+          (steps_reach script (prefix ++ s ∷ []) rest job all.1
           (subst (λ (steps : List ScriptStep). length steps ≤ 4096) same few)
           (subst (λ (steps : List ScriptStep). scripts_pieces job.scripts + steps_pieces steps ≤ most_pieces) same
           room));
@@ -789,34 +789,34 @@ abbrev pub with_scripts : Job → List NodeScript → Job
 with_scripts job scripts = record job { scripts = scripts }
 
 -- scripts of which the first ones stand
-abbrev pub MayGoOn : Job → (front rest : List NodeScript) → Type 0
-MayGoOn job front rest =
-    AllByRecursion (IsNodeScript (scope_of job)) rest × AreThreads (front ++ rest)
-    × (scripts_pieces (front ++ rest) ≤ most_pieces)
+abbrev pub MayGoOn : Job → (prefix rest : List NodeScript) → Type 0
+MayGoOn job prefix rest =
+    AllByRecursion (IsNodeScript (scope_of job)) rest × AreThreads (prefix ++ rest)
+    × (scripts_pieces (prefix ++ rest) ≤ most_pieces)
 
 abbrev pub behind_scripts_of : Job → List NodeScript → State
-behind_scripts_of job front = record { place = AtScripts; job = with_scripts job front }
+behind_scripts_of job prefix = record { place = AtScripts; job = with_scripts job prefix }
 
 -- a script behind others
-pub script_opens : (job : Job) → job.settings.nodes ≤ 256 → job.settings.threads ≤ 16 → (front : List NodeScript)
-    (s : NodeScript) (rest : List NodeScript) → MayGoOn job front (s ∷ rest)
-    → Reaches (behind_scripts_of job front) (script_line s ∷ map step_text s.steps)
-    (record { place = AtSteps s; job = with_scripts job front })
-script_opens job nodes threads front s rest may =
+pub script_opens : (job : Job) → job.settings.nodes ≤ 256 → job.settings.threads ≤ 16 → (prefix : List NodeScript)
+    (s : NodeScript) (rest : List NodeScript) → MayGoOn job prefix (s ∷ rest)
+    → Reaches (behind_scripts_of job prefix) (script_line s ∷ map step_text s.steps)
+    (record { place = AtSteps s; job = with_scripts job prefix })
+script_opens job nodes threads prefix s rest may =
     let pieces = scripts_join front (s ∷ rest) in
-    let room : scripts_pieces front + steps_pieces s.steps ≤ most_pieces = omega (arith, pieces, may.2) in
-    script_begins s (with_scripts job front) may.0.0 nodes threads (threads_new front rest s may.1) room
+    let room : scripts_pieces prefix + steps_pieces s.steps ≤ most_pieces = omega (arith, pieces, may.2) in
+    script_begins s (with_scripts job prefix) may.0.0 nodes threads (threads_new prefix rest s may.1) room
 
-next_script : (job : Job) → job.settings.nodes ≤ 256 → job.settings.threads ≤ 16 → (front : List NodeScript)
-    (s : NodeScript) (rest : List NodeScript) → MayGoOn job front (s ∷ rest)
-    → Reaches (behind_scripts_of job front) (script_lines s) (behind_scripts_of job (front ++ s ∷ []))
-    × MayGoOn job (front ++ s ∷ []) rest
-next_script job nodes threads front s rest may =
-    let same = sym (append_assoc front (s ∷ []) rest) in
-    let begun : State = record { place = AtSteps s; job = with_scripts job front } in
-    let one = reach_join (behind_scripts_of job front) begun (behind_scripts_of job (front ++ s ∷ []))
-    (script_line s ∷ map step_text s.steps) (end_line ∷ []) (script_opens job nodes threads front s rest may)
-    (steps_end s (with_scripts job front)) in (
+next_script : (job : Job) → job.settings.nodes ≤ 256 → job.settings.threads ≤ 16 → (prefix : List NodeScript)
+    (s : NodeScript) (rest : List NodeScript) → MayGoOn job prefix (s ∷ rest)
+    → Reaches (behind_scripts_of job prefix) (script_lines s) (behind_scripts_of job (prefix ++ s ∷ []))
+    × MayGoOn job (prefix ++ s ∷ []) rest
+next_script job nodes threads prefix s rest may =
+    let same = sym (append_assoc prefix (s ∷ []) rest) in
+    let begun : State = record { place = AtSteps s; job = with_scripts job prefix } in
+    let one = reach_join (behind_scripts_of job prefix) begun (behind_scripts_of job (prefix ++ s ∷ []))
+    (script_line s ∷ map step_text s.steps) (end_line ∷ []) (script_opens job nodes threads prefix s rest may)
+    (steps_end s (with_scripts job prefix)) in (
       one,
       (
         may.0.1,
@@ -825,12 +825,12 @@ next_script job nodes threads front s rest may =
       ),
     )
 
-scripts_reach : (job : Job) (front ss rest : List NodeScript) → job.settings.nodes ≤ 256 → job.settings.threads ≤ 16
-    → MayGoOn job front (ss ++ rest)
-    → Reaches (behind_scripts_of job front) (flat_map script_lines ss) (behind_scripts_of job (front ++ ss))
-    × MayGoOn job (front ++ ss) rest
-scripts_reach job front ss rest nodes threads may =
-    parts_reach (behind_scripts_of job) script_lines (MayGoOn job) (next_script job nodes threads) front ss rest may
+scripts_reach : (job : Job) (prefix ss rest : List NodeScript) → job.settings.nodes ≤ 256 → job.settings.threads ≤ 16
+    → MayGoOn job prefix (ss ++ rest)
+    → Reaches (behind_scripts_of job prefix) (flat_map script_lines ss) (behind_scripts_of job (prefix ++ ss))
+    × MayGoOn job (prefix ++ ss) rest
+scripts_reach job prefix ss rest nodes threads may =
+    parts_reach (behind_scripts_of job) script_lines (MayGoOn job) (next_script job nodes threads) prefix ss rest may
 
 -- what may come behind scripts may come behind handlers
 behind_handlers : (job : Job) (line : Line) (lines : List Line) (end : State) → Reaches
@@ -847,9 +847,9 @@ behind_handlers job line lines end h = record {
 
 -- ---- the schedule
 
-rounds_join : (front rest : List TimedEvent) → total_rounds (front ++ rest) ≡ total_rounds front + total_rounds rest
+rounds_join : (prefix rest : List TimedEvent) → total_rounds (prefix ++ rest) ≡ total_rounds prefix + total_rounds rest
 rounds_join [] rest = omega arith
-rounds_join (t ∷ front) rest = let e = rounds_join front rest in omega arith
+rounds_join (t ∷ prefix) rest = let e = rounds_join front rest in omega arith
 
 abbrev pub with_schedule : Job → List TimedEvent → Job
 with_schedule job lines = record job { schedule = Some lines }
@@ -868,38 +868,38 @@ not_full nodes so_far e a b c d = rw (
 fewer : (a b n limit : ℕ) → a ≤ b → b * n ≤ limit → a * n ≤ limit
 fewer a b n limit h k = let m : a * n ≤ b * n = mul-le-mul_right n h in omega (arith, m, k)
 
-schedule_reach : (job : Job) (front rest : List TimedEvent) → AllByRecursion
-    (IsTimed (scope_of job)) rest → length (front ++ rest) ≤ 65536 → total_rounds (front
-    ++ rest) ≤ 4096 → total_rounds (front ++ rest) * job.settings.nodes ≤ 262144
-    → scripts_pieces job.scripts + schedule_pieces (front ++ rest) ≤ most_pieces
-    → Reaches (record { place = AtSchedule; job = with_schedule job front }) (timed_lines job.settings rest)
-    (record { place = AtSchedule; job = with_schedule job (front ++ rest) })
-schedule_reach job front [] all a b c d = ap (λ (lines : List TimedEvent). record {
+schedule_reach : (job : Job) (prefix rest : List TimedEvent) → AllByRecursion
+    (IsTimed (scope_of job)) rest → length (prefix ++ rest) ≤ 65536 → total_rounds (prefix
+    ++ rest) ≤ 4096 → total_rounds (prefix ++ rest) * job.settings.nodes ≤ 262144
+    → scripts_pieces job.scripts + schedule_pieces (prefix ++ rest) ≤ most_pieces
+    → Reaches (record { place = AtSchedule; job = with_schedule job prefix }) (timed_lines job.settings rest)
+    (record { place = AtSchedule; job = with_schedule job (prefix ++ rest) })
+schedule_reach job prefix [] all a b c d = ap (λ (lines : List TimedEvent). record {
   place = AtSchedule;
   job = with_schedule job lines;
-}) (sym (append-nil front))
-schedule_reach job front (t ∷ rest) all a b c d =
-    let many : length (front ++ t ∷ rest) ≡ length front + suc (length rest) = simp length-append in
+}) (sym (append-nil prefix))
+schedule_reach job prefix (t ∷ rest) all a b c d =
+    let many : length (prefix ++ t ∷ rest) ≡ length prefix + suc (length rest) = simp length-append in
     let sum = rounds_join front (t ∷ rest) in
-    let less : total_rounds front + rounds_of t.event ≤ total_rounds (front ++ t ∷ rest) = omega (arith, sum) in
+    let less : total_rounds prefix + rounds_of t.event ≤ total_rounds (prefix ++ t ∷ rest) = omega (arith, sum) in
     let pieces = schedule_join front (t ∷ rest) in
     let before = scripts_pieces job.scripts in
-    let same = sym (append_assoc front (t ∷ []) rest) in
+    let same = sym (append_assoc prefix (t ∷ []) rest) in
     record {
       item = Some t;
-      to = record { place = AtSchedule; job = with_schedule job (front ++ t ∷ []) };
+      to = record { place = AtSchedule; job = with_schedule job (prefix ++ t ∷ []) };
       text = refl;
       is = all.0;
-      goes = rw (not_full job.settings.nodes (amounts_of before front) t.event (omega (arith, many))
-          (omega (arith, less)) (fewer (total_rounds front + rounds_of t.event) (total_rounds
-          (front ++ t ∷ rest)) job.settings.nodes 262144 less c) (omega (arith, pieces, d))) refl;
+      goes = rw (not_full job.settings.nodes (amounts_of before prefix) t.event (omega (arith, many))
+          (omega (arith, less)) (fewer (total_rounds prefix + rounds_of t.event) (total_rounds
+          (prefix ++ t ∷ rest)) job.settings.nodes 262144 less c) (omega (arith, pieces, d))) refl;
       behind = subst (λ (lines : List TimedEvent). Reaches (record {
         place = AtSchedule;
         job = with_schedule job
-            (front ++ t ∷ []);
+            (prefix ++ t ∷ []);
       }) (timed_lines job.settings rest) (record { place = AtSchedule; job = with_schedule job lines }))
-          (append_assoc front (t ∷ []) rest)
-          (schedule_reach job (front ++ t ∷ []) rest all.1
+          (append_assoc prefix (t ∷ []) rest)
+          (schedule_reach job (prefix ++ t ∷ []) rest all.1
           (subst (λ (lines : List TimedEvent). length lines ≤ 65536) same a)
           (subst (λ (lines : List TimedEvent). total_rounds lines ≤ 4096) same b)
           (subst (λ (lines : List TimedEvent). total_rounds lines * job.settings.nodes ≤ 262144) same c)
@@ -1037,7 +1037,7 @@ collect_lead job is lines end some on =
 pub handlers_lead : (job : Job) → IsJob job → (hs rest : List HandlerText) → job.handlers ≡ hs ++ rest
     → (lines : List Line) (end : State)
     → (job.collect ≡ None → flat_map handler_lines hs ++ lines ≡ [] → ⊥)
-    → (MayFollow (scope_of job) hs rest → Reaches (behind_front (before_handlers job) hs) lines end)
+    → (MayFollow (scope_of job) hs rest → Reaches (behind_prefix (before_handlers job) hs) lines end)
     → Reaches start (lines_with_collect job ++ (flat_map handler_lines hs ++ lines)) end
 handlers_lead job is hs rest all lines end some on =
     let may : MayFollow (scope_of job) [] job.handlers = (
@@ -1049,7 +1049,7 @@ handlers_lead job is hs rest all lines end some on =
     let part = flat_map handler_lines hs in
     let first = handlers_reach (before_handlers job) [] hs rest
     (subst (λ (all : List HandlerText). MayFollow (scope_of job) [] all) all may) in
-    let later = reach_join (behind_front (before_handlers job) []) (behind_front (before_handlers job) hs) end part lines
+    let later = reach_join (behind_prefix (before_handlers job) []) (behind_prefix (before_handlers job) hs) end part lines
     first.0 (on first.1) in
     collect_lead job is (part ++ lines) end some later
 
@@ -1085,7 +1085,7 @@ whole_reach job is =
 
 -- bytes that begin with the text of a job are read as that job, and those behind it are left
 pub job_read : (job : Job) → IsJob job → (rest : List ℕ) → read start 1 (job_text job ++ rest)
-    ≡ Ok (front_with job (1 + length (job_lines job)) rest)
+    ≡ Ok (prefix_with job (1 + length (job_lines job)) rest)
 job_read job is rest =
     reach_read (job_lines job) start (record { place = Over; job = job }) 1 rest (whole_reach job is)
     ∙ over_read job (1 + length (job_lines job)) rest

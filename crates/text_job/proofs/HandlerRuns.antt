@@ -9,7 +9,7 @@ use Rattle.text_job.specs.JobReading.{has_thread, has_index, is_reserved, most_b
 use Rattle.text_job.specs.JobReading.{handler_why}
 use Rattle.text_job.specs.JobReading.{section_why}
 use Rattle.text_job.specs.JobReading.{behind_scripts, behind_section}
-use Rattle.text_job.specs.JobReading.{is_schedule, BadLine, amounts_of, with_event, is_full, admitted}
+use Rattle.text_job.specs.JobReading.{is_schedule, BadLine, amounts_of, with_event, is_full, amounts_with}
 use Rattle.text_job.specs.JobReading.{total_rounds}
 use Rattle.text_job.specs.JobReading.{rounds_of, is_full_script}
 use Rattle.text_job.specs.PlanPieces.{event_pieces, schedule_pieces}
@@ -105,11 +105,11 @@ kept_out_by : (b : Bool) (a : Amounts) → ◌≡◌ {A = Option Amounts} (cond 
 kept_out_by true a h = refl
 kept_out_by false a h = absurd (cc)
 
-pub let_in : (nodes : ℕ) (so_far : Amounts) (e : ScheduledEvent) (v : Amounts) → admitted nodes so_far e ≡ Some v →
+pub let_in : (nodes : ℕ) (so_far : Amounts) (e : ScheduledEvent) (v : Amounts) → amounts_with nodes so_far e ≡ Some v →
     (is_full nodes so_far e ≡ false) × (with_event so_far e ≡ v)
 let_in nodes so_far e v h = let_in_by (is_full nodes so_far e) (with_event so_far e) v h
 
-pub kept_out : (nodes : ℕ) (so_far : Amounts) (e : ScheduledEvent) → admitted nodes so_far e ≡ None
+pub kept_out : (nodes : ℕ) (so_far : Amounts) (e : ScheduledEvent) → amounts_with nodes so_far e ≡ None
     → is_full nodes so_far e ≡ true
 kept_out nodes so_far e h = kept_out_by (is_full nodes so_far e) (with_event so_far e) h
 

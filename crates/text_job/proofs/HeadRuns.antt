@@ -3,52 +3,52 @@ use Rattle.std.proofs.Common.{◌≡◌, ℕ, ◌+◌, List, [], ◌∷◌, Opti
 use Rattle.std.proofs.Common.{cond, refl, ap, sym, ◌∙◌}
 use Rattle.text_job.specs.Scopes.{scope_of}
 use Rattle.text_calls.specs.declared.scope.Scope.{Scope}
-use Rattle.base_text.specs.Lines.{front, back, ended}
+use Rattle.base_text.specs.Lines.{prefix, back, after_newline}
 use Rattle.base_text.specs.Lines as options
-use Rattle.text_calls.specs.Forms.{none_at, named_at, passed}
+use Rattle.text_calls.specs.Forms.{none_at, named_at, if_passes}
 use Rattle.text_job.specs.Places.{Setting, Version, Nodes, Credits, Threads, Segment, Last, Resend, Patience}
 use Rattle.text_job.specs.Places as places
 use Rattle.text_job.specs.Places.{AtSetting, AtSieve, AtPairs, setting_fits}
 use Rattle.text_job.specs.Places.{setting_row, item_form}
-use Rattle.text_job.specs.JobReading.{BadLine, Front, start, least_job, line_at, with_number, behind_setting}
+use Rattle.text_job.specs.JobReading.{BadLine, Prefix, start, least_job, line_at, with_number, behind_setting}
 use Rattle.text_job.specs.JobReading.{read}
 use Rattle.base_text.specs.Chains.{◌>>=◌}
-use Rattle.text_job.specs.HeadReading.{told, number_line, fitting_line, number_why, number_from}
+use Rattle.text_job.specs.HeadReading.{found_in_line, number_line, fitting_line, number_why, number_from}
 use Rattle.text_job.specs.HeadReading.{setting_form}
 use Rattle.text_job.specs.HeadReading.{sieve_line, sieve_why, head_at}
 use Rattle.text_job.specs.declared.job.Job.{Job}
 use Rattle.text_job.specs.declared.job.SieveRule.{SieveRule}
-use Rattle.base_text.proofs.Fronts.{cond_yes, cond_no}
+use Rattle.base_text.proofs.Prefixes.{cond_yes, cond_no}
 use Rattle.text_job.proofs.LineRuns.{read_on, line_bad}
 
 -- what passes a test before the end of the line passes it behind it
 yes : {A : Type 0} (test : A → Bool) (a : A) (o : Option (List ℕ)) → test a ≡ true → ◌≡◌ {A = Option (A × List ℕ)}
     (options.◌>>=◌ o (λ r. Some (a, r))) (options.◌>>=◌ {B = A × List ℕ} (options.◌>>=◌ {B = A × List ℕ} o
-    (λ r. Some (a, r))) (passed test))
+    (λ r. Some (a, r))) (if_passes test))
 yes test a None e = refl
 yes test a (Some r) e = sym (cond_yes (test a) (Some (a, r)) None e)
 
 no : {A : Type 0} (test : A → Bool) (a : A) (o : Option (List ℕ)) → test a ≡ false
     → ◌≡◌ {A = Option (A × List ℕ)} None (options.◌>>=◌ {B = A × List ℕ} (options.◌>>=◌ {B = A × List ℕ} o
-    (λ r. Some (a, r))) (passed test))
+    (λ r. Some (a, r))) (if_passes test))
 no test a None e = refl
 no test a (Some r) e = sym (cond_no (test a) (Some (a, r)) None e)
 
 -- the end of a line
 abbrev pub to_end : {A : Type 0} → A × List ℕ → Option (A × List ℕ)
-to_end x = options.◌>>=◌ (ended x.1) (λ r. Some (x.0, r))
+to_end x = options.◌>>=◌ (after_newline x.1) (λ r. Some (x.0, r))
 
 tested_by : {A : Type 0} (test : A → Bool) (x : A × List ℕ) (t : Bool) → test x.0 ≡ t → ◌≡◌ {A = Option (A × List ℕ)}
-    (options.◌>>=◌ {B = A × List ℕ} (passed test x) to_end) (options.◌>>=◌ {B = A × List ℕ} (to_end x) (passed test))
+    (options.◌>>=◌ {B = A × List ℕ} (if_passes test x) to_end) (options.◌>>=◌ {B = A × List ℕ} (to_end x) (if_passes test))
 tested_by {A} test x true e = ap (λ (b : Bool). options.◌>>=◌ {A = A × List ℕ} {B = A × List ℕ} (cond b
-    (Some x) None) to_end) e ∙ yes test x.0 (ended x.1) e
+    (Some x) None) to_end) e ∙ yes test x.0 (after_newline x.1) e
 tested_by {A} test x false e = ap (λ (b : Bool). options.◌>>=◌ {A = A × List ℕ} {B = A × List ℕ} (cond b
-    (Some x) None) to_end) e ∙ no test x.0 (ended x.1) e
+    (Some x) None) to_end) e ∙ no test x.0 (after_newline x.1) e
 
 tested_of : {A : Type 0} (test : A → Bool) (o : Option (A × List ℕ)) → ◌≡◌ {A = Option (A × List ℕ)}
-    (options.◌>>=◌ {B = A × List ℕ} (options.◌>>=◌ {B = A × List ℕ} o (passed test)) to_end)
+    (options.◌>>=◌ {B = A × List ℕ} (options.◌>>=◌ {B = A × List ℕ} o (if_passes test)) to_end)
     (options.◌>>=◌ {B = A × List ℕ} (options.◌>>=◌ {B = A × List ℕ} (options.◌>>=◌ {B = A × List ℕ} o
-    (passed (λ a. true))) to_end) (passed test))
+    (if_passes (λ a. true))) to_end) (if_passes test))
 tested_of test None = refl
 tested_of test (Some x) = tested_by test x (test x.0) refl
 
@@ -57,7 +57,7 @@ tested : (setting : Setting) (scope : Scope) (bytes : List ℕ) → line_at (AtS
     ≡ fitting_line (setting_form setting scope.settings) bytes
 unfolding fitting_line number_line
 tested setting scope bytes = tested_of (setting_fits setting scope.settings) (named_at none_at
-    (setting_row setting ∷ []) (front bytes) (back bytes))
+    (setting_row setting ∷ []) (prefix bytes) (back bytes))
 
 -- a line is read by its setting, and the others from there on
 abbrev pub StepsOn : Setting → Job → (line : ℕ) → List ℕ → Type 0
@@ -84,7 +84,7 @@ steps_on setting job line bytes = steps_by setting job line bytes (line_at (AtSe
 sieve_by : (job : Job) (line : ℕ) (bytes : List ℕ) (o : Option (SieveRule × List ℕ))
     → line_at AtSieve (scope_of job) bytes ≡ o
     → read (record { place = AtSieve; job = job }) line bytes ≡
-    (told line (sieve_why bytes) (sieve_line bytes) >>= λ x. read
+    (found_in_line line (sieve_why bytes) (sieve_line bytes) >>= λ x. read
     (record { place = AtPairs; job = record job { sieve = x.0 } }) (line + 1) x.1)
 unfolding sieve_line sieve_why
 sieve_by job line bytes None e = line_bad AtSieve tt job line bytes e ∙ rw e refl
@@ -98,7 +98,7 @@ then_on (Ok x) f k g h = h x
 then_on (Err e) f k g h = refl
 
 -- the pairs come behind the head
-abbrev pub pairs_on : Job × List ℕ → Result Front BadLine
+abbrev pub pairs_on : Job × List ℕ → Result Prefix BadLine
 pairs_on x = read (record { place = AtPairs; job = x.0 }) 11 x.1
 
 pub head_reads : (bytes : List ℕ) → read start 1 bytes ≡ (head_at bytes >>= pairs_on)
@@ -123,5 +123,5 @@ head_reads bytes =
     steps_on Patience eight 9 resend.1 ∙ then_on _ _ pairs_on _ (λ patience.
     let nine = with_number Patience patience.0 eight in
     sieve_by nine 10 patience.1 (line_at AtSieve (scope_of nine) patience.1) refl
-    ∙ then_on {A = SieveRule × List ℕ} (told 10 (sieve_why patience.1) (sieve_line patience.1)) (λ x. Ok
+    ∙ then_on {A = SieveRule × List ℕ} (found_in_line 10 (sieve_why patience.1) (sieve_line patience.1)) (λ x. Ok
     (record nine { sieve = x.0 }, x.1)) pairs_on _ (λ rule. refl))))))))))

@@ -4,18 +4,18 @@ use Rattle.std.proofs.Common.{refl, ap, sym, ◌∙◌}
 use Rattle.text_job.specs.Scopes.{scope_of}
 use Rattle.text_calls.specs.declared.scope.Scope.{Scope}
 use Rattle.base_text.specs.Reasons.{reason}
-use Rattle.text_job.specs.HeadReading.{told}
+use Rattle.text_job.specs.HeadReading.{found_in_line}
 use Rattle.text_job.specs.Places.{AtAtomics, AtCollect}
 use Rattle.text_job.specs.Places.{Place, AtSetting, AtSieve, AtPairs, AtHandlers, AtBody, AtScripts, AtSteps}
 use Rattle.text_job.specs.Places.{AtSchedule, AtDone, Over, Item, item_form, item_text, IsItem}
-use Rattle.text_job.specs.JobReading.{State, BadLine, front_with, line_at, next, step, from_later_lines}
+use Rattle.text_job.specs.JobReading.{State, BadLine, prefix_with, line_at, next, step, from_later_lines}
 use Rattle.text_job.specs.JobReading.{from_lines, over_or, read_lines, read}
 use Rattle.text_job.specs.Reading.{FailsAt}
 use Rattle.text_job.specs.declared.fault.JobFault.{JobFault}
 use Rattle.text_job.specs.declared.fault.JobFault.TheVariants as faults
 use Rattle.base_text.specs.declared.why.LineWhy.{LineWhy}
 use Rattle.text_job.specs.declared.job.Job.{Job}
-use Rattle.base_text.proofs.Fronts.{cond_no}
+use Rattle.base_text.proofs.Prefixes.{cond_no}
 use Rattle.base_text.proofs.Takes.{Takes, takes_some, takes_then}
 use Rattle.text_calls.proofs.FormLaws.{IsFlat}
 use Rattle.base_text.proofs.Seams.{ended_takes}
@@ -148,26 +148,26 @@ line_bad place open_ job line (b ∷ bytes) h = goes_on place _ _ open_ ∙ rw h
 
 -- no line is to come
 pub over_read : (job : Job) (line : ℕ) (bytes : List ℕ) → read (record { place = Over; job = job }) line bytes ≡ Ok
-    (front_with job line bytes)
+    (prefix_with job line bytes)
 unfolding read read_lines from_lines
 over_read job line [] = refl
 over_read job line (b ∷ bytes) = refl
 
 -- ---- what is told of a line
 
-pub told_ok : {A : Type 0} (line : ℕ) (why : LineWhy) (found : Option A) (x : A) → told line why found ≡ Ok x → found
+pub told_ok : {A : Type 0} (line : ℕ) (why : LineWhy) (found : Option A) (x : A) → found_in_line line why found ≡ Ok x → found
     ≡ Some x
 told_ok line why None x h = absurd (cc)
 told_ok line why (Some y) x h = cc
 
-told_err : {A : Type 0} (line : ℕ) (why : LineWhy) (found : Option A) (bad : BadLine) → told line why found ≡ Err bad →
+told_err : {A : Type 0} (line : ℕ) (why : LineWhy) (found : Option A) (bad : BadLine) → found_in_line line why found ≡ Err bad →
     (found ≡ None) × (record { line = line; why = why } ≡ bad)
 told_err line why None bad h = (refl, cc)
 told_err line why (Some y) bad h = absurd (cc)
 
 -- a line that fails is the first bad one
 pub line_fails : (place : Place) (open_ : IsOpen place) (job : Job) (line : ℕ) (bytes : List ℕ) (fault : JobFault)
-    → FailsAt fault (told line (reason (item_form place (scope_of job)) bytes) (line_at place (scope_of job) bytes))
+    → FailsAt fault (found_in_line line (reason (item_form place (scope_of job)) bytes) (line_at place (scope_of job) bytes))
     → FailsAt fault (read (record { place = place; job = job }) line bytes)
 line_fails place open_ job line bytes faults.NoMemory h = tt
 line_fails place open_ job line bytes (faults.Bad at why) h =

@@ -11,25 +11,25 @@ use Rattle.text_job.specs.Places.{AtAtomics, AtCollect, AtSchedule, AtDone, Over
 use Rattle.text_job.specs.Scopes.{scope_of}
 use Rattle.text_job.specs.Places.{Named, Other, Item, item_text, item_form, HandlerItem, CollectItem}
 use Rattle.text_job.specs.Places.{AtomicsItem, PairItem}
-use Rattle.text_job.specs.JobReading.{State, BadLine, Front, start, line_at, why_at, next, onward}
-use Rattle.text_job.specs.JobReading.{stepped}
-use Rattle.text_job.specs.JobReading.{step, unless, opened, headed, paired, has_index, has_pair, has_thread}
+use Rattle.text_job.specs.JobReading.{State, BadLine, Prefix, start, line_at, why_at, next, onward}
+use Rattle.text_job.specs.JobReading.{after_item}
+use Rattle.text_job.specs.JobReading.{step, unless, after_section, after_handler_line, after_pair, has_index, has_pair, has_thread}
 use Rattle.text_job.specs.JobReading.{handler_why, section_why, pair_why, action_why, step_why, line_why}
 use Rattle.text_job.specs.JobReading.{is_full}
-use Rattle.text_job.specs.JobReading.{amounts_of, is_full_script, lines_of, front_with, of_front, alone}
-use Rattle.text_job.specs.JobReading.{sized, read}
+use Rattle.text_job.specs.JobReading.{amounts_of, is_full_script, lines_of, prefix_with, of_prefix, alone}
+use Rattle.text_job.specs.JobReading.{within_size, read}
 use Rattle.text_job.specs.JobReading.{job_of}
 use Rattle.text_job.specs.PlanPieces.{scripts_pieces}
 use Rattle.text_job.specs.StepPieces.{steps_pieces}
-use Rattle.text_job.specs.JobReading.{front_of, collected, served, is_reserved, most_handlers}
+use Rattle.text_job.specs.JobReading.{prefix_of, after_collect, after_atomics, is_reserved, most_handlers}
 use Rattle.text_job.specs.JobText.{spell, job_lines, job_text, IsJob, JobText, BeginsWith}
 use Rattle.text_job.specs.Reading.{GivesAt}
-use Rattle.text_job.specs.Refusals.{first_lines, after_lines, IsNoFront, Before, so_far, completed, IsWrong}
+use Rattle.text_job.specs.Refusals.{first_lines, after_lines, IsNoPrefix, Before, so_far, completed_job, IsWrong}
 use Rattle.text_job.specs.Refusals.{Means}
 use Rattle.text_job.specs.Refusals.{Says, IsTaken, IsFull, HasNoText, HasNoForm, HasBadValue, IsRepeated}
 use Rattle.text_job.specs.Refusals.{IsTooMany}
-use Rattle.text_job.specs.Refusals.{IsAtFault, NoneGoesOn, IsMeant, IsNoMemory, IsTooLong, FrontMeans}
-use Rattle.text_job.specs.Refusals.{IsFrontMeant}
+use Rattle.text_job.specs.Refusals.{IsAtFault, NoneGoesOn, IsMeant, IsNoMemory, IsTooLong, PrefixMeans}
+use Rattle.text_job.specs.Refusals.{IsPrefixMeant}
 use Rattle.text_job.specs.declared.fault.JobFault.{JobFault}
 use Rattle.text_job.specs.declared.fault.JobFault.TheVariants as faults
 use Rattle.base_text.specs.declared.why.LineWhy.{LineWhy}
@@ -39,7 +39,7 @@ use Rattle.text_job.specs.declared.job.Job.{Job}
 use Rattle.text_job.specs.declared.sections.HandlerHeader.{HandlerHeader}
 use Rattle.text_job.specs.declared.sections.Section.{Section}
 use Rattle.text_job.specs.declared.sections.Section.TheVariants as section
-use Rattle.base_text.proofs.Fronts.{cond_yes, cond_no}
+use Rattle.base_text.proofs.Prefixes.{cond_yes, cond_no}
 use Rattle.text_calls.proofs.FormLaws.{IsFlat}
 use Rattle.text_job.proofs.JobRuns.{is_sized}
 use Rattle.text_job.proofs.PlaceLaws.{place_exact}
@@ -48,8 +48,8 @@ use Rattle.text_job.proofs.JobLaws.{sound_job}
 use Rattle.text_job.proofs.States.{IsState, unread, sound_completed}
 use Rattle.text_job.proofs.Walks.{step_of, step_keeps, Walks, EndsAs, Ends, Fails, IsOver, read_outcome}
 use Rattle.text_job.proofs.Refusing.{first_flat, first_none, first_spelled, after_spelled, IsWalk, walk_of}
-use Rattle.text_job.proofs.Refusing.{walk_front}
-use Rattle.text_job.proofs.Refusing.{front_same, read_text, rest_size, walk_lines}
+use Rattle.text_job.proofs.Refusing.{walk_prefix}
+use Rattle.text_job.proofs.Refusing.{prefix_same, read_text, rest_size, walk_lines}
 use Rattle.text_job.proofs.Standing.{not_over, walk_reached}
 use Rattle.text_job.proofs.Completeness.{job_read}
 use Rattle.text_job.specs.declared.reading.TheConstants.{MAX_JOB_BYTES}
@@ -182,7 +182,7 @@ entry_by : (t : Bool) (why : LineWhy) → cond t (Some Entry) None ≡ Some why 
 entry_by true why h = (cc, refl)
 entry_by false why h = absurd (cc)
 
-opened_kind : (job : Job) (s : Section) (why : LineWhy) → opened job s ≡ Err why → IsCounted AtScripts job s why
+opened_kind : (job : Job) (s : Section) (why : LineWhy) → after_section job s ≡ Err why → IsCounted AtScripts job s why
 opened_kind job (section.Script node thread) why h =
     inl (entry_by (has_thread job.scripts node thread) why
     (unless_err (section_why job.scripts (section.Script node thread)) _ why h))
@@ -195,7 +195,7 @@ from_scripts : (job : Job) (s : Section) (why : LineWhy) → IsCounted AtScripts
 from_scripts job s why (inl taken) = inl taken
 from_scripts job s why (inr full) = absurd full.2
 
-headed_kind : (job : Job) (item : HandlerItem) (why : LineWhy) → headed job item ≡ Err why
+headed_kind : (job : Job) (item : HandlerItem) (why : LineWhy) → after_handler_line job item ≡ Err why
     → IsCounted AtHandlers job item why
 headed_kind job (Named header) why h =
     let most = most_handlers (scope_of job) in
@@ -204,17 +204,17 @@ headed_kind job (Named header) why h =
     (λ t. t) (λ u. (u.0, u.1, leb-true most (length job.handlers) u.2))
 headed_kind job (Other s) why h = from_scripts job s why (opened_kind job s why h)
 
-collected_kind : (job : Job) (item : CollectItem) (why : LineWhy) → collected job item ≡ Err why
+collected_kind : (job : Job) (item : CollectItem) (why : LineWhy) → after_collect job item ≡ Err why
     → IsCounted AtCollect job item why
 collected_kind job (Named area) why h = absurd (cc)
 collected_kind job (Other item) why h = headed_kind job item why h
 
-served_kind : (job : Job) (item : AtomicsItem) (why : LineWhy) → served job item ≡ Err why
+served_kind : (job : Job) (item : AtomicsItem) (why : LineWhy) → after_atomics job item ≡ Err why
     → IsCounted AtAtomics job item why
 served_kind job (Named line) why h = absurd (cc)
 served_kind job (Other item) why h = collected_kind job item why h
 
-paired_kind : (job : Job) (item : PairItem) (why : LineWhy) → paired job item ≡ Err why → IsCounted AtPairs job item why
+paired_kind : (job : Job) (item : PairItem) (why : LineWhy) → after_pair job item ≡ Err why → IsCounted AtPairs job item why
 paired_kind job (Named pair) why h =
     either (two_by (has_pair job.settings.pairs pair) (leb 64 (length job.settings.pairs)) why
     (unless_err (pair_why job.settings.pairs pair) _ why h)) (λ t. t) (λ u.
@@ -264,7 +264,7 @@ onward_err rest (Err w) why h = cc
 
 kind_by : (state : State) (rest : List ℕ) (why : LineWhy) (o : Option (Item state.place × List ℕ))
     → line_at state.place (scope_of state.job) rest ≡ o → state.place ≢ Over → (rest ≡ [] → ⊥)
-    → stepped state.place state.job (why_at state.place (scope_of state.job) rest) o ≡ Err why
+    → after_item state.place state.job (why_at state.place (scope_of state.job) rest) o ≡ Err why
     → Kind state.place state.job rest why
 kind_by state rest why None e open_ some h = reason_kind state.place state.job rest why open_ some e (cc)
 kind_by state rest why (Some y) e open_ some h =
@@ -290,14 +290,14 @@ err_ok : {A B : Type 0} {a : A} {b : B} {r : Result A B} → r ≡ Err b → r �
 err_ok h k = cc
 
 -- what is read of lines that go on has a first step
-step_some : (count : ℕ) (state : State) (line : ℕ) (bytes : List ℕ) (end : State) (rest : List ℕ) (front : Front)
-    (result : Result Front BadLine) → IsOpen state.place → Walks count state bytes end rest
-    → EndsAs end rest line result → result ≡ Ok front → (to : State × List ℕ) × (step state bytes ≡ Ok to)
-step_some zero state line bytes end rest front result open_ w (Ends o e r) h = absurd (err_ok r h)
-step_some zero state line bytes end rest front result open_ w (Fails why o s f r) h = absurd (err_ok r h)
-step_some zero state line bytes end rest front result open_ w (IsOver over r) h =
+step_some : (count : ℕ) (state : State) (line : ℕ) (bytes : List ℕ) (end : State) (rest : List ℕ) (prefix : Prefix)
+    (result : Result Prefix BadLine) → IsOpen state.place → Walks count state bytes end rest
+    → EndsAs end rest line result → result ≡ Ok prefix → (to : State × List ℕ) × (step state bytes ≡ Ok to)
+step_some zero state line bytes end rest prefix result open_ w (Ends o e r) h = absurd (err_ok r h)
+step_some zero state line bytes end rest prefix result open_ w (Fails why o s f r) h = absurd (err_ok r h)
+step_some zero state line bytes end rest prefix result open_ w (IsOver over r) h =
     absurd (subst IsOpen (ap (λ (s : State). s.place) w.0 ∙ over) open_)
-step_some (suc count) state line bytes end rest front result open_ w ends h = ((w.to, w.rest), w.is)
+step_some (suc count) state line bytes end rest prefix result open_ w ends h = ((w.to, w.rest), w.is)
 
 -- lines that end at the same place
 flat_same : (a b x y : List ℕ) → IsFlat a → IsFlat b → a ++ 10 ∷ x ≡ b ++ 10 ∷ y → a ≡ b
@@ -317,12 +317,12 @@ flat_same (c ∷ a) (d ∷ b) x y h k e = cons_same c d a b (cc) (flat_same a b 
 
 -- a whole line that isn't read
 wrong_line : (state : State) (number : ℕ) (rest : List ℕ) (why : LineWhy) (w : IsWhole rest) (more : List ℕ)
-    (front : Front) → IsOpen state.place → IsState state.place state.job → step state rest ≡ Err why
-    → read state number (w.line ++ 10 ∷ more) ≡ Ok front → ⊥
-wrong_line state number rest why w more front open_ is f h =
+    (prefix : Prefix) → IsOpen state.place → IsState state.place state.job → step state rest ≡ Err why
+    → read state number (w.line ++ 10 ∷ more) ≡ Ok prefix → ⊥
+wrong_line state number rest why w more prefix open_ is f h =
     let bytes = w.line ++ 10 ∷ more in
     let o = read_outcome state number bytes in
-    let s = step_some o.count state (number + o.count) bytes o.end o.rest front
+    let s = step_some o.count state (number + o.count) bytes o.end o.rest prefix
     (read state number bytes) open_ o.walks o.ends h in
     let one = step_keeps state bytes s.0.0 s.0.1 is (step_of state bytes s.0 s.1) in
     let same : w.line ≡ one.line = flat_same w.line one.line more s.0.1 w.flat one.flat one.text in
@@ -334,15 +334,15 @@ first_some (b ∷ rest) some h = absurd (omega arith)
 
 -- a byte behind the end
 wrong_byte : (state : State) (number : ℕ) (bytes : List ℕ) (job : Job) (line : ℕ) → state.place ≡ Over
-    → (length bytes ≡ 0 → ⊥) → read state number bytes ≡ Ok (front_with job line []) → ⊥
+    → (length bytes ≡ 0 → ⊥) → read state number bytes ≡ Ok (prefix_with job line []) → ⊥
 wrong_byte state number bytes job line over some h =
-    some (ap (λ (f : Front). length f.rest) (front_same (sym (ap
+    some (ap (λ (f : Prefix). length f.rest) (prefix_same (sym (ap
     (λ (p : Place). read (record { place = p; job = state.job }) number bytes) over
     ∙ over_read state.job number bytes) ∙ h)))
 
-front_first : (count : ℕ) (bytes : List ℕ) (end : State) (rest : List ℕ) (w : IsWalk count bytes end rest)
+prefix_first : (count : ℕ) (bytes : List ℕ) (end : State) (rest : List ℕ) (w : IsWalk count bytes end rest)
     → first_lines (count + 1) bytes ≡ spell w.walked.between ++ first_lines 1 rest
-front_first count bytes end rest w =
+prefix_first count bytes end rest w =
     let k = w.walked in
     ap (first_lines (count + 1)) k.text ∙ ap (λ (n : ℕ). first_lines (n + 1) (spell k.between ++ rest)) (sym k.many)
     ∙ first_spelled k.between rest 1 k.flat
@@ -350,12 +350,12 @@ front_first count bytes end rest w =
 -- what a job's text would be read as behind the walk
 read_behind : (count : ℕ) (bytes : List ℕ) (end : State) (rest : List ℕ) (w : IsWalk count bytes end rest)
     (job : Job) (more : List ℕ) → IsJob job → job_text job ≡ first_lines (count + 1) bytes ++ more → read end
-    (1 + count) (first_lines 1 rest ++ more) ≡ Ok (front_with job (1 + length (job_lines job)) [])
+    (1 + count) (first_lines 1 rest ++ more) ≡ Ok (prefix_with job (1 + length (job_lines job)) [])
 read_behind count bytes end rest w job more is e =
     let k = w.walked in
     let x = first_lines 1 rest ++ more in
     let text : job_text job ≡ spell k.between ++ x = e ∙ ap (λ (f : List ℕ). f ++ more)
-    (front_first count bytes end rest w) ∙ append_assoc (spell k.between) (first_lines 1 rest) more in
+    (prefix_first count bytes end rest w) ∙ append_assoc (spell k.between) (first_lines 1 rest) more in
     sym (walk_read count start 1 (spell k.between ++ x) end x (k.again x)) ∙ ap (read start 1) (sym text)
     ∙ ap (read start 1) (sym (append-nil (job_text job))) ∙ job_read job is []
 
@@ -363,22 +363,22 @@ length_join : (a b : List ℕ) → (length a ≡ 0 → ⊥) → length (a ++ b) 
 length_join [] b some h = some refl
 length_join (x ∷ a) b some h = absurd (omega arith)
 
-no_front_over : (count : ℕ) (bytes : List ℕ) (end : State) (rest : List ℕ) → IsWalk count bytes end rest → end.place
-    ≡ Over → (rest ≡ [] → ⊥) → IsNoFront (first_lines (count + 1) bytes)
-no_front_over count bytes end rest w over some job more is e =
+no_prefix_over : (count : ℕ) (bytes : List ℕ) (end : State) (rest : List ℕ) → IsWalk count bytes end rest → end.place
+    ≡ Over → (rest ≡ [] → ⊥) → IsNoPrefix (first_lines (count + 1) bytes)
+no_prefix_over count bytes end rest w over some job more is e =
     wrong_byte end (1 + count) (first_lines 1 rest ++ more) job (1 + length (job_lines job)) over
     (length_join (first_lines 1 rest) more (first_some rest some)) (read_behind count bytes end rest w job more is e)
 
-no_front_line : (count : ℕ) (bytes : List ℕ) (end : State) (rest : List ℕ) → IsWalk count bytes end rest →
+no_prefix_line : (count : ℕ) (bytes : List ℕ) (end : State) (rest : List ℕ) → IsWalk count bytes end rest →
     (why : LineWhy) → IsOpen end.place → step end rest ≡ Err why → IsWhole rest
-    → IsNoFront (first_lines (count + 1) bytes)
-no_front_line count bytes end rest w why open_ f whole job more is e =
+    → IsNoPrefix (first_lines (count + 1) bytes)
+no_prefix_line count bytes end rest w why open_ f whole job more is e =
     let first : first_lines 1 rest ≡ whole.line ++ 10 ∷ [] = ap (first_lines 1) whole.text
     ∙ first_flat whole.line whole.more 0 whole.flat ∙ ap (λ (r : List ℕ). whole.line ++ 10 ∷ r)
     (first_none whole.more) in
     let text : first_lines 1 rest ++ more ≡ whole.line ++ 10 ∷ more = ap (λ (x : List ℕ). x ++ more) first
     ∙ append_assoc whole.line (10 ∷ []) more in
-    wrong_line end (1 + count) rest why whole more (front_with job (1 + length (job_lines job)) []) open_ w.walked.is f
+    wrong_line end (1 + count) rest why whole more (prefix_with job (1 + length (job_lines job)) []) open_ w.walked.is f
     (ap (read end (1 + count)) (sym text) ∙ read_behind count bytes end rest w job more is e)
 
 -- ---- each reason
@@ -401,7 +401,7 @@ before_of count line bytes end rest w walks e =
     record {
       place = end.place;
       job = end.job;
-      is = sound_job (completed end.place end.job) (sound_completed end.place end.job k.is);
+      is = sound_job (completed_job end.place end.job) (sound_completed end.place end.job k.is);
       unread = unread end.place end.job k.is;
       reached = walk_reached count start bytes end rest tt walks;
       count = omega (arith, e, many);
@@ -420,7 +420,7 @@ wrong count line bytes end rest why walks e none fault =
       before = before_of count line bytes end rest w walks e;
       fault = subst (λ (r : List ℕ). IsAtFault why end.place end.job r) (sym
           (after_of count line bytes end rest w e)) fault;
-      front = walk_front count bytes end rest w (first_lines (line - 1) bytes) (ap (λ (n : ℕ). first_lines n bytes)
+      prefix = walk_prefix count bytes end rest w (first_lines (line - 1) bytes) (ap (λ (n : ℕ). first_lines n bytes)
           (omega (arith, e)));
       none = subst (λ (n : ℕ). NoneGoesOn why (first_lines n bytes)) (omega (arith, e)) none;
     }
@@ -428,11 +428,11 @@ wrong count line bytes end rest why walks e none fault =
 -- a whole line that isn't read
 wrong_found : (found : LineWhy) (count line : ℕ) (bytes : List ℕ) (end : State) (rest : List ℕ) (why : LineWhy)
     → Walks count start bytes end rest → line ≡ 1 + count → IsOpen end.place → step end rest ≡ Err why → IsWhole rest
-    → why ≡ found → (IsNoFront (first_lines (count + 1) bytes) → NoneGoesOn found (first_lines (count + 1) bytes))
+    → why ≡ found → (IsNoPrefix (first_lines (count + 1) bytes) → NoneGoesOn found (first_lines (count + 1) bytes))
     → IsAtFault why end.place end.job rest → IsWrong bytes line found
 wrong_found found count line bytes end rest why walks e open_ f whole is none fault =
     wrong count line bytes end rest found walks e
-    (none (no_front_line count bytes end rest (walk_of count bytes end rest walks) why open_ f whole))
+    (none (no_prefix_line count bytes end rest (walk_of count bytes end rest walks) why open_ f whole))
     (subst (λ (x : LineWhy). IsAtFault x end.place end.job rest) is fault)
 
 -- what a refusal within a job's lines means
@@ -465,7 +465,7 @@ bad_same : {A : Type 0} {bad found : BadLine} → ◌≡◌ {A = Result A BadLin
 bad_same h = cc
 
 ends_mean : (bytes : List ℕ) (found : BadLine) (count : ℕ) (end : State) (rest : List ℕ)
-    (result : Result Front BadLine) → Walks count start bytes end rest → EndsAs end rest (1 + count) result → result
+    (result : Result Prefix BadLine) → Walks count start bytes end rest → EndsAs end rest (1 + count) result → result
     ≡ Err found → IsLineWrong bytes found.line found.why
 ends_mean bytes found count end rest result w (Ends open_ none r) h =
     subst (λ (b : BadLine). IsLineWrong bytes b.line b.why) (bad_same (sym r ∙ h))
@@ -494,48 +494,48 @@ line_means bytes line Entry few h = (h, few)
 line_means bytes line Count few h = (h, few)
 line_means bytes line After few h = absurd h
 
-line_front_means : (bytes : List ℕ) (line : ℕ) (why : LineWhy) → IsLineWrong bytes line why → FrontMeans bytes line why
-line_front_means bytes line Size h = absurd h
-line_front_means bytes line Early h = h
-line_front_means bytes line Text h = h
-line_front_means bytes line Form h = h
-line_front_means bytes line BadValue h = h
-line_front_means bytes line Entry h = h
-line_front_means bytes line Count h = h
-line_front_means bytes line After h = absurd h
+line_prefix_means : (bytes : List ℕ) (line : ℕ) (why : LineWhy) → IsLineWrong bytes line why → PrefixMeans bytes line why
+line_prefix_means bytes line Size h = absurd h
+line_prefix_means bytes line Early h = h
+line_prefix_means bytes line Text h = h
+line_prefix_means bytes line Form h = h
+line_prefix_means bytes line BadValue h = h
+line_prefix_means bytes line Entry h = h
+line_prefix_means bytes line Count h = h
+line_prefix_means bytes line After h = absurd h
 
 -- ---- bytes behind a job
 
-ends_after : (bytes : List ℕ) (front : Front) (count : ℕ) (end : State) (rest : List ℕ)
-    (result : Result Front BadLine) → Walks count start bytes end rest → EndsAs end rest (1 + count) result → result
-    ≡ Ok front → (length front.rest ≡ 0 → ⊥) → IsWrong bytes front.line After
-ends_after bytes front count end rest result w (Ends open_ none r) h some = absurd (err_ok r h)
-ends_after bytes front count end rest result w (Fails why open_ s f r) h some = absurd (err_ok r h)
-ends_after bytes front count end rest result w (IsOver over r) h some =
-    let same : front_with end.job (1 + count) rest ≡ front = front_same (sym r ∙ h) in
-    let bytes_behind : rest ≡ [] → ⊥ = λ e. some (ap (λ (f : Front). length f.rest) (sym same) ∙ ap length e) in
-    subst (λ (f : Front). IsWrong bytes f.line After) same
+ends_after : (bytes : List ℕ) (prefix : Prefix) (count : ℕ) (end : State) (rest : List ℕ)
+    (result : Result Prefix BadLine) → Walks count start bytes end rest → EndsAs end rest (1 + count) result → result
+    ≡ Ok prefix → (length prefix.rest ≡ 0 → ⊥) → IsWrong bytes prefix.line After
+ends_after bytes prefix count end rest result w (Ends open_ none r) h some = absurd (err_ok r h)
+ends_after bytes prefix count end rest result w (Fails why open_ s f r) h some = absurd (err_ok r h)
+ends_after bytes prefix count end rest result w (IsOver over r) h some =
+    let same : prefix_with end.job (1 + count) rest ≡ prefix = prefix_same (sym r ∙ h) in
+    let bytes_behind : rest ≡ [] → ⊥ = λ e. some (ap (λ (f : Prefix). length f.rest) (sym same) ∙ ap length e) in
+    subst (λ (f : Prefix). IsWrong bytes f.line After) same
     (wrong count (1 + count) bytes end rest After w refl
-    (no_front_over count bytes end rest (walk_of count bytes end rest w) over bytes_behind) (over, bytes_behind))
+    (no_prefix_over count bytes end rest (walk_of count bytes end rest w) over bytes_behind) (over, bytes_behind))
 
-after_by : (bytes : List ℕ) (front : Front) (found : BadLine) (t : Bool) → eqb (length front.rest) 0 ≡ t
-    → read start 1 bytes ≡ Ok front → ◌≡◌ {A = Result Job BadLine}
-    (cond t (Ok front.job) (Err (record { line = front.line; why = After }))) (Err found)
+after_by : (bytes : List ℕ) (prefix : Prefix) (found : BadLine) (t : Bool) → eqb (length prefix.rest) 0 ≡ t
+    → read start 1 bytes ≡ Ok prefix → ◌≡◌ {A = Result Job BadLine}
+    (cond t (Ok prefix.job) (Err (record { line = prefix.line; why = After }))) (Err found)
     → length bytes ≤ MAX_JOB_BYTES → Means bytes found.line found.why
-after_by bytes front found true e r h few = absurd (err_ok h refl)
-after_by bytes front found false e r h few =
+after_by bytes prefix found true e r h few = absurd (err_ok h refl)
+after_by bytes prefix found false e r h few =
     let o = read_outcome start 1 bytes in
     subst (λ (b : BadLine). Means bytes b.line b.why) (bad_same h) (
-      ends_after bytes front o.count o.end o.rest (read start 1 bytes) o.walks o.ends r (eqb-false
-          (length front.rest) 0 e),
+      ends_after bytes prefix o.count o.end o.rest (read start 1 bytes) o.walks o.ends r (eqb-false
+          (length prefix.rest) 0 e),
       few,
     )
 
-alone_means : (bytes : List ℕ) (found : BadLine) (r : Result Front BadLine) → read start 1 bytes ≡ r
-    → of_front alone r ≡ Err found → length bytes ≤ MAX_JOB_BYTES → Means bytes found.line found.why
+alone_means : (bytes : List ℕ) (found : BadLine) (r : Result Prefix BadLine) → read start 1 bytes ≡ r
+    → of_prefix alone r ≡ Err found → length bytes ≤ MAX_JOB_BYTES → Means bytes found.line found.why
 alone_means bytes found (Err bad) e h few =
     line_means bytes found.line found.why few (read_means bytes found (e ∙ ap (λ (b : BadLine). Err b) (bad_same h)))
-alone_means bytes found (Ok front) e h few = after_by bytes front found (eqb (length front.rest) 0) refl e h few
+alone_means bytes found (Ok prefix) e h few = after_by bytes prefix found (eqb (length prefix.rest) 0) refl e h few
 
 means_of : (bytes : List ℕ) (found : BadLine) (t : Bool) → ltb MAX_JOB_BYTES (length bytes) ≡ t → job_of bytes ≡ Err found
     → Means bytes found.line found.why
@@ -550,8 +550,8 @@ means_of bytes found false e h =
 text_read : (bytes : List ℕ) (job : Job) → JobText job bytes → job_of bytes ≡ Ok job
 unfolding job_of
 text_read bytes job is = cond_no _ _ _ (le-ltb MAX_JOB_BYTES (length bytes) is.within)
-    ∙ ap (λ (b : List ℕ). of_front alone (read start 1 b)) (is.text ∙ sym (append-nil (job_text job)))
-    ∙ ap (of_front alone) (job_read job is.is_job [])
+    ∙ ap (λ (b : List ℕ). of_prefix alone (read start 1 b)) (is.text ∙ sym (append-nil (job_text job)))
+    ∙ ap (of_prefix alone) (job_read job is.is_job [])
 
 ok_same : {A : Type 0} {a b : A} → ◌≡◌ {A = Result A BadLine} (Ok a) (Ok b) → a ≡ b
 ok_same h = cc
@@ -577,67 +577,67 @@ gives_none (Err (faults.Bad line why)) bytes h = inr (λ job is. err_ok h (text_
 -- ---- bytes that begin with a job's text
 
 -- a job's text that is too long
-long_by : (bytes : List ℕ) (front : Front) (found : BadLine) (x : Job × ℕ) (t : Bool)
-    → ltb MAX_JOB_BYTES (length bytes - length front.rest) ≡ t → read start 1 bytes ≡ Ok front → ◌≡◌
+long_by : (bytes : List ℕ) (prefix : Prefix) (found : BadLine) (x : Job × ℕ) (t : Bool)
+    → ltb MAX_JOB_BYTES (length bytes - length prefix.rest) ≡ t → read start 1 bytes ≡ Ok prefix → ◌≡◌
     {A = Result (Job × ℕ) BadLine} (cond t (Err (record { line = 0; why = Size })) (Ok x)) (Err found)
-    → FrontMeans bytes found.line found.why
-long_by bytes front found x true e r h =
-    let p = read_text bytes front r in
-    let size : length bytes - length front.rest ≡ length (job_text front.job) = omega
-    (arith, rest_size bytes front r) in
-    let lt = ltb-true MAX_JOB_BYTES (length bytes - length front.rest) e in
+    → PrefixMeans bytes found.line found.why
+long_by bytes prefix found x true e r h =
+    let p = read_text bytes prefix r in
+    let size : length bytes - length prefix.rest ≡ length (job_text prefix.job) = omega
+    (arith, rest_size bytes prefix r) in
+    let lt = ltb-true MAX_JOB_BYTES (length bytes - length prefix.rest) e in
     let long : IsTooLong bytes = record {
-      job = front.job;
+      job = prefix.job;
       is = p.0;
-      rest = front.rest;
+      rest = prefix.rest;
       text = p.1;
       long = omega (arith, lt, size);
     } in
-    subst (λ (b : BadLine). FrontMeans bytes b.line b.why) (bad_same h) (refl, long)
-long_by bytes front found x false e r h = absurd (err_ok h refl)
+    subst (λ (b : BadLine). PrefixMeans bytes b.line b.why) (bad_same h) (refl, long)
+long_by bytes prefix found x false e r h = absurd (err_ok h refl)
 
-sized_means : (bytes : List ℕ) (found : BadLine) (r : Result Front BadLine) → read start 1 bytes ≡ r
-    → of_front (sized (length bytes)) r ≡ Err found → FrontMeans bytes found.line found.why
+sized_means : (bytes : List ℕ) (found : BadLine) (r : Result Prefix BadLine) → read start 1 bytes ≡ r
+    → of_prefix (within_size (length bytes)) r ≡ Err found → PrefixMeans bytes found.line found.why
 sized_means bytes found (Err bad) e h =
-    line_front_means bytes found.line found.why
+    line_prefix_means bytes found.line found.why
     (read_means bytes found (e ∙ ap (λ (b : BadLine). Err b) (bad_same h)))
-sized_means bytes found (Ok front) e h =
-    long_by bytes front found _ (ltb MAX_JOB_BYTES (length bytes - length front.rest)) refl e h
+sized_means bytes found (Ok prefix) e h =
+    long_by bytes prefix found _ (ltb MAX_JOB_BYTES (length bytes - length prefix.rest)) refl e h
 
--- the one job of a front
-front_read : (bytes : List ℕ) (job : Job) (size : ℕ) → BeginsWith job size bytes → front_of bytes ≡ Ok (job, size)
-unfolding front_of
-front_read bytes job size is =
+-- the one job of a prefix
+prefix_read : (bytes : List ℕ) (job : Job) (size : ℕ) → BeginsWith job size bytes → prefix_of bytes ≡ Ok (job, size)
+unfolding prefix_of
+prefix_read bytes job size is =
     let line = 1 + length (job_lines job) in
     let behind : length bytes ≡ length (job_text job) + length is.rest =
     ap length is.text ∙ length-append (job_text job) is.rest in
     let count : length bytes - length is.rest ≡ size = omega (arith, behind, is.long) in
     let few : length bytes - length is.rest ≤ MAX_JOB_BYTES = omega (arith, count, is.within) in
-    ap (λ (b : List ℕ). of_front (sized (length bytes)) (read start 1 b)) is.text
-    ∙ ap (of_front (sized (length bytes))) (job_read job is.is_job is.rest)
+    ap (λ (b : List ℕ). of_prefix (within_size (length bytes)) (read start 1 b)) is.text
+    ∙ ap (of_prefix (within_size (length bytes))) (job_read job is.is_job is.rest)
     ∙ is_sized job line (length bytes) is.rest few
     ∙ ap (λ (n : ℕ). Ok (job, n)) count
 
-pub gives_front_one : (r : Result (Job × ℕ) JobFault) (bytes : List ℕ)
-    → GivesAt (λ (x : Job × ℕ). x) r (front_of bytes) → IfOk r
+pub gives_prefix_one : (r : Result (Job × ℕ) JobFault) (bytes : List ℕ)
+    → GivesAt (λ (x : Job × ℕ). x) r (prefix_of bytes) → IfOk r
     (λ x. (other : Job) (size : ℕ) → BeginsWith other size bytes → (other ≡ x.0) × (size ≡ x.1))
-gives_front_one (Ok x) bytes h = λ other size is.
-    let same : (other, size) ≡ x = ok_same (sym (front_read bytes other size is) ∙ h) in
+gives_prefix_one (Ok x) bytes h = λ other size is.
+    let same : (other, size) ≡ x = ok_same (sym (prefix_read bytes other size is) ∙ h) in
     (ap (λ (y : Job × ℕ). y.0) same, ap (λ (y : Job × ℕ). y.1) same)
-gives_front_one (Err fault) bytes h = tt
+gives_prefix_one (Err fault) bytes h = tt
 
-pub gives_front_meant : (r : Result (Job × ℕ) JobFault) (bytes : List ℕ)
-    → GivesAt (λ (x : Job × ℕ). x) r (front_of bytes) → IfErr r (λ fault. IsFrontMeant bytes fault)
-unfolding front_of
-gives_front_meant (Ok x) bytes h = tt
-gives_front_meant (Err faults.NoMemory) bytes h = tt
-gives_front_meant (Err (faults.Bad line why)) bytes h =
+pub gives_prefix_meant : (r : Result (Job × ℕ) JobFault) (bytes : List ℕ)
+    → GivesAt (λ (x : Job × ℕ). x) r (prefix_of bytes) → IfErr r (λ fault. IsPrefixMeant bytes fault)
+unfolding prefix_of
+gives_prefix_meant (Ok x) bytes h = tt
+gives_prefix_meant (Err faults.NoMemory) bytes h = tt
+gives_prefix_meant (Err (faults.Bad line why)) bytes h =
     sized_means bytes (record { line = line; why = why }) (read start 1 bytes) refl h
 
-pub gives_front_none : (r : Result (Job × ℕ) JobFault) (bytes : List ℕ)
-    → GivesAt (λ (x : Job × ℕ). x) r (front_of bytes) → IfErr r
+pub gives_prefix_none : (r : Result (Job × ℕ) JobFault) (bytes : List ℕ)
+    → GivesAt (λ (x : Job × ℕ). x) r (prefix_of bytes) → IfErr r
     (λ fault. IsNoMemory fault ⊎ ((job : Job) (size : ℕ) → BeginsWith job size bytes → ⊥))
-gives_front_none (Ok x) bytes h = tt
-gives_front_none (Err faults.NoMemory) bytes h = inl tt
-gives_front_none (Err (faults.Bad line why)) bytes h =
-    inr (λ job size is. err_ok h (front_read bytes job size is))
+gives_prefix_none (Ok x) bytes h = tt
+gives_prefix_none (Err faults.NoMemory) bytes h = inl tt
+gives_prefix_none (Err (faults.Bad line why)) bytes h =
+    inr (λ job size is. err_ok h (prefix_read bytes job size is))

@@ -12,9 +12,9 @@ use Rattle.text_job.specs.Places.{Place, AtSetting, AtSieve, AtPairs, AtAtomics,
 use Rattle.text_job.specs.Places.{AtScripts, AtSteps}
 use Rattle.text_job.specs.Places.{AtCollect, AtSchedule, AtDone, Over, Named, Other, Item, item_form}
 use Rattle.text_job.specs.Places.{HandlerItem, CollectItem, AtomicsItem}
-use Rattle.text_job.specs.JobReading.{BadLine, start, line_at, next, opened, headed, collected, served}
-use Rattle.text_job.specs.JobReading.{front_with, of_front, alone, sized, from_lines, read_lines, read, job_of}
-use Rattle.text_job.specs.JobReading.{front_of}
+use Rattle.text_job.specs.JobReading.{BadLine, start, line_at, next, after_section, after_handler_line, after_collect, after_atomics}
+use Rattle.text_job.specs.JobReading.{prefix_with, of_prefix, alone, within_size, from_lines, read_lines, read, job_of}
+use Rattle.text_job.specs.JobReading.{prefix_of}
 use Rattle.text_job.specs.JobReading.{most_handlers}
 use Rattle.text_job.specs.JobReading.{has_pair, has_index, is_reserved}
 use Rattle.text_job.specs.JobText.{spell, job_lines, job_text}
@@ -25,7 +25,7 @@ use Rattle.text_job.specs.Refusals.{IsTakenBehind, IsTakenLater, IsFullBehind}
 use Rattle.text_job.specs.Refusals.{IsTakenThread, IsFull, IsFullOfHandlers, IsFullLater, HasNoText}
 use Rattle.text_job.specs.Refusals.{HasNoForm}
 use Rattle.text_job.specs.Refusals.{HasBadValue, IsAtFault, Before, IsWrong, Means}
-use Rattle.text_job.specs.Refusals.{IsTold, IsTooLong, FrontMeans}
+use Rattle.text_job.specs.Refusals.{IsTold, IsTooLong, PrefixMeans}
 use Rattle.text_job.specs.declared.fault.JobFault.{JobFault}
 use Rattle.text_job.specs.declared.fault.JobFault.TheVariants as faults
 use Rattle.base_text.specs.declared.why.LineWhy.{LineWhy}
@@ -35,8 +35,8 @@ use Rattle.text_job.specs.declared.job.Job.{Job}
 use Rattle.text_job.specs.declared.sections.HandlerHeader.{HandlerHeader}
 use Rattle.text_job.specs.declared.sections.Section.{Section}
 use Rattle.text_job.specs.declared.sections.Section.TheVariants as section
-use Rattle.base_text.proofs.Fronts.{cond_yes, cond_no}
-use Rattle.text_job.proofs.JobRuns.{job_reads, front_reads}
+use Rattle.base_text.proofs.Prefixes.{cond_yes, cond_no}
+use Rattle.text_job.proofs.JobRuns.{job_reads, prefix_reads}
 use Rattle.text_job.proofs.LineRuns.{IsOpen, goes_on, open_or_over, line_takes, line_again, read_full}
 use Rattle.text_job.proofs.LineRuns.{line_bad, over_read}
 use Rattle.text_job.proofs.Completeness.{reach_read, job_read}
@@ -123,20 +123,20 @@ value_refused place job line (b ∷ rest) h =
     reasoned place job line b rest true true BadValue h.to_come h.text h.form h.says_nothing refl
 
 -- what stood in a line before may not stand again
-opened_taken : (job : Job) (s : Section) → IsTakenThread job s → opened job s ≡ Err Entry
+opened_taken : (job : Job) (s : Section) → IsTakenThread job s → after_section job s ≡ Err Entry
 opened_taken job (section.Script node thread) h = rw h refl
 opened_taken job section.Schedule h = absurd h
 opened_taken job section.Done h = absurd h
 
-headed_taken : (job : Job) (item : HandlerItem) → IsTakenIndex job item → headed job item ≡ Err Entry
+headed_taken : (job : Job) (item : HandlerItem) → IsTakenIndex job item → after_handler_line job item ≡ Err Entry
 headed_taken job (Named header) h = rw h refl
 headed_taken job (Other s) h = opened_taken job s h
 
-collected_taken : (job : Job) (item : CollectItem) → IsTakenBehind job item → collected job item ≡ Err Entry
+collected_taken : (job : Job) (item : CollectItem) → IsTakenBehind job item → after_collect job item ≡ Err Entry
 collected_taken job (Named area) h = absurd h
 collected_taken job (Other item) h = headed_taken job item h
 
-served_taken : (job : Job) (item : AtomicsItem) → IsTakenLater job item → served job item ≡ Err Entry
+served_taken : (job : Job) (item : AtomicsItem) → IsTakenLater job item → after_atomics job item ≡ Err Entry
 served_taken job (Named line) h = absurd h
 served_taken job (Other item) h = collected_taken job item h
 
@@ -161,7 +161,7 @@ is_false true other = absurd (other refl)
 is_false false other = refl
 
 headed_full : (job : Job) (item : HandlerItem) → (IsTakenIndex job item → ⊥)
-    → IsFullOfHandlers job item → headed job item ≡ Err Count
+    → IsFullOfHandlers job item → after_handler_line job item ≡ Err Count
 headed_full job (Named header) is_new h =
     rw (
       is_false (has_index job.handlers header.index || is_reserved (scope_of job) header.index) is_new,
@@ -170,12 +170,12 @@ headed_full job (Named header) is_new h =
 headed_full job (Other s) is_new h = absurd h
 
 collected_full : (job : Job) (item : CollectItem) → (IsTakenBehind job item → ⊥) → IsFullBehind job item
-    → collected job item ≡ Err Count
+    → after_collect job item ≡ Err Count
 collected_full job (Named area) is_new h = absurd h
 collected_full job (Other item) is_new h = headed_full job item is_new h
 
 served_full : (job : Job) (item : AtomicsItem) → (IsTakenLater job item → ⊥) → IsFullLater job item
-    → served job item ≡ Err Count
+    → after_atomics job item ≡ Err Count
 served_full job (Named line) is_new h = absurd h
 served_full job (Other item) is_new h = collected_full job item is_new h
 
@@ -302,7 +302,7 @@ read_before bytes line b =
     let lines = so_far b.place b.job in
     let count = b.count in
     let text : bytes ≡ spell lines ++ rest =
-    sym (lines_split bytes (line - 1)) ∙ ap (λ (front : List ℕ). front ++ rest) b.lines in
+    sym (lines_split bytes (line - 1)) ∙ ap (λ (prefix : List ℕ). prefix ++ rest) b.lines in
     ap (read start 1) text
     ∙ reach_read lines start (record { place = b.place; job = known b.place b.job }) 1 rest
     (reach_place b.place b.job b.is b.unread b.reached)
@@ -318,22 +318,22 @@ wrong_read bytes line why within w =
 
 -- bytes behind a job's text
 after_over : (place : Place) (job : Job) (line : ℕ) (rest : List ℕ) → place ≡ Over
-    → read (record { place = place; job = job }) line rest ≡ Ok (front_with job line rest)
+    → read (record { place = place; job = job }) line rest ≡ Ok (prefix_with job line rest)
 after_over place job line rest over =
     ap (λ (p : Place). read (record { place = p; job = job }) line rest) over ∙ over_read job line rest
 
 alone_not : (job : Job) (line : ℕ) (rest : List ℕ) → rest ≢ []
-    → alone (front_with job line rest) ≡ Err (record { line = line; why = After })
+    → alone (prefix_with job line rest) ≡ Err (record { line = line; why = After })
 alone_not job line [] some = absurd (some refl)
 alone_not job line (b ∷ rest) some =
     cond_no (eqb (length (b ∷ rest)) 0) _ _ (ne_eqb (length (b ∷ rest)) 0 (λ none. omega arith))
 
 after_read : (bytes : List ℕ) (line : ℕ) → IsWrong bytes line After
-    → of_front alone (read start 1 bytes) ≡ Err (record { line = line; why = After })
+    → of_prefix alone (read start 1 bytes) ≡ Err (record { line = line; why = After })
 after_read bytes line w =
     let b = w.before in
     let rest = after_lines (line - 1) bytes in
-    ap (of_front alone) (read_before bytes line b
+    ap (of_prefix alone) (read_before bytes line b
     ∙ after_over b.place (known b.place b.job) line rest w.fault.0)
     ∙ alone_not (known b.place b.job) line rest w.fault.1
 
@@ -341,7 +341,7 @@ after_read bytes line w =
 
 within_read : (bytes : List ℕ) (line : ℕ) (why : LineWhy) → IsWithin why → IsWrong bytes line why × (length bytes ≤ MAX_JOB_BYTES)
     → job_of bytes ≡ Err (record { line = line; why = why })
-within_read bytes line why within w = job_reads bytes w.1 ∙ ap (of_front alone) (wrong_read bytes line why within w.0)
+within_read bytes line why within w = job_reads bytes w.1 ∙ ap (of_prefix alone) (wrong_read bytes line why within w.0)
 
 pub means_told : (bytes : List ℕ) (line : ℕ) (why : LineWhy) → Means bytes line why
     → job_of bytes ≡ Err (record { line = line; why = why })
@@ -357,34 +357,34 @@ means_told bytes line Entry m = within_read bytes line Entry tt m
 means_told bytes line Count m = within_read bytes line Count tt m
 means_told bytes line After m = job_reads bytes m.1 ∙ after_read bytes line m.0
 
-within_front : (bytes : List ℕ) (line : ℕ) (why : LineWhy) → IsWithin why → IsWrong bytes line why
-    → front_of bytes ≡ Err (record { line = line; why = why })
-within_front bytes line why within w =
-    front_reads bytes ∙ ap (of_front (sized (length bytes))) (wrong_read bytes line why within w)
+within_prefix : (bytes : List ℕ) (line : ℕ) (why : LineWhy) → IsWithin why → IsWrong bytes line why
+    → prefix_of bytes ≡ Err (record { line = line; why = why })
+within_prefix bytes line why within w =
+    prefix_reads bytes ∙ ap (of_prefix (within_size (length bytes))) (wrong_read bytes line why within w)
 
 -- a job's text that is too long
-long_read : (bytes : List ℕ) → IsTooLong bytes → front_of bytes ≡ Err (record { line = 0; why = Size })
+long_read : (bytes : List ℕ) → IsTooLong bytes → prefix_of bytes ≡ Err (record { line = 0; why = Size })
 long_read bytes t =
-    let front = front_with t.job (1 + length (job_lines t.job)) t.rest in
+    let prefix = prefix_with t.job (1 + length (job_lines t.job)) t.rest in
     let size : length bytes ≡ length (job_text t.job) + length t.rest =
     ap length t.text ∙ length-append (job_text t.job) t.rest in
     let long = t.long in
-    front_reads bytes
-    ∙ ap (λ (b : List ℕ). of_front (sized (length bytes)) (read start 1 b)) t.text
-    ∙ ap (of_front (sized (length bytes))) (job_read t.job t.is t.rest)
-    ∙ cond_yes _ _ _ (lt-ltb MAX_JOB_BYTES (length bytes - length front.rest) (omega (arith, size, long)))
+    prefix_reads bytes
+    ∙ ap (λ (b : List ℕ). of_prefix (within_size (length bytes)) (read start 1 b)) t.text
+    ∙ ap (of_prefix (within_size (length bytes))) (job_read t.job t.is t.rest)
+    ∙ cond_yes _ _ _ (lt-ltb MAX_JOB_BYTES (length bytes - length prefix.rest) (omega (arith, size, long)))
 
-pub front_means_told : (bytes : List ℕ) (line : ℕ) (why : LineWhy) → FrontMeans bytes line why
-    → front_of bytes ≡ Err (record { line = line; why = why })
-front_means_told bytes line Size m =
+pub prefix_means_told : (bytes : List ℕ) (line : ℕ) (why : LineWhy) → PrefixMeans bytes line why
+    → prefix_of bytes ≡ Err (record { line = line; why = why })
+prefix_means_told bytes line Size m =
     long_read bytes m.1 ∙ ap (λ (n : ℕ). Err (record { line = n; why = Size })) (sym m.0)
-front_means_told bytes line Early m = within_front bytes line Early tt m
-front_means_told bytes line Text m = within_front bytes line Text tt m
-front_means_told bytes line Form m = within_front bytes line Form tt m
-front_means_told bytes line BadValue m = within_front bytes line BadValue tt m
-front_means_told bytes line Entry m = within_front bytes line Entry tt m
-front_means_told bytes line Count m = within_front bytes line Count tt m
-front_means_told bytes line After m = absurd m
+prefix_means_told bytes line Early m = within_prefix bytes line Early tt m
+prefix_means_told bytes line Text m = within_prefix bytes line Text tt m
+prefix_means_told bytes line Form m = within_prefix bytes line Form tt m
+prefix_means_told bytes line BadValue m = within_prefix bytes line BadValue tt m
+prefix_means_told bytes line Entry m = within_prefix bytes line Entry tt m
+prefix_means_told bytes line Count m = within_prefix bytes line Count tt m
+prefix_means_told bytes line After m = absurd m
 
 -- ---- one reason
 
@@ -407,16 +407,16 @@ gives_told (Err (faults.Bad at told)) bytes h line why m =
     let found : BadLine = record { line = line; why = why } in
     inr (told_of bad found (bad_same (job_of bytes) bad found h (means_told bytes line why m)))
 
-pub gives_front_told : (r : Result (Job × ℕ) JobFault) (bytes : List ℕ)
-    → GivesAt (λ (x : Job × ℕ). x) r (front_of bytes)
-    → (line : ℕ) (why : LineWhy) → FrontMeans bytes line why → IsTold r line why
-gives_front_told (Ok x) bytes h line why m =
-    no_fault x (front_of bytes) (record { line = line; why = why }) h (front_means_told bytes line why m)
-gives_front_told (Err faults.NoMemory) bytes h line why m = inl tt
-gives_front_told (Err (faults.Bad at told)) bytes h line why m =
+pub gives_prefix_told : (r : Result (Job × ℕ) JobFault) (bytes : List ℕ)
+    → GivesAt (λ (x : Job × ℕ). x) r (prefix_of bytes)
+    → (line : ℕ) (why : LineWhy) → PrefixMeans bytes line why → IsTold r line why
+gives_prefix_told (Ok x) bytes h line why m =
+    no_fault x (prefix_of bytes) (record { line = line; why = why }) h (prefix_means_told bytes line why m)
+gives_prefix_told (Err faults.NoMemory) bytes h line why m = inl tt
+gives_prefix_told (Err (faults.Bad at told)) bytes h line why m =
     let bad : BadLine = record { line = at; why = told } in
     let found : BadLine = record { line = line; why = why } in
-    inr (told_of bad found (bad_same (front_of bytes) bad found h (front_means_told bytes line why m)))
+    inr (told_of bad found (bad_same (prefix_of bytes) bad found h (prefix_means_told bytes line why m)))
 
 -- two refusals of a text are one
 pub one_meaning : (bytes : List ℕ) (bad found : BadLine) → Means bytes bad.line bad.why → Means bytes found.line found.why
@@ -424,11 +424,11 @@ pub one_meaning : (bytes : List ℕ) (bad found : BadLine) → Means bytes bad.l
 one_meaning bytes bad found m n =
     bad_same (job_of bytes) bad found (means_told bytes bad.line bad.why m) (means_told bytes found.line found.why n)
 
-pub one_front_meaning : (bytes : List ℕ) (bad found : BadLine) → FrontMeans bytes bad.line bad.why
-    → FrontMeans bytes found.line found.why → bad ≡ found
-one_front_meaning bytes bad found m n =
-    bad_same (front_of bytes) bad found (front_means_told bytes bad.line bad.why m)
-    (front_means_told bytes found.line found.why n)
+pub one_prefix_meaning : (bytes : List ℕ) (bad found : BadLine) → PrefixMeans bytes bad.line bad.why
+    → PrefixMeans bytes found.line found.why → bad ≡ found
+one_prefix_meaning bytes bad found m n =
+    bad_same (prefix_of bytes) bad found (prefix_means_told bytes bad.line bad.why m)
+    (prefix_means_told bytes found.line found.why n)
 
 -- A test of the definitions: while a reason stood beside any place and any job, each wrong line was both.
 form_or_after : (bytes : List ℕ) (line : ℕ) → Means bytes line Form → Means bytes line After → ⊥

@@ -5,7 +5,7 @@ use Rattle.std.specs.Str.{bytes_eq}
 use Rattle.text_job.specs.Scopes.{scope_of}
 use Rattle.text_calls.specs.declared.scope.Scope.{Scope}
 use Rattle.wire_message.specs.declared.pairs.PairCredits.{PairCredits}
-use Rattle.base_text.specs.Lines.{◌>>=◌, front, ended}
+use Rattle.base_text.specs.Lines.{◌>>=◌, prefix, after_newline}
 use Rattle.base_text.specs.Reasons.{reason, why_of}
 use Rattle.text_job.specs.Places.{NamedOr, Named, Other, AtAtomics, atomics_at, atomics_or_later_at}
 use Rattle.text_job.specs.Places.{atomics_or_later_form, AtCollect, collect_at, collect_or_later_at}
@@ -14,7 +14,7 @@ use Rattle.text_job.specs.Places.{Place, AtPairs, AtHandlers, AtBody, AtScripts,
 use Rattle.text_job.specs.Places.{header_at}
 use Rattle.text_job.specs.Places.{section_at, pair_at, header_or_section_at, header_or_section_form}
 use Rattle.text_job.specs.Places.{pairs_form}
-use Rattle.text_job.specs.JobReading.{State, lined, line_at, next, begun, handler_why, pair_why, with_atomics}
+use Rattle.text_job.specs.JobReading.{State, item_of_line, line_at, next, new_handler, handler_why, pair_why, with_atomics}
 use Rattle.text_job.specs.JobReading.{with_collect, with_own, read}
 use Rattle.base_text.specs.declared.why.LineWhy.{LineWhy}
 use Rattle.text_job.specs.declared.job.CollectArea.{CollectArea}
@@ -30,48 +30,48 @@ mapped_end None f x = refl
 mapped_end (Some r) f x = refl
 
 pub mapped : {A B : Type 0} (o : Option (A × List ℕ)) (f : A → B) → ◌>>=◌ {B = B × List ℕ}
-    (◌>>=◌ {B = B × List ℕ} o (λ x. Some (f x.0, x.1))) (λ i. ◌>>=◌ {B = B × List ℕ} (ended i.1) (λ r. Some (i.0, r)))
-    ≡ ◌>>=◌ {B = B × List ℕ} (◌>>=◌ {B = A × List ℕ} o (λ i. ◌>>=◌ {B = A × List ℕ} (ended i.1) (λ r. Some
+    (◌>>=◌ {B = B × List ℕ} o (λ x. Some (f x.0, x.1))) (λ i. ◌>>=◌ {B = B × List ℕ} (after_newline i.1) (λ r. Some (i.0, r)))
+    ≡ ◌>>=◌ {B = B × List ℕ} (◌>>=◌ {B = A × List ℕ} o (λ i. ◌>>=◌ {B = A × List ℕ} (after_newline i.1) (λ r. Some
     (i.0, r)))) (λ x. Some (f x.0, x.1))
 mapped None f = refl
-mapped (Some x) f = mapped_end (ended x.1) f x.0
+mapped (Some x) f = mapped_end (after_newline x.1) f x.0
 
 -- a line that begins with the name, and one that doesn't
 named_line : {A B : Type 0} (name : List ℕ) (at : List ℕ → Option (A × List ℕ)) (other : List ℕ → Option
-    (B × List ℕ)) (bytes : List ℕ) → bytes_eq (front bytes) name ≡ true → lined (named_or name at other) bytes
-    ≡ ◌>>=◌ {B = NamedOr A B × List ℕ} (lined at bytes) (λ x. Some (Named x.0, x.1))
+    (B × List ℕ)) (bytes : List ℕ) → bytes_eq (prefix bytes) name ≡ true → item_of_line (named_or name at other) bytes
+    ≡ ◌>>=◌ {B = NamedOr A B × List ℕ} (item_of_line at bytes) (λ x. Some (Named x.0, x.1))
 named_line {A} {B} name at other bytes b = rw b (mapped {A = A} {B = NamedOr A B} (at bytes) (λ x. Named x))
 
 other_line : {A B : Type 0} (name : List ℕ) (at : List ℕ → Option (A × List ℕ)) (other : List ℕ → Option
-    (B × List ℕ)) (bytes : List ℕ) → bytes_eq (front bytes) name ≡ false → lined (named_or name at other) bytes
-    ≡ ◌>>=◌ {B = NamedOr A B × List ℕ} (lined other bytes) (λ x. Some (Other x.0, x.1))
+    (B × List ℕ)) (bytes : List ℕ) → bytes_eq (prefix bytes) name ≡ false → item_of_line (named_or name at other) bytes
+    ≡ ◌>>=◌ {B = NamedOr A B × List ℕ} (item_of_line other bytes) (λ x. Some (Other x.0, x.1))
 other_line {A} {B} name at other bytes b = rw b (mapped {A = B} {B = NamedOr A B} (other bytes) (λ x. Other x))
 
-pair_line : (scope : Scope) (bytes : List ℕ) → bytes_eq (front bytes) (codes "pair") ≡ true
-    → line_at AtPairs scope bytes ≡ (lined (pair_at scope.settings) bytes >>= λ x. Some (Named x.0, x.1))
+pair_line : (scope : Scope) (bytes : List ℕ) → bytes_eq (prefix bytes) (codes "pair") ≡ true
+    → line_at AtPairs scope bytes ≡ (item_of_line (pair_at scope.settings) bytes >>= λ x. Some (Named x.0, x.1))
 pair_line scope bytes b =
     named_line (codes "pair") (pair_at scope.settings) (atomics_or_later_at scope) bytes b
 
-atomics_line : (scope : Scope) (bytes : List ℕ) → bytes_eq (front bytes) (codes "atomics") ≡ true
-    → line_at AtAtomics scope bytes ≡ (lined (atomics_at scope) bytes >>= λ x. Some (Named x.0, x.1))
+atomics_line : (scope : Scope) (bytes : List ℕ) → bytes_eq (prefix bytes) (codes "atomics") ≡ true
+    → line_at AtAtomics scope bytes ≡ (item_of_line (atomics_at scope) bytes >>= λ x. Some (Named x.0, x.1))
 atomics_line scope bytes b =
     named_line (codes "atomics") (atomics_at scope) (collect_or_later_at scope) bytes b
 
-collect_line : (scope : Scope) (bytes : List ℕ) → bytes_eq (front bytes) (codes "collect") ≡ true
-    → line_at AtCollect scope bytes ≡ (lined (collect_at scope) bytes >>= λ x. Some (Named x.0, x.1))
+collect_line : (scope : Scope) (bytes : List ℕ) → bytes_eq (prefix bytes) (codes "collect") ≡ true
+    → line_at AtCollect scope bytes ≡ (item_of_line (collect_at scope) bytes >>= λ x. Some (Named x.0, x.1))
 collect_line scope bytes b =
     named_line (codes "collect") (collect_at scope) (header_or_section_at scope.settings) bytes b
 
-header_line : (scope : Scope) (bytes : List ℕ) → bytes_eq (front bytes) (codes "handler") ≡ true
-    → line_at AtHandlers scope bytes ≡ (lined header_at bytes >>= λ x. Some (Named x.0, x.1))
+header_line : (scope : Scope) (bytes : List ℕ) → bytes_eq (prefix bytes) (codes "handler") ≡ true
+    → line_at AtHandlers scope bytes ≡ (item_of_line header_at bytes >>= λ x. Some (Named x.0, x.1))
 header_line scope bytes b =
     named_line (codes "handler") header_at (section_at scope.settings.nodes scope.settings.threads) bytes b
 
 -- ---- pairs
 
 -- a pair is read, and there is room for it
-pub pair_read : (job : Job) (line : ℕ) (bytes rest : List ℕ) (pair : PairCredits) → bytes_eq (front bytes)
-    (codes "pair") ≡ true → lined (pair_at job.settings) bytes ≡ Some (pair, rest) → pair_why job.settings.pairs pair
+pub pair_read : (job : Job) (line : ℕ) (bytes rest : List ℕ) (pair : PairCredits) → bytes_eq (prefix bytes)
+    (codes "pair") ≡ true → item_of_line (pair_at job.settings) bytes ≡ Some (pair, rest) → pair_why job.settings.pairs pair
     ≡ None
     → read (record { place = AtPairs; job = job }) line bytes ≡ read
     (record { place = AtPairs; job = with_own pair job }) (line + 1) rest
@@ -81,14 +81,14 @@ pair_read job line bytes rest pair b h w =
 
 -- a pair is read, and may not stand there
 pub pair_full : (job : Job) (line : ℕ) (bytes rest : List ℕ) (pair : PairCredits) (why : LineWhy) → bytes_eq
-    (front bytes) (codes "pair") ≡ true → lined (pair_at job.settings) bytes ≡ Some (pair, rest)
+    (prefix bytes) (codes "pair") ≡ true → item_of_line (pair_at job.settings) bytes ≡ Some (pair, rest)
     → pair_why job.settings.pairs pair ≡ Some why
     → read (record { place = AtPairs; job = job }) line bytes ≡ Err (record { line = line; why = why })
 pair_full job line bytes rest pair why b h w =
     read_full AtPairs job line bytes rest (Named pair) why (pair_line (scope_of job) bytes b ∙ rw h refl) (rw w refl)
 
 -- a pair isn't read
-pub pair_bad : (job : Job) (line : ℕ) (bytes : List ℕ) → bytes_eq (front bytes) (codes "pair") ≡ true → lined
+pub pair_bad : (job : Job) (line : ℕ) (bytes : List ℕ) → bytes_eq (prefix bytes) (codes "pair") ≡ true → item_of_line
     (pair_at job.settings) bytes ≡ None
     → read (record { place = AtPairs; job = job }) line bytes ≡ Err
     (record { line = line; why = reason (pairs_form (scope_of job)) bytes })
@@ -97,8 +97,8 @@ pair_bad job line bytes b h = line_bad AtPairs tt job line bytes (pair_line (sco
 -- ---- atomics
 
 -- the line of atomics is read
-pub atomics_read : (job : Job) (line : ℕ) (bytes rest : List ℕ) → bytes_eq (front bytes) (codes "atomics") ≡ true
-    → lined (atomics_at (scope_of job)) bytes ≡ Some (tt, rest)
+pub atomics_read : (job : Job) (line : ℕ) (bytes rest : List ℕ) → bytes_eq (prefix bytes) (codes "atomics") ≡ true
+    → item_of_line (atomics_at (scope_of job)) bytes ≡ Some (tt, rest)
     → read (record { place = AtAtomics; job = job }) line bytes ≡ read
     (record { place = AtCollect; job = with_atomics job }) (line + 1) rest
 atomics_read job line bytes rest b h =
@@ -106,8 +106,8 @@ atomics_read job line bytes rest b h =
     (atomics_line (scope_of job) bytes b ∙ rw h refl) refl
 
 -- it isn't read
-pub atomics_bad : (job : Job) (line : ℕ) (bytes : List ℕ) → bytes_eq (front bytes) (codes "atomics") ≡ true
-    → lined (atomics_at (scope_of job)) bytes ≡ None
+pub atomics_bad : (job : Job) (line : ℕ) (bytes : List ℕ) → bytes_eq (prefix bytes) (codes "atomics") ≡ true
+    → item_of_line (atomics_at (scope_of job)) bytes ≡ None
     → read (record { place = AtAtomics; job = job }) line bytes ≡ Err
     (record { line = line; why = reason (atomics_or_later_form (scope_of job)) bytes })
 atomics_bad job line bytes b h =
@@ -117,7 +117,7 @@ atomics_bad job line bytes b h =
 
 -- the line of collectives is read
 pub collect_read : (job : Job) (line : ℕ) (bytes rest : List ℕ) (area : CollectArea)
-    → bytes_eq (front bytes) (codes "collect") ≡ true → lined (collect_at (scope_of job)) bytes ≡ Some (area, rest)
+    → bytes_eq (prefix bytes) (codes "collect") ≡ true → item_of_line (collect_at (scope_of job)) bytes ≡ Some (area, rest)
     → read (record { place = AtCollect; job = job }) line bytes ≡ read
     (record { place = AtHandlers; job = with_collect area job }) (line + 1) rest
 collect_read job line bytes rest area b h =
@@ -125,8 +125,8 @@ collect_read job line bytes rest area b h =
     (collect_line (scope_of job) bytes b ∙ rw h refl) refl
 
 -- it isn't read
-pub collect_bad : (job : Job) (line : ℕ) (bytes : List ℕ) → bytes_eq (front bytes) (codes "collect") ≡ true
-    → lined (collect_at (scope_of job)) bytes ≡ None
+pub collect_bad : (job : Job) (line : ℕ) (bytes : List ℕ) → bytes_eq (prefix bytes) (codes "collect") ≡ true
+    → item_of_line (collect_at (scope_of job)) bytes ≡ None
     → read (record { place = AtCollect; job = job }) line bytes ≡ Err
     (record { line = line; why = reason (collect_or_later_form (scope_of job)) bytes })
 collect_bad job line bytes b h =
@@ -135,18 +135,18 @@ collect_bad job line bytes b h =
 -- ---- handlers
 
 -- the first line of a handler is read, and there is room for it
-pub handler_read : (job : Job) (line : ℕ) (bytes rest : List ℕ) (header : HandlerHeader) → bytes_eq (front bytes)
-    (codes "handler") ≡ true → lined header_at bytes ≡ Some (header, rest) → handler_why (scope_of job) job.handlers header.index
+pub handler_read : (job : Job) (line : ℕ) (bytes rest : List ℕ) (header : HandlerHeader) → bytes_eq (prefix bytes)
+    (codes "handler") ≡ true → item_of_line header_at bytes ≡ Some (header, rest) → handler_why (scope_of job) job.handlers header.index
     ≡ None
     → read (record { place = AtHandlers; job = job }) line bytes ≡ read
-    (record { place = AtBody (begun header); job = job }) (line + 1) rest
+    (record { place = AtBody (new_handler header); job = job }) (line + 1) rest
 handler_read job line bytes rest header b h w =
-    read_on AtHandlers job line bytes rest (Named header) (record { place = AtBody (begun header); job = job })
+    read_on AtHandlers job line bytes rest (Named header) (record { place = AtBody (new_handler header); job = job })
     (header_line (scope_of job) bytes b ∙ rw h refl) (rw w refl)
 
 -- it is read, and may not stand there
 pub handler_full : (job : Job) (line : ℕ) (bytes rest : List ℕ) (header : HandlerHeader) (why : LineWhy) → bytes_eq
-    (front bytes) (codes "handler") ≡ true → lined header_at bytes ≡ Some (header, rest)
+    (prefix bytes) (codes "handler") ≡ true → item_of_line header_at bytes ≡ Some (header, rest)
     → handler_why (scope_of job) job.handlers header.index ≡ Some why
     → read (record { place = AtHandlers; job = job }) line bytes ≡ Err (record { line = line; why = why })
 handler_full job line bytes rest header why b h w =
@@ -154,8 +154,8 @@ handler_full job line bytes rest header why b h w =
     (rw w refl)
 
 -- it isn't read
-pub handler_bad : (job : Job) (line : ℕ) (bytes : List ℕ) → bytes_eq (front bytes) (codes "handler") ≡ true
-    → lined header_at bytes ≡ None
+pub handler_bad : (job : Job) (line : ℕ) (bytes : List ℕ) → bytes_eq (prefix bytes) (codes "handler") ≡ true
+    → item_of_line header_at bytes ≡ None
     → read (record { place = AtHandlers; job = job }) line bytes ≡ Err
     (record { line = line; why = reason header_or_section_form bytes })
 handler_bad job line bytes b h = line_bad AtHandlers tt job line bytes (header_line (scope_of job) bytes b ∙ rw h refl)
@@ -193,7 +193,7 @@ same_by here there job line bytes None is h =
 same_by here there job line bytes (Some x) is h =
     same_ok here there job line bytes x.1 x.0 (next there job x.0) is h refl
 
-pub pairs_over : (job : Job) (line : ℕ) (bytes : List ℕ) → bytes_eq (front bytes) (codes "pair") ≡ false → read
+pub pairs_over : (job : Job) (line : ℕ) (bytes : List ℕ) → bytes_eq (prefix bytes) (codes "pair") ≡ false → read
     (record { place = AtPairs; job = job }) line bytes ≡ read (record { place = AtAtomics; job = job }) line bytes
 pairs_over job line bytes b = same_by AtPairs AtAtomics job line bytes (line_at AtAtomics (scope_of job) bytes)
     (record {
@@ -205,7 +205,7 @@ pairs_over job line bytes b = same_by AtPairs AtAtomics job line bytes (line_at 
       bad_there = line_bad AtAtomics tt;
     }) refl
 
-pub atomics_over : (job : Job) (line : ℕ) (bytes : List ℕ) → bytes_eq (front bytes) (codes "atomics") ≡ false → read
+pub atomics_over : (job : Job) (line : ℕ) (bytes : List ℕ) → bytes_eq (prefix bytes) (codes "atomics") ≡ false → read
     (record { place = AtAtomics; job = job }) line bytes ≡ read (record { place = AtCollect; job = job }) line bytes
 atomics_over job line bytes b = same_by AtAtomics AtCollect job line bytes (line_at AtCollect (scope_of job) bytes)
     (record {
@@ -217,7 +217,7 @@ atomics_over job line bytes b = same_by AtAtomics AtCollect job line bytes (line
       bad_there = line_bad AtCollect tt;
     }) refl
 
-pub collect_over : (job : Job) (line : ℕ) (bytes : List ℕ) → bytes_eq (front bytes) (codes "collect") ≡ false → read
+pub collect_over : (job : Job) (line : ℕ) (bytes : List ℕ) → bytes_eq (prefix bytes) (codes "collect") ≡ false → read
     (record { place = AtCollect; job = job }) line bytes ≡ read (record { place = AtHandlers; job = job }) line bytes
 collect_over job line bytes b = same_by AtCollect AtHandlers job line bytes (line_at AtHandlers (scope_of job) bytes)
     (record {
@@ -229,7 +229,7 @@ collect_over job line bytes b = same_by AtCollect AtHandlers job line bytes (lin
       bad_there = line_bad AtHandlers tt;
     }) refl
 
-pub handlers_over : (job : Job) (line : ℕ) (bytes : List ℕ) → bytes_eq (front bytes) (codes "handler") ≡ false → read
+pub handlers_over : (job : Job) (line : ℕ) (bytes : List ℕ) → bytes_eq (prefix bytes) (codes "handler") ≡ false → read
     (record { place = AtHandlers; job = job }) line bytes ≡ read (record { place = AtScripts; job = job }) line bytes
 handlers_over job line bytes b = same_by AtHandlers AtScripts job line bytes (line_at AtScripts (scope_of job) bytes)
     (record {

@@ -14,7 +14,7 @@ use Rattle.text_job.specs.JobText.{Line, handler_lines, header_line, script_line
 use Rattle.text_job.specs.JobText.{schedule_lines, lines_with_pairs, lines_with_atomics, lines_with_collect}
 use Rattle.text_job.specs.JobText.{lines_with_handlers}
 use Rattle.text_job.specs.JobText.{lines_with_scripts, IsJob, pair_line, head_lines}
-use Rattle.text_job.specs.Refusals.{completed, so_far, IsUnread, IsReached}
+use Rattle.text_job.specs.Refusals.{completed_job, so_far, IsUnread, IsReached}
 use Rattle.std.specs.Prelude.{is_some}
 use Rattle.text_job.specs.declared.job.CollectArea.{CollectArea}
 use Rattle.text_job.specs.declared.job.HandlerText.{HandlerText}
@@ -226,7 +226,7 @@ to_done job lines e is =
     (schedule_whole (with_scripts (before_scripts found) job.scripts) lines is.schedule is.pieces)
 
 -- the lines before a place lead there
-pub reach_place : (place : Place) (job : Job) → IsJob (completed place job) → IsUnread place job → IsReached place job
+pub reach_place : (place : Place) (job : Job) → IsJob (completed_job place job) → IsUnread place job → IsReached place job
     → Reaches start (so_far place job) (known_at place job)
 reach_place (AtSetting setting) job is u r = to_setting setting job is
 reach_place AtSieve job is u r = to_sieve job is

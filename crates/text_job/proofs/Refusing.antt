@@ -10,23 +10,23 @@ use Rattle.text_job.specs.Places as places
 use Rattle.text_job.specs.Places.{Place, AtSetting, AtSieve, AtPairs, AtHandlers, AtBody, AtScripts, AtSteps}
 use Rattle.text_job.specs.Places.{AtAtomics, AtCollect, AtSchedule, AtDone, Over}
 use Rattle.text_job.specs.Places.{Version}
-use Rattle.text_job.specs.JobReading.{State, BadLine, Front, start, of_front, alone, sized, read}
+use Rattle.text_job.specs.JobReading.{State, BadLine, Prefix, start, of_prefix, alone, within_size, read}
 use Rattle.text_job.specs.JobReading.{job_of}
-use Rattle.text_job.specs.JobReading.{front_of}
+use Rattle.text_job.specs.JobReading.{prefix_of}
 use Rattle.text_job.specs.JobText.{Line, spell, setting_line, sieve_line, pair_line, handler_lines}
 use Rattle.text_job.specs.JobText.{schedule_lines}
 use Rattle.text_job.specs.JobText.{script_lines, lines_with_pairs, lines_with_handlers, lines_with_scripts}
 use Rattle.text_job.specs.JobText.{job_lines}
 use Rattle.text_job.specs.JobText.{atomics_lines, collect_lines, lines_with_atomics, lines_with_collect}
 use Rattle.text_job.specs.JobText.{job_text, IsJob, JobText, BeginsWith}
-use Rattle.text_job.specs.Refusals.{first_lines, after_lines, IsFront}
+use Rattle.text_job.specs.Refusals.{first_lines, after_lines, IsPrefix}
 use Rattle.text_job.specs.Reading.{GivesAt}
 use Rattle.std.specs.Prelude.{IfOk}
 use Rattle.text_job.specs.declared.fault.JobFault.{JobFault}
 use Rattle.text_job.specs.declared.job.Job.{Job}
-use Rattle.base_text.proofs.Fronts.{cond_yes, cond_no}
+use Rattle.base_text.proofs.Prefixes.{cond_yes, cond_no}
 use Rattle.text_calls.proofs.FormLaws.{IsFlat}
-use Rattle.text_job.specs.Refusals.{completed, so_far, IsUnread}
+use Rattle.text_job.specs.Refusals.{completed_job, so_far, IsUnread}
 use Rattle.text_job.proofs.StateLaws.{from_on, done_line, end_line, handler_more, script_more}
 use Rattle.text_job.proofs.StateLaws.{end_schedule}
 use Rattle.text_job.proofs.JobLaws.{sound_job}
@@ -106,21 +106,21 @@ with_atomics_before job = atomics_lines job.atomics ++ with_collect_before job
 -- the lines that were read and others are all
 pub record IsPart (place : Place) (job : Job) : Type 0 where
   pub others : List Line
-  pub all : job_lines (completed place job) ≡ so_far place job ++ others
+  pub all : job_lines (completed_job place job) ≡ so_far place job ++ others
   pub some : IsOpen place → spell others ≡ [] → ⊥
 
 some_line : (line : Line) (lines : List Line) → spell (line ∷ lines) ≡ [] → ⊥
 some_line [] lines h = cc
 some_line (b ∷ line) lines h = cc
 
-some_last : (front lines : List Line) → spell (front ++ (lines ++ done_line ∷ [])) ≡ [] → ⊥
+some_last : (prefix lines : List Line) → spell (prefix ++ (lines ++ done_line ∷ [])) ≡ [] → ⊥
 some_last [] [] h = some_line done_line [] h
 some_last [] (line ∷ lines) h = some_line line (lines ++ done_line ∷ []) h
-some_last (line ∷ front) lines h = some_line line (front ++ (lines ++ done_line ∷ [])) h
+some_last (line ∷ prefix) lines h = some_line line (prefix ++ (lines ++ done_line ∷ [])) h
 
-some_front : (front lines : List Line) → (spell lines ≡ [] → ⊥) → spell (front ++ lines) ≡ [] → ⊥
-some_front [] lines some h = some h
-some_front (line ∷ front) lines some h = some_line line (front ++ lines) h
+some_prefix : (prefix lines : List Line) → (spell lines ≡ [] → ⊥) → spell (prefix ++ lines) ≡ [] → ⊥
+some_prefix [] lines some h = some h
+some_prefix (line ∷ prefix) lines some h = some_line line (prefix ++ lines) h
 
 setting_part : (setting : Setting) (job : Job) → job_lines job ≡ so_far (AtSetting setting) job ++
     (map (setting_line job) (from_on setting) ++ (sieve_line job.sieve ∷ later_lines job))
@@ -134,17 +134,17 @@ setting_part Last job = refl
 setting_part Resend job = refl
 setting_part Patience job = refl
 
-some_between : (front : List Line) (line : Line) (lines : List Line) → spell (front ++ line ∷ lines) ≡ [] → ⊥
+some_between : (prefix : List Line) (line : Line) (lines : List Line) → spell (prefix ++ line ∷ lines) ≡ [] → ⊥
 some_between [] line lines h = some_line line lines h
-some_between (first ∷ front) line lines h = some_line first (front ++ line ∷ lines) h
+some_between (first ∷ prefix) line lines h = some_line first (prefix ++ line ∷ lines) h
 
 some_collect : (job : Job) → spell (with_collect_before job) ≡ [] → ⊥
 some_collect job =
-    some_front (collect_lines job.collect) (behind_pairs job)
-    (some_front (flat_map handler_lines job.handlers) (behind_handlers job)
+    some_prefix (collect_lines job.collect) (behind_pairs job)
+    (some_prefix (flat_map handler_lines job.handlers) (behind_handlers job)
     (some_last (flat_map script_lines job.scripts) (schedule_lines job.settings job.schedule)))
 
-pairs_part : (place : Place) (job : Job) → so_far place job ≡ lines_with_pairs job → completed place job ≡ job
+pairs_part : (place : Place) (job : Job) → so_far place job ≡ lines_with_pairs job → completed_job place job ≡ job
     → IsPart place job
 pairs_part place job same done = record {
   others = with_atomics_before job;
@@ -154,7 +154,7 @@ pairs_part place job same done = record {
       ∙ append_assoc (lines_with_atomics job) (collect_lines job.collect) (behind_pairs job)
       ∙ append_assoc (lines_with_pairs job) (atomics_lines job.atomics) (with_collect_before job)
       ∙ ap (λ (ls : List Line). ls ++ with_atomics_before job) (sym same);
-  some = λ o. some_front (atomics_lines job.atomics) (with_collect_before job) (some_collect job);
+  some = λ o. some_prefix (atomics_lines job.atomics) (with_collect_before job) (some_collect job);
 }
 
 pub part_of : (place : Place) (job : Job) → IsUnread place job → IsPart place job
@@ -187,7 +187,7 @@ part_of AtHandlers job u = record {
 }
 part_of (AtBody handler) job u = record {
   others = end_line ∷ behind_handlers job;
-  all = append_assoc (lines_with_handlers (completed (AtBody handler) job)) (flat_map script_lines job.scripts)
+  all = append_assoc (lines_with_handlers (completed_job (AtBody handler) job)) (flat_map script_lines job.scripts)
       (last_lines job)
       ∙ ap (λ (ls : List Line). ls ++ behind_handlers job) (handler_more job.handlers handler (lines_with_collect job))
       ∙ append_assoc (so_far (AtBody handler) job) (end_line ∷ []) (behind_handlers job);
@@ -219,7 +219,7 @@ part_of AtDone job u = record {
 }
 part_of Over job u = record { others = []; all = sym (append-nil (job_lines job)); some = λ o. absurd o }
 
--- ---- fronts
+-- ---- prefixes
 
 -- the walk from the first line on
 pub record IsWalk (count : ℕ) (bytes : List ℕ) (end : State) (rest : List ℕ) : Type 0 where
@@ -234,7 +234,7 @@ walk_of count bytes end rest w =
 
 -- the text of the job so far
 pub text_of : (count : ℕ) (bytes : List ℕ) (end : State) (rest : List ℕ) (w : IsWalk count bytes end rest) → job_text
-    (completed end.place end.job) ≡ spell w.walked.between ++ spell w.part.others
+    (completed_job end.place end.job) ≡ spell w.walked.between ++ spell w.part.others
 text_of count bytes end rest w =
     ap spell w.part.all ∙ flat_map-append (λ (line : Line). line ++ 10 ∷ []) (so_far end.place end.job) w.part.others
     ∙ ap (λ (ls : List Line). spell ls ++ spell w.part.others) w.walked.lines
@@ -248,15 +248,15 @@ walk_lines count bytes end rest w =
     ∙ first_spelled k.between rest 0 k.flat ∙ ap (λ (r : List ℕ). spell k.between ++ r) (first_none rest)
     ∙ append-nil (spell k.between)
 
--- what was read is the front of a job's text
-abbrev pub walk_front : (count : ℕ) (bytes : List ℕ) (end : State) (rest : List ℕ) → IsWalk count bytes end rest →
-    (front : List ℕ) → front ≡ first_lines count bytes → IsFront front
-walk_front count bytes end rest w front e =
+-- what was read is the prefix of a job's text
+abbrev pub walk_prefix : (count : ℕ) (bytes : List ℕ) (end : State) (rest : List ℕ) → IsWalk count bytes end rest →
+    (prefix : List ℕ) → prefix ≡ first_lines count bytes → IsPrefix prefix
+walk_prefix count bytes end rest w prefix e =
     let k = w.walked in
     record {
-      job = completed end.place end.job;
+      job = completed_job end.place end.job;
       more = spell w.part.others;
-      is = sound_job (completed end.place end.job) (sound_completed end.place end.job k.is);
+      is = sound_job (completed_job end.place end.job) (sound_completed end.place end.job k.is);
       text = text_of count bytes end rest w
           ∙ ap (λ (b : List ℕ). b ++ spell w.part.others) (sym (e ∙ walk_lines count bytes end rest w));
     }
@@ -271,54 +271,54 @@ over_text count bytes place job rest walked over =
     (λ (p : Place). Walked count start bytes (record { place = p; job = job }) rest) over walked in
     (sound_job job w.is, w.text ∙ ap (λ (ls : List Line). spell ls ++ rest) (sym w.lines))
 
-pub front_same : {a b : Front} → ◌≡◌ {A = Result Front BadLine} (Ok a) (Ok b) → a ≡ b
-front_same h = cc
+pub prefix_same : {a b : Prefix} → ◌≡◌ {A = Result Prefix BadLine} (Ok a) (Ok b) → a ≡ b
+prefix_same h = cc
 
-read_by : (bytes : List ℕ) (front : Front) (o : Outcome start 1 bytes (read start 1 bytes)) → EndsAs o.end o.rest
-    (1 + o.count) (read start 1 bytes) → read start 1 bytes ≡ Ok front
-    → IsJob front.job × (bytes ≡ job_text front.job ++ front.rest)
-read_by bytes front o (Ends open_ e r) h = absurd (cc)
-read_by bytes front o (Fails why open_ s f r) h = absurd (cc)
-read_by bytes front o (IsOver over r) h =
-    subst (λ (f : Front). IsJob f.job × (bytes ≡ job_text f.job ++ f.rest)) (front_same (sym r ∙ h))
+read_by : (bytes : List ℕ) (prefix : Prefix) (o : Outcome start 1 bytes (read start 1 bytes)) → EndsAs o.end o.rest
+    (1 + o.count) (read start 1 bytes) → read start 1 bytes ≡ Ok prefix
+    → IsJob prefix.job × (bytes ≡ job_text prefix.job ++ prefix.rest)
+read_by bytes prefix o (Ends open_ e r) h = absurd (cc)
+read_by bytes prefix o (Fails why open_ s f r) h = absurd (cc)
+read_by bytes prefix o (IsOver over r) h =
+    subst (λ (f : Prefix). IsJob f.job × (bytes ≡ job_text f.job ++ f.rest)) (prefix_same (sym r ∙ h))
     (over_text o.count bytes o.end.place o.end.job o.rest (walk_keeps o.count start bytes o.end o.rest start_is
     o.walks) over)
 
 -- the bytes begin with the text of what was read
-pub read_text : (bytes : List ℕ) (front : Front) → read start 1 bytes ≡ Ok front
-    → IsJob front.job × (bytes ≡ job_text front.job ++ front.rest)
-read_text bytes front h = let o = read_outcome start 1 bytes in read_by bytes front o o.ends h
+pub read_text : (bytes : List ℕ) (prefix : Prefix) → read start 1 bytes ≡ Ok prefix
+    → IsJob prefix.job × (bytes ≡ job_text prefix.job ++ prefix.rest)
+read_text bytes prefix h = let o = read_outcome start 1 bytes in read_by bytes prefix o o.ends h
 
 -- so many bytes are behind it
-pub rest_size : (bytes : List ℕ) (front : Front) → read start 1 bytes ≡ Ok front → length bytes
-    ≡ length (job_text front.job) + length front.rest
-rest_size bytes front h = ap length (read_text bytes front h).1 ∙ length-append (job_text front.job) front.rest
+pub rest_size : (bytes : List ℕ) (prefix : Prefix) → read start 1 bytes ≡ Ok prefix → length bytes
+    ≡ length (job_text prefix.job) + length prefix.rest
+rest_size bytes prefix h = ap length (read_text bytes prefix h).1 ∙ length-append (job_text prefix.job) prefix.rest
 
 -- ---- a job alone
 
-record IsAlone (read : Result Front BadLine) (job : Job) : Type 0 where
-  pub front : Front
-  pub is : read ≡ Ok front
-  pub none : front.rest ≡ []
-  pub same : front.job ≡ job
+record IsAlone (read : Result Prefix BadLine) (job : Job) : Type 0 where
+  pub prefix : Prefix
+  pub is : read ≡ Ok prefix
+  pub none : prefix.rest ≡ []
+  pub same : prefix.job ≡ job
 
 no_bytes : (bytes : List ℕ) → length bytes ≡ 0 → bytes ≡ []
 no_bytes [] e = refl
 no_bytes (b ∷ bytes) e = absurd (omega arith)
 
-alone_by : (front : Front) (job : Job) (bad : BadLine) (t : Bool) → eqb (length front.rest) 0 ≡ t → ◌≡◌
-    {A = Result Job BadLine} (cond t (Ok front.job) (Err bad)) (Ok job) → IsAlone (Ok front) job
-alone_by front job bad true e h = record {
-  front = front;
+alone_by : (prefix : Prefix) (job : Job) (bad : BadLine) (t : Bool) → eqb (length prefix.rest) 0 ≡ t → ◌≡◌
+    {A = Result Job BadLine} (cond t (Ok prefix.job) (Err bad)) (Ok job) → IsAlone (Ok prefix) job
+alone_by prefix job bad true e h = record {
+  prefix = prefix;
   is = refl;
-  none = no_bytes front.rest (eqb-true (length front.rest) 0 e);
+  none = no_bytes prefix.rest (eqb-true (length prefix.rest) 0 e);
   same = cc;
 }
-alone_by front job bad false e h = absurd (cc)
+alone_by prefix job bad false e h = absurd (cc)
 
-alone_of : (read : Result Front BadLine) (job : Job) → of_front alone read ≡ Ok job → IsAlone read job
+alone_of : (read : Result Prefix BadLine) (job : Job) → of_prefix alone read ≡ Ok job → IsAlone read job
 alone_of (Err bad) job h = absurd (cc)
-alone_of (Ok front) job h = alone_by front job _ (eqb (length front.rest) 0) refl h
+alone_of (Ok prefix) job h = alone_by prefix job _ (eqb (length prefix.rest) 0) refl h
 
 long_by : (bytes : List ℕ) (job : Job) (t : Bool) → ltb MAX_JOB_BYTES (length bytes) ≡ t → job_of bytes ≡ Ok job
     → JobText job bytes
@@ -329,9 +329,9 @@ long_by bytes job true e h = absurd (err_ok (sym (cond_yes _ _ _ e) ∙ h))
     err_ok h = cc
 long_by bytes job false e h =
     let a = alone_of (read start 1 bytes) job (sym (cond_no _ _ _ e) ∙ h) in
-    let p = read_text bytes a.front a.is in
-    let text : bytes ≡ job_text a.front.job = p.1 ∙ ap (λ (r : List ℕ). job_text a.front.job ++ r) a.none
-    ∙ append-nil (job_text a.front.job) in
+    let p = read_text bytes a.prefix a.is in
+    let text : bytes ≡ job_text a.prefix.job = p.1 ∙ ap (λ (r : List ℕ). job_text a.prefix.job ++ r) a.none
+    ∙ append-nil (job_text a.prefix.job) in
     subst (λ (j : Job). JobText j bytes) a.same
     (record { is_job = p.0; text = text; within = ltb-false MAX_JOB_BYTES (length bytes) e })
 
@@ -344,37 +344,37 @@ pub gives_found : (r : Result Job JobFault) (bytes : List ℕ) → GivesAt (λ (
 gives_found (Ok job) bytes h = job_text_of bytes job h
 gives_found (Err fault) bytes h = tt
 
--- ---- a job at the front
+-- ---- a job at the prefix
 
-begins_by : (bytes : List ℕ) (front : Front) (x : Job × ℕ) (bad : BadLine) (t : Bool)
-    → ltb MAX_JOB_BYTES (length bytes - length front.rest) ≡ t → read start 1 bytes ≡ Ok front → ◌≡◌
-    {A = Result (Job × ℕ) BadLine} (cond t (Err bad) (Ok (front.job, length bytes - length front.rest))) (Ok x)
+begins_by : (bytes : List ℕ) (prefix : Prefix) (x : Job × ℕ) (bad : BadLine) (t : Bool)
+    → ltb MAX_JOB_BYTES (length bytes - length prefix.rest) ≡ t → read start 1 bytes ≡ Ok prefix → ◌≡◌
+    {A = Result (Job × ℕ) BadLine} (cond t (Err bad) (Ok (prefix.job, length bytes - length prefix.rest))) (Ok x)
     → BeginsWith x.0 x.1 bytes
-begins_by bytes front x bad true e h same = absurd (cc)
-begins_by bytes front x bad false e h same =
-    let p = read_text bytes front h in
-    let size : length bytes - length front.rest ≡ length (job_text front.job) = omega
-    (arith, rest_size bytes front h) in
-    let found : BeginsWith front.job (length bytes - length front.rest) bytes = record {
+begins_by bytes prefix x bad true e h same = absurd (cc)
+begins_by bytes prefix x bad false e h same =
+    let p = read_text bytes prefix h in
+    let size : length bytes - length prefix.rest ≡ length (job_text prefix.job) = omega
+    (arith, rest_size bytes prefix h) in
+    let found : BeginsWith prefix.job (length bytes - length prefix.rest) bytes = record {
       is_job = p.0;
-      rest = front.rest;
+      rest = prefix.rest;
       text = p.1;
       long = size;
-      within = ltb-false MAX_JOB_BYTES (length bytes - length front.rest) e;
+      within = ltb-false MAX_JOB_BYTES (length bytes - length prefix.rest) e;
     } in
     subst (λ (y : Job × ℕ). BeginsWith y.0 y.1 bytes) (ok_is same) found
   where
     ok_is : {a b : Job × ℕ} → ◌≡◌ {A = Result (Job × ℕ) BadLine} (Ok a) (Ok b) → a ≡ b
     ok_is h = cc
 
-begins_with : (bytes : List ℕ) (x : Job × ℕ) (r : Result Front BadLine) → read start 1 bytes ≡ r
-    → of_front (sized (length bytes)) r ≡ Ok x → BeginsWith x.0 x.1 bytes
+begins_with : (bytes : List ℕ) (x : Job × ℕ) (r : Result Prefix BadLine) → read start 1 bytes ≡ r
+    → of_prefix (within_size (length bytes)) r ≡ Ok x → BeginsWith x.0 x.1 bytes
 begins_with bytes x (Err bad) e h = absurd (cc)
-begins_with bytes x (Ok front) e h =
-    begins_by bytes front x _ (ltb MAX_JOB_BYTES (length bytes - length front.rest)) refl e h
+begins_with bytes x (Ok prefix) e h =
+    begins_by bytes prefix x _ (ltb MAX_JOB_BYTES (length bytes - length prefix.rest)) refl e h
 
-pub gives_front_found : (r : Result (Job × ℕ) JobFault) (bytes : List ℕ)
-    → GivesAt (λ (x : Job × ℕ). x) r (front_of bytes) → IfOk r (λ x. BeginsWith x.0 x.1 bytes)
-unfolding front_of
-gives_front_found (Ok x) bytes h = begins_with bytes x (read start 1 bytes) refl h
-gives_front_found (Err fault) bytes h = tt
+pub gives_prefix_found : (r : Result (Job × ℕ) JobFault) (bytes : List ℕ)
+    → GivesAt (λ (x : Job × ℕ). x) r (prefix_of bytes) → IfOk r (λ x. BeginsWith x.0 x.1 bytes)
+unfolding prefix_of
+gives_prefix_found (Ok x) bytes h = begins_with bytes x (read start 1 bytes) refl h
+gives_prefix_found (Err fault) bytes h = tt

@@ -8,7 +8,7 @@ use Rattle.text_job.specs.Places.{AtCollect, AtSchedule, AtDone, Over, Named, Ot
 use Rattle.text_job.specs.Places.{CollectItem}
 use Rattle.text_job.specs.Places.{AtomicsItem}
 use Rattle.text_job.specs.Scopes.{scope_of}
-use Rattle.text_job.specs.JobReading.{State, behind_setting, next, opened, headed, collected, served}
+use Rattle.text_job.specs.JobReading.{State, behind_setting, next, after_section, after_handler_line, after_collect, after_atomics}
 use Rattle.text_job.specs.JobReading.{pair_why}
 use Rattle.text_job.specs.JobReading.{handler_why, section_why, action_why, step_why, line_why, lines_of}
 use Rattle.text_job.specs.PlanPieces.{scripts_pieces}
@@ -47,23 +47,23 @@ behind_stands Last job = tt
 behind_stands Resend job = tt
 behind_stands Patience job = tt
 
-opened_stands : (job : Job) (s : Section) (state : State) → opened job s ≡ Ok state → Stands state
+opened_stands : (job : Job) (s : Section) (state : State) → after_section job s ≡ Ok state → Stands state
 opened_stands job (section.Script node thread) state h =
     subst Stands (unless_ok (section_why job.scripts (section.Script node thread)) _ state h).1 tt
 opened_stands job section.Schedule state h = by_ok _ state h tt
 opened_stands job section.Done state h = by_ok _ state h tt
 
-headed_stands : (job : Job) (item : HandlerItem) (state : State) → headed job item ≡ Ok state
+headed_stands : (job : Job) (item : HandlerItem) (state : State) → after_handler_line job item ≡ Ok state
     → Stands state
 headed_stands job (Named header) state h =
     subst Stands (unless_ok (handler_why (scope_of job) job.handlers header.index) _ state h).1 tt
 headed_stands job (Other s) state h = opened_stands job s state h
 
-collected_stands : (job : Job) (item : CollectItem) (state : State) → collected job item ≡ Ok state → Stands state
+collected_stands : (job : Job) (item : CollectItem) (state : State) → after_collect job item ≡ Ok state → Stands state
 collected_stands job (Named area) state h = by_ok _ state h (inl refl)
 collected_stands job (Other item) state h = headed_stands job item state h
 
-served_stands : (job : Job) (item : AtomicsItem) (state : State) → served job item ≡ Ok state → Stands state
+served_stands : (job : Job) (item : AtomicsItem) (state : State) → after_atomics job item ≡ Ok state → Stands state
 served_stands job (Named line) state h = by_ok _ state h refl
 served_stands job (Other item) state h = collected_stands job item state h
 

@@ -1,4 +1,4 @@
--- What was read so far is the front of a job's text.
+-- What was read so far is the prefix of a job's text.
 use Rattle.std.proofs.Common.{◌≡◌, ℕ, Bool, true, false, List, [], ◌∷◌, ◌++◌, map, Option, Some, None, Result, Ok, refl, sym, ap, subst}
 use Rattle.std.proofs.Common.{◌∙◌, codes, append_assoc, append-nil}
 use Rattle.std.specs.List.{flat_map}
@@ -18,8 +18,8 @@ use Rattle.text_job.specs.Places.{Place, AtSetting, AtSieve, AtPairs, AtHandlers
 use Rattle.text_job.specs.Places.{AtSchedule, AtDone, Over}
 use Rattle.text_job.specs.Places.{Named, Other, Item, item_text}
 use Rattle.text_job.specs.JobReading.{State, with_number, behind_setting, lines_of, unless, next}
-use Rattle.text_job.specs.JobReading.{collected, served, with_atomics, with_collect}
-use Rattle.text_job.specs.JobReading.{opened, headed, paired, acted, scripted, scheduled, pair_why}
+use Rattle.text_job.specs.JobReading.{after_collect, after_atomics, with_atomics, with_collect}
+use Rattle.text_job.specs.JobReading.{after_section, after_handler_line, after_pair, after_action, after_script_line, after_event, pair_why}
 use Rattle.text_job.specs.JobReading.{handler_why}
 use Rattle.text_job.specs.JobReading.{section_why, action_why, step_why, line_why}
 use Rattle.text_job.specs.PlanPieces.{scripts_pieces}
@@ -64,45 +64,45 @@ done_line = codes "done"
 -- ---- one line more
 
 -- no lines
-pub no_lines : {A : Type 0} (f : A → Line) (xs : List A) (front : List Line) → xs ≡ [] → front ++ map f xs ≡ front
-no_lines f [] front e = append-nil front
-no_lines f (x ∷ xs) front e = absurd (cc)
+pub no_lines : {A : Type 0} (f : A → Line) (xs : List A) (prefix : List Line) → xs ≡ [] → prefix ++ map f xs ≡ prefix
+no_lines f [] prefix e = append-nil prefix
+no_lines f (x ∷ xs) prefix e = absurd (cc)
 
-pub no_parts : {A : Type 0} (f : A → List Line) (xs : List A) (front : List Line) → xs ≡ []
-    → front ++ flat_map f xs ≡ front
-no_parts f [] front e = append-nil front
-no_parts f (x ∷ xs) front e = absurd (cc)
+pub no_parts : {A : Type 0} (f : A → List Line) (xs : List A) (prefix : List Line) → xs ≡ []
+    → prefix ++ flat_map f xs ≡ prefix
+no_parts f [] prefix e = append-nil prefix
+no_parts f (x ∷ xs) prefix e = absurd (cc)
 
 -- a line at the end of some
-one_more : {A : Type 0} (f : A → Line) (xs : List A) (x : A) (front : List Line) → front ++ map f (xs ++ x ∷ []) ≡
-    (front ++ map f xs) ++ f x ∷ []
-one_more f xs x front = ap (λ (ls : List Line). front ++ ls) (map-append f xs (x ∷ [])) ∙ sym
-    (append_assoc front (map f xs) (f x ∷ []))
+one_more : {A : Type 0} (f : A → Line) (xs : List A) (x : A) (prefix : List Line) → prefix ++ map f (xs ++ x ∷ []) ≡
+    (prefix ++ map f xs) ++ f x ∷ []
+one_more f xs x prefix = ap (λ (ls : List Line). prefix ++ ls) (map-append f xs (x ∷ [])) ∙ sym
+    (append_assoc prefix (map f xs) (f x ∷ []))
 
-one_behind : {A : Type 0} (f : A → Line) (xs : List A) (x : A) (first : Line) (front : List Line) → front ++
-    (first ∷ map f (xs ++ x ∷ [])) ≡ (front ++ (first ∷ map f xs)) ++ f x ∷ []
-one_behind f xs x first front = ap (λ (ls : List Line). front ++ (first ∷ ls)) (map-append f xs (x ∷ [])) ∙ sym
-    (append_assoc front (first ∷ map f xs) (f x ∷ []))
+one_behind : {A : Type 0} (f : A → Line) (xs : List A) (x : A) (first : Line) (prefix : List Line) → prefix ++
+    (first ∷ map f (xs ++ x ∷ [])) ≡ (prefix ++ (first ∷ map f xs)) ++ f x ∷ []
+one_behind f xs x first prefix = ap (λ (ls : List Line). prefix ++ (first ∷ ls)) (map-append f xs (x ∷ [])) ∙ sym
+    (append_assoc prefix (first ∷ map f xs) (f x ∷ []))
 
 -- a part more, which has these lines and the line `end`
-part_more : {A : Type 0} (f : A → List Line) (xs : List A) (x : A) (front lines : List Line) → f x ≡ lines
-    ++ end_line ∷ [] → front ++ flat_map f (xs ++ x ∷ []) ≡ ((front ++ flat_map f xs) ++ lines) ++ end_line ∷ []
-part_more f xs x front lines e =
-    ap (λ (ls : List Line). front ++ ls) (flat_map-append f xs (x ∷ []) ∙ ap
+part_more : {A : Type 0} (f : A → List Line) (xs : List A) (x : A) (prefix lines : List Line) → f x ≡ lines
+    ++ end_line ∷ [] → prefix ++ flat_map f (xs ++ x ∷ []) ≡ ((prefix ++ flat_map f xs) ++ lines) ++ end_line ∷ []
+part_more f xs x prefix lines e =
+    ap (λ (ls : List Line). prefix ++ ls) (flat_map-append f xs (x ∷ []) ∙ ap
     (λ (ls : List Line). flat_map f xs ++ ls) (append-nil (f x)))
-    ∙ sym (append_assoc front (flat_map f xs) (f x))
-    ∙ ap (λ (ls : List Line). (front ++ flat_map f xs) ++ ls) e
-    ∙ sym (append_assoc (front ++ flat_map f xs) lines (end_line ∷ []))
+    ∙ sym (append_assoc prefix (flat_map f xs) (f x))
+    ∙ ap (λ (ls : List Line). (prefix ++ flat_map f xs) ++ ls) e
+    ∙ sym (append_assoc (prefix ++ flat_map f xs) lines (end_line ∷ []))
 
-pub handler_more : (hs : List HandlerText) (h : HandlerText) (front : List Line) → front ++ flat_map handler_lines
-    (hs ++ h ∷ []) ≡ ((front ++ flat_map handler_lines hs) ++ (header_line h ∷ map action_text h.body))
+pub handler_more : (hs : List HandlerText) (h : HandlerText) (prefix : List Line) → prefix ++ flat_map handler_lines
+    (hs ++ h ∷ []) ≡ ((prefix ++ flat_map handler_lines hs) ++ (header_line h ∷ map action_text h.body))
     ++ end_line ∷ []
-handler_more hs h front = part_more handler_lines hs h front (header_line h ∷ map action_text h.body) refl
+handler_more hs h prefix = part_more handler_lines hs h prefix (header_line h ∷ map action_text h.body) refl
 
-pub script_more : (ss : List NodeScript) (s : NodeScript) (front : List Line) → front ++ flat_map script_lines
-    (ss ++ s ∷ []) ≡ ((front ++ flat_map script_lines ss) ++ (script_line s ∷ map step_text s.steps))
+pub script_more : (ss : List NodeScript) (s : NodeScript) (prefix : List Line) → prefix ++ flat_map script_lines
+    (ss ++ s ∷ []) ≡ ((prefix ++ flat_map script_lines ss) ++ (script_line s ∷ map step_text s.steps))
     ++ end_line ∷ []
-script_more ss s front = part_more script_lines ss s front (script_line s ∷ map step_text s.steps) refl
+script_more ss s prefix = part_more script_lines ss s prefix (script_line s ∷ map step_text s.steps) refl
 
 -- the lines with what a line says
 abbrev pub SaysMore : (place : Place) → Job → Item place → State → Type 0
@@ -132,12 +132,12 @@ unless_ok None state found h = (refl, cc)
 unless_ok (Some why) state found h = absurd (cc)
 
 -- the schedule is none
-pub none_schedule : (settings : Parameters) (schedule : Option (List TimedEvent)) (front : List Line) → schedule
-    ≡ None → front ++ (schedule_lines settings schedule ++ done_line ∷ []) ≡ front ++ done_line ∷ []
-none_schedule settings None front e = refl
-none_schedule settings (Some lines) front e = absurd (cc)
+pub none_schedule : (settings : Parameters) (schedule : Option (List TimedEvent)) (prefix : List Line) → schedule
+    ≡ None → prefix ++ (schedule_lines settings schedule ++ done_line ∷ []) ≡ prefix ++ done_line ∷ []
+none_schedule settings None prefix e = refl
+none_schedule settings (Some lines) prefix e = absurd (cc)
 
-opened_more : (job : Job) (s : Section) (state : State) → IsUnread AtScripts job → opened job s ≡ Ok state
+opened_more : (job : Job) (s : Section) (state : State) → IsUnread AtScripts job → after_section job s ≡ Ok state
     → SaysMore AtScripts job s state
 opened_more job (section.Script node thread) state u h =
     let p = unless_ok (section_why job.scripts (section.Script node thread)) _ state h in
@@ -149,7 +149,7 @@ opened_more job section.Done state u h = subst (λ (x : State). SaysMore AtScrip
 
 -- what has these lines has them by another place
 headed_more : (job : Job) (item : HandlerItem) (state : State) → IsUnread AtHandlers job
-    → headed job item ≡ Ok state → SaysMore AtHandlers job item state
+    → after_handler_line job item ≡ Ok state → SaysMore AtHandlers job item state
 headed_more job (Named header) state u h =
     let p = unless_ok (handler_why (scope_of job) job.handlers header.index) _ state h in
     subst (λ (x : State). SaysMore AtHandlers job (Named header) x) p.1 (refl, u)
@@ -161,14 +161,14 @@ headed_more job (Other s) state u h =
     )
 
 -- the line of atomics isn't there, and neither is a handler
-no_atomics : (atomics : Bool) (front : List Line) → atomics ≡ false → front ++ atomics_lines atomics ≡ front
-no_atomics true front e = absurd (cc)
-no_atomics false front e = append-nil front
+no_atomics : (atomics : Bool) (prefix : List Line) → atomics ≡ false → prefix ++ atomics_lines atomics ≡ prefix
+no_atomics true prefix e = absurd (cc)
+no_atomics false prefix e = append-nil prefix
 
 -- nor is the line of collectives
-no_collect : (collect : Option CollectArea) (front : List Line) → collect ≡ None → front ++ collect_lines collect ≡ front
-no_collect None front e = append-nil front
-no_collect (Some area) front e = absurd (cc)
+no_collect : (collect : Option CollectArea) (prefix : List Line) → collect ≡ None → prefix ++ collect_lines collect ≡ prefix
+no_collect None prefix e = append-nil prefix
+no_collect (Some area) prefix e = absurd (cc)
 
 -- the lines behind the line of collectives, behind which there is no handler
 with_line_of_collectives : (job : Job) (area : CollectArea) → job.handlers ≡ []
@@ -177,7 +177,7 @@ with_line_of_collectives job area none =
     no_parts handler_lines job.handlers (lines_with_collect (with_collect area job)) none
 
 collected_more : (job : Job) (item : CollectItem) (state : State) → IsUnread AtCollect job
-    → collected job item ≡ Ok state → SaysMore AtCollect job item state
+    → after_collect job item ≡ Ok state → SaysMore AtCollect job item state
 collected_more job (Named area) state u h =
     subst (λ (x : State). SaysMore AtCollect job (Named area) x) (ok_same h)
     (with_line_of_collectives job area u.1, (u.2, u.3))
@@ -189,7 +189,7 @@ collected_more job (Other item) state u h =
       m.1,
     )
 
-served_more : (job : Job) (item : AtomicsItem) (state : State) → IsUnread AtAtomics job → served job item ≡ Ok state
+served_more : (job : Job) (item : AtomicsItem) (state : State) → IsUnread AtAtomics job → after_atomics job item ≡ Ok state
     → SaysMore AtAtomics job item state
 served_more job (Named line) state u h =
     subst (λ (x : State). SaysMore AtAtomics job (Named line) x) (ok_same h) (refl, (u.1, u.2, u.3, u.4))
@@ -200,7 +200,7 @@ served_more job (Other item) state u h =
       m.1,
     )
 
-paired_more : (job : Job) (item : PairItem) (state : State) → IsUnread AtPairs job → paired job item ≡ Ok state
+paired_more : (job : Job) (item : PairItem) (state : State) → IsUnread AtPairs job → after_pair job item ≡ Ok state
     → SaysMore AtPairs job item state
 paired_more job (Named pair) state u h =
     let p = unless_ok (pair_why job.settings.pairs pair) _ state h in
@@ -212,7 +212,7 @@ paired_more job (Named pair) state u h =
 paired_more job (Other item) state u h = served_more job item state u h
 
 acted_more : (handler : HandlerText) (job : Job) (item : Option Action) (state : State) → IsUnread
-    (AtBody handler) job → acted handler job item ≡ Ok state → SaysMore (AtBody handler) job item state
+    (AtBody handler) job → after_action handler job item ≡ Ok state → SaysMore (AtBody handler) job item state
 acted_more handler job None state u h = subst (λ (x : State). SaysMore (AtBody handler) job None x) (ok_same h)
     (handler_more job.handlers handler (lines_with_collect job), u)
 acted_more handler job (Some a) state u h =
@@ -224,7 +224,7 @@ acted_more handler job (Some a) state u h =
     )
 
 scripted_more : (script : NodeScript) (job : Job) (item : Option ScriptStep) (state : State) → IsUnread
-    (AtSteps script) job → scripted script job item ≡ Ok state → SaysMore (AtSteps script) job item state
+    (AtSteps script) job → after_script_line script job item ≡ Ok state → SaysMore (AtSteps script) job item state
 scripted_more script job None state u h = subst (λ (x : State). SaysMore (AtSteps script) job None x) (ok_same h)
     (script_more job.scripts script (lines_with_handlers job), u)
 scripted_more script job (Some s) state u h =
@@ -236,15 +236,15 @@ scripted_more script job (Some s) state u h =
     )
 
 -- the end of a schedule
-pub end_schedule : (settings : Parameters) (schedule : Option (List TimedEvent)) (front : List Line) →
-    (lines : List TimedEvent) × (schedule ≡ Some lines) → front ++ schedule_lines settings schedule ≡ (front
+pub end_schedule : (settings : Parameters) (schedule : Option (List TimedEvent)) (prefix : List Line) →
+    (lines : List TimedEvent) × (schedule ≡ Some lines) → prefix ++ schedule_lines settings schedule ≡ (prefix
     ++ (codes "schedule" ∷ timed_lines settings (lines_of schedule))) ++ end_line ∷ []
-end_schedule settings None front e = absurd (cc)
-end_schedule settings (Some lines) front e = sym (append_assoc front (codes "schedule" ∷ timed_lines settings lines)
+end_schedule settings None prefix e = absurd (cc)
+end_schedule settings (Some lines) prefix e = sym (append_assoc prefix (codes "schedule" ∷ timed_lines settings lines)
     (end_line ∷ []))
 
 scheduled_more : (job : Job) (item : Option TimedEvent) (state : State) → IsUnread AtSchedule job
-    → scheduled job item ≡ Ok state → SaysMore AtSchedule job item state
+    → after_event job item ≡ Ok state → SaysMore AtSchedule job item state
 scheduled_more job None state u h = subst (λ (x : State). SaysMore AtSchedule job None x) (ok_same h)
     (end_schedule job.settings job.schedule (lines_with_scripts job) u, u)
 scheduled_more job (Some t) state u h =

@@ -16,8 +16,8 @@ use Rattle.text_job.specs.Scopes.{scope_of}
 use Rattle.text_job.specs.Places.{Named, Other, Item, IsItem}
 use Rattle.text_job.specs.JobReading.{State, least_job, with_number, behind_setting, with_action, lines_of}
 use Rattle.text_job.specs.JobReading.{next}
-use Rattle.text_job.specs.JobReading.{with_step, begun_script, begun, opened, headed, paired, acted, scripted}
-use Rattle.text_job.specs.JobReading.{scheduled, collected, served, is_reserved, most_handlers}
+use Rattle.text_job.specs.JobReading.{with_step, begun_script, new_handler, after_section, after_handler_line, after_pair, after_action, after_script_line}
+use Rattle.text_job.specs.JobReading.{after_event, after_collect, after_atomics, is_reserved, most_handlers}
 use Rattle.text_job.specs.JobReading.{has_index, has_pair, has_thread, pair_why, handler_why, section_why}
 use Rattle.text_job.specs.JobReading.{action_why}
 use Rattle.text_job.specs.JobReading.{is_full_script, step_why, line_why}
@@ -44,7 +44,7 @@ use Rattle.text_job.proofs.AreaLaws.{collect_is}
 use Rattle.text_job.proofs.JobLaws.{atomics_sound, collect_sound, handler_sound, script_sound, all_more}
 use Rattle.text_job.proofs.JobLaws.{empty_sound}
 use Rattle.text_job.proofs.JobLaws.{line_sound}
-use Rattle.text_job.specs.Refusals.{completed, IsUnread}
+use Rattle.text_job.specs.Refusals.{completed_job, IsUnread}
 use Rattle.text_job.proofs.StateLaws.{unless_ok, ok_same}
 
 -- a handler so far
@@ -95,7 +95,7 @@ unread AtDone job is = is.1
 unread Over job is = tt
 
 -- with what is left it is a job
-pub sound_completed : (place : Place) (job : Job) → IsState place job → IsSound (completed place job)
+pub sound_completed : (place : Place) (job : Job) → IsState place job → IsSound (completed_job place job)
 sound_completed (AtSetting setting) job is = head_sound job is.0
 sound_completed AtSieve job is = head_sound job is
 sound_completed AtPairs job is = is.0
@@ -222,7 +222,7 @@ action_free : (handler : HandlerText) → action_why handler.body ≡ None → l
 action_free handler h = leb-false 64 (length handler.body) (no_count (leb 64 (length handler.body)) h)
 
 opened_state : (job : Job) (s : Section) (state : State) → IsState AtScripts job → IsItem AtScripts (scope_of job) s
-    → opened job s ≡ Ok state → IsState state.place state.job
+    → after_section job s ≡ Ok state → IsState state.place state.job
 opened_state job (section.Script node thread) state is item h =
     let p = unless_ok (section_why job.scripts (section.Script node thread)) _ state h in
     let there = and_parts (ltb node job.settings.nodes) (ltb thread job.settings.threads) item.1 in
@@ -243,7 +243,7 @@ opened_state job section.Schedule state is item h = subst (λ (x : State). IsSta
 opened_state job section.Done state is item h = subst (λ (x : State). IsState x.place x.job) (ok_same h) is.0
 
 headed_state : (job : Job) (item : HandlerItem) (state : State) → IsState AtHandlers job
-    → IsItem AtHandlers (scope_of job) item → headed job item ≡ Ok state → IsState state.place state.job
+    → IsItem AtHandlers (scope_of job) item → after_handler_line job item ≡ Ok state → IsState state.place state.job
 headed_state job (Named header) state is item h =
     let p = unless_ok (handler_why (scope_of job) job.handlers header.index) _ state h in
     let most = most_handlers (scope_of job) in
@@ -251,7 +251,7 @@ headed_state job (Named header) state is item h =
     (leb most (length job.handlers)) Entry Count p.0 in
     let new = or_parts (has_index job.handlers header.index) (is_reserved (scope_of job) header.index) free.0 in
     let tests = and_parts (eqb header.index 0 || leb 128 header.index) (are_listed 0 header.locks) item.1 in
-    let one : IsBegun (begun header) job = record {
+    let one : IsBegun (new_handler header) job = record {
       is = record {
         index = index_by (eqb header.index 0) (leb 128 header.index) header.index refl refl tests.0 item.0.0.1;
         locks = tests.1;
@@ -266,7 +266,7 @@ headed_state job (Named header) state is item h =
 headed_state job (Other s) state is item h = opened_state job s state (is.0, is.2) item h
 
 collected_state : (job : Job) (item : CollectItem) (state : State) → IsState AtCollect job
-    → IsItem AtCollect (scope_of job) item → collected job item ≡ Ok state → IsState state.place state.job
+    → IsItem AtCollect (scope_of job) item → after_collect job item ≡ Ok state → IsState state.place state.job
 collected_state job (Named area) state is one h =
     let there = collect_is (scope_of job) area one.1 in
     subst (λ (x : State). IsState x.place x.job) (ok_same h)
@@ -274,7 +274,7 @@ collected_state job (Named area) state is one h =
 collected_state job (Other item) state is one h = headed_state job item state (is.0, is.3, is.4) one h
 
 served_state : (job : Job) (item : AtomicsItem) (state : State) → IsState AtAtomics job
-    → IsItem AtAtomics (scope_of job) item → served job item ≡ Ok state → IsState state.place state.job
+    → IsItem AtAtomics (scope_of job) item → after_atomics job item ≡ Ok state → IsState state.place state.job
 served_state job (Named line) state is one h =
     let second = eqb-true job.settings.version 2 one.1 in
     subst (λ (x : State). IsState x.place x.job) (ok_same h)
@@ -282,7 +282,7 @@ served_state job (Named line) state is one h =
 served_state job (Other item) state is one h =
     collected_state job item state (is.0, is.2, is.3, is.4, is.5) one h
 
-paired_state : (job : Job) (item : PairItem) (state : State) → IsState AtPairs job → IsItem AtPairs (scope_of job) item → paired job item ≡ Ok state
+paired_state : (job : Job) (item : PairItem) (state : State) → IsState AtPairs job → IsItem AtPairs (scope_of job) item → after_pair job item ≡ Ok state
     → IsState state.place state.job
 paired_state job (Named pair) state is item h =
     let p = unless_ok (pair_why job.settings.pairs pair) _ state h in
@@ -299,7 +299,7 @@ paired_state job (Named pair) state is item h =
 paired_state job (Other item) state is one h = served_state job item state is one h
 
 acted_state : (handler : HandlerText) (job : Job) (item : Option Action) (state : State) → IsState
-    (AtBody handler) job → IsItem (AtBody handler) (scope_of job) item → acted handler job item ≡ Ok state
+    (AtBody handler) job → IsItem (AtBody handler) (scope_of job) item → after_action handler job item ≡ Ok state
     → IsState state.place state.job
 acted_state handler job None state is item h = subst (λ (x : State). IsState x.place x.job) (ok_same h)
     (handler_sound job handler is.0 is.3.is is.3.new is.3.free is.3.few, is.1, is.2)
@@ -327,7 +327,7 @@ step_free before script s h =
     few_steps pieces (length script.steps) s (no_count (is_full_script pieces (length script.steps) s) h)
 
 scripted_state : (script : NodeScript) (job : Job) (item : Option ScriptStep) (state : State) → IsState
-    (AtSteps script) job → IsItem (AtSteps script) (scope_of job) item → scripted script job item ≡ Ok state
+    (AtSteps script) job → IsItem (AtSteps script) (scope_of job) item → after_script_line script job item ≡ Ok state
     → IsState state.place state.job
 scripted_state script job None state is item h = subst (λ (x : State). IsState x.place x.job) (ok_same h)
     (script_sound job script is.0 is.2.is is.2.new is.1 is.2.room, is.1)
@@ -349,7 +349,7 @@ scripted_state script job (Some s) state is item h =
     subst (λ (x : State). IsState x.place x.job) p.1 (is.0, is.1, one)
 
 scheduled_state : (job : Job) (item : Option TimedEvent) (state : State) → IsState AtSchedule job
-    → IsItem AtSchedule (scope_of job) item → scheduled job item ≡ Ok state → IsState state.place state.job
+    → IsItem AtSchedule (scope_of job) item → after_event job item ≡ Ok state → IsState state.place state.job
 scheduled_state job None state is item h = subst (λ (x : State). IsState x.place x.job) (ok_same h) is
 scheduled_state job (Some t) state is item h =
     let p = unless_ok (line_why job.settings.nodes (scripts_pieces job.scripts) (lines_of job.schedule) t) _ state h in

@@ -40,14 +40,14 @@ threads_more (first ∷ scripts) s are new =
     )
 
 -- the thread of a script has none before it
-pub threads_new : (front rest : List NodeScript) (s : NodeScript) → AreThreads (front ++ s ∷ rest)
-    → has_thread front s.node s.thread ≡ false
+pub threads_new : (prefix rest : List NodeScript) (s : NodeScript) → AreThreads (prefix ++ s ∷ rest)
+    → has_thread prefix s.node s.thread ≡ false
 threads_new [] rest s are = refl
-threads_new (first ∷ front) rest s are =
-    let parts = or_parts (has_thread front first.node first.thread) (has_thread (s ∷ rest) first.node first.thread)
-    (sym (list_any-append (is_of first.node first.thread) front (s ∷ rest)) ∙ are.0) in
+threads_new (first ∷ prefix) rest s are =
+    let parts = or_parts (has_thread prefix first.node first.thread) (has_thread (s ∷ rest) first.node first.thread)
+    (sym (list_any-append (is_of first.node first.thread) prefix (s ∷ rest)) ∙ are.0) in
     let one = or_parts (is_of first.node first.thread s) (has_thread rest first.node first.thread) parts.1 in
-    rw (turned s first ∙ one.0) (threads_new front rest s are.1)
+    rw (turned s first ∙ one.0) (threads_new prefix rest s are.1)
 
 -- ---- how many there are
 

@@ -2,7 +2,7 @@
 use Rattle.std.proofs.Common.{◌≡◌, ℕ, true, List, [], ◌∷◌, Option, Some, None, refl, ap, subst}
 use Rattle.std.proofs.lemmas.Bool.{eqb-true}
 use Rattle.std.specs.List.{AllByRecursion}
-use Rattle.wire_message.specs.Parameters.{Parameters, upgraded}
+use Rattle.wire_message.specs.Parameters.{Parameters, as_version_2}
 use Rattle.text_job.specs.CollectAreas.{IsCollectOrNone}
 use Rattle.text_job.specs.declared.job.CollectArea.{CollectArea}
 use Rattle.text_calls.specs.Calls.{IsCall}
@@ -27,7 +27,7 @@ use Rattle.text_calls.specs.declared.scope.Scope.{Scope}
 
 -- the scope with datagrams of the second version
 abbrev pub upgraded_scope : Scope → Scope
-upgraded_scope scope = record scope { settings = upgraded scope.settings }
+upgraded_scope scope = record scope { settings = as_version_2 scope.settings }
 
 -- what is so of all of a list is so in other words
 all_so : {A : Type 0} {P Q : A → Type 0} → ((a : A) → P a → Q a) → (items : List A) → AllByRecursion P items
@@ -82,7 +82,7 @@ timed_upgraded : (scope : Scope) (t : TimedEvent) → IsTimed scope t → IsTime
 timed_upgraded scope t is = record { time = is.time; event = event_upgraded scope t.event is.event }
 
 pub collect_upgraded : (settings : Parameters) (collect : Option CollectArea) → IsCollectOrNone settings collect
-    → IsCollectOrNone (upgraded settings) collect
+    → IsCollectOrNone (as_version_2 settings) collect
 collect_upgraded settings None is = tt
 collect_upgraded settings (Some area) is = record { second = refl; area = is.area }
 

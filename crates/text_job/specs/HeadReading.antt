@@ -4,25 +4,25 @@ use Rattle.wire_message.specs.Parameters.{Parameters}
 use Rattle.base_text.specs.Chains.{◌>>=◌}
 use Rattle.base_text.specs.Lines.{Word}
 use Rattle.base_text.specs.Lines as options
-use Rattle.text_calls.specs.Forms.{table_at, none_at, passed}
+use Rattle.text_calls.specs.Forms.{table_at, none_at, if_passes}
 use Rattle.text_calls.specs.FormTests.{table_form}
 use Rattle.base_text.specs.Reasons.{reason}
 use Rattle.text_job.specs.Places.{Setting, Version, Nodes, Credits, Threads, Segment, Last, Resend, Patience}
 use Rattle.text_job.specs.Places as places
 use Rattle.text_job.specs.Places.{setting_name, least, greatest, setting_fits, number_row, sieve_row}
-use Rattle.text_job.specs.JobReading.{BadLine, least_job, lined}
+use Rattle.text_job.specs.JobReading.{BadLine, least_job, item_of_line}
 use Rattle.base_text.specs.declared.why.LineWhy.{LineWhy}
 use Rattle.text_job.specs.declared.job.Job.{Job}
 use Rattle.text_job.specs.declared.job.SieveRule.{SieveRule}
 
 -- what was found in a line, or why it wasn't
-abbrev pub told : {A : Type 0} → (line : ℕ) → LineWhy → Option A → Result A BadLine
-told line why None = Err (record { line = line; why = why })
-told line why (Some x) = Ok x
+abbrev pub found_in_line : {A : Type 0} → (line : ℕ) → LineWhy → Option A → Result A BadLine
+found_in_line line why None = Err (record { line = line; why = why })
+found_in_line line why (Some x) = Ok x
 
 -- a number of this name and range, and the bytes after its line
 unfoldable pub number_line : Word → (low high : ℕ) → List ℕ → Option (ℕ × List ℕ)
-number_line name low high bytes = lined (table_at none_at (number_row name low high ∷ []) (λ number. true)) bytes
+number_line name low high bytes = item_of_line (table_at none_at (number_row name low high ∷ []) (λ number. true)) bytes
 
 -- a line of a name and a number: from `low` to `high`, and such that it fits
 pub record NumberForm : Type 0 where
@@ -56,7 +56,7 @@ segment_form nodes = setting_form Segment (record least_job.settings { nodes = n
 
 -- a number of the form, and the bytes after its line
 unfoldable pub fitting_line : NumberForm → List ℕ → Option (ℕ × List ℕ)
-fitting_line form bytes = options.◌>>=◌ (number_line form.name form.low form.high bytes) (passed form.fits)
+fitting_line form bytes = options.◌>>=◌ (number_line form.name form.low form.high bytes) (if_passes form.fits)
 
 -- the reason where there is none
 unfoldable pub number_why : Word → List ℕ → LineWhy
@@ -64,11 +64,11 @@ number_why name bytes = reason (table_form (λ b. false) (number_row name 0 0 �
 
 -- the number, or the reason
 unfoldable pub number_from : NumberForm → (line : ℕ) → List ℕ → Result (ℕ × List ℕ) BadLine
-number_from form line bytes = told line (number_why form.name bytes) (fitting_line form bytes)
+number_from form line bytes = found_in_line line (number_why form.name bytes) (fitting_line form bytes)
 
 -- the line of the sieve
 unfoldable pub sieve_line : List ℕ → Option (SieveRule × List ℕ)
-sieve_line bytes = lined (table_at none_at (sieve_row ∷ []) (λ rule. true)) bytes
+sieve_line bytes = item_of_line (table_at none_at (sieve_row ∷ []) (λ rule. true)) bytes
 
 -- the reason where there is none
 unfoldable pub sieve_why : List ℕ → LineWhy
@@ -86,7 +86,7 @@ head_at bytes = do
   last ← number_from (in_range (setting_name Last) 1 (greatest Last)) 7 segment.1
   resend ← number_from (in_range (setting_name Resend) 1 1000000) 8 last.1
   patience ← number_from (in_range (setting_name Patience) 1 1000000) 9 resend.1
-  rule ← told 10 (sieve_why patience.1) (sieve_line patience.1)
+  rule ← found_in_line 10 (sieve_why patience.1) (sieve_line patience.1)
   Ok (
     record {
       settings = record {

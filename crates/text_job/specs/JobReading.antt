@@ -6,7 +6,7 @@ use Rattle.std.specs.List.{list_any}
 use Rattle.wire_message.specs.Parameters.{with_pair}
 use Rattle.wire_message.specs.declared.pairs.PairCredits.{PairCredits}
 use Rattle.node_atomics.specs.BatchRequests.{batch_handler, block_handler}
-use Rattle.base_text.specs.Lines.{◌>>=◌, ended}
+use Rattle.base_text.specs.Lines.{◌>>=◌, after_newline}
 use Rattle.base_text.specs.Reasons.{reason}
 use Rattle.text_job.specs.Places.{Setting, Version, Nodes, Credits, Threads, Segment, Last, Resend, Patience}
 use Rattle.text_job.specs.Scopes.{scope_of}
@@ -224,8 +224,8 @@ is_full nodes so_far event =
     || nat_lt most_pieces (so_far.pieces + event_pieces event))
 
 -- how much there is with the event, where there is room for it
-abbrev pub admitted : (nodes : ℕ) → Amounts → ScheduledEvent → Option Amounts
-admitted nodes so_far event = if is_full nodes so_far event then None else Some (with_event so_far event)
+abbrev pub amounts_with : (nodes : ℕ) → Amounts → ScheduledEvent → Option Amounts
+amounts_with nodes so_far event = if is_full nodes so_far event then None else Some (with_event so_far event)
 
 -- whether there is no room for the step behind so many, where all plans so far have so many pieces
 abbrev pub is_full_script : (pieces steps : ℕ) → ScriptStep → Bool
@@ -276,8 +276,8 @@ behind_scripts false job = record { place = Over; job = job }
 abbrev pub begun_script : (node thread : ℕ) → NodeScript
 begun_script node thread = record { node = node; thread = thread; steps = [] }
 
-abbrev pub begun : HandlerHeader → HandlerText
-begun header = record { index = header.index; role = header.role; locks = header.locks; body = [] }
+abbrev pub new_handler : HandlerHeader → HandlerText
+new_handler header = record { index = header.index; role = header.role; locks = header.locks; body = [] }
 
 -- whether a line begins the schedule
 abbrev pub is_schedule : Section → Bool
@@ -291,51 +291,51 @@ behind_section job (section.Script node thread) =
 behind_section job other = behind_scripts (is_schedule other) job
 
 -- the same, unless there is a reason against it
-abbrev pub opened : Job → Section → Result State LineWhy
-opened job section = unless (section_why job.scripts section) (behind_section job section)
+abbrev pub after_section : Job → Section → Result State LineWhy
+after_section job section = unless (section_why job.scripts section) (behind_section job section)
 
 -- behind the first line of a handler, or such a line
-abbrev pub headed : Job → HandlerItem → Result State LineWhy
-headed job (Named header) =
+abbrev pub after_handler_line : Job → HandlerItem → Result State LineWhy
+after_handler_line job (Named header) =
     unless (handler_why (scope_of job) job.handlers header.index) (record {
-      place = AtBody (begun header);
+      place = AtBody (new_handler header);
       job = job;
     })
-headed job (Other section) = opened job section
+after_handler_line job (Other section) = after_section job section
 
 -- behind the line of collectives, or one of these
-abbrev pub collected : Job → CollectItem → Result State LineWhy
-collected job (Named area) = Ok (record { place = AtHandlers; job = with_collect area job })
-collected job (Other item) = headed job item
+abbrev pub after_collect : Job → CollectItem → Result State LineWhy
+after_collect job (Named area) = Ok (record { place = AtHandlers; job = with_collect area job })
+after_collect job (Other item) = after_handler_line job item
 
 -- behind the line of atomics, or one of these
-abbrev pub served : Job → AtomicsItem → Result State LineWhy
-served job (Named line) = Ok (record { place = AtCollect; job = with_atomics job })
-served job (Other item) = collected job item
+abbrev pub after_atomics : Job → AtomicsItem → Result State LineWhy
+after_atomics job (Named line) = Ok (record { place = AtCollect; job = with_atomics job })
+after_atomics job (Other item) = after_collect job item
 
 -- behind a pair, or one of these
-abbrev pub paired : Job → PairItem → Result State LineWhy
-paired job (Named pair) = unless (pair_why job.settings.pairs pair)
+abbrev pub after_pair : Job → PairItem → Result State LineWhy
+after_pair job (Named pair) = unless (pair_why job.settings.pairs pair)
     (record { place = AtPairs; job = with_own pair job })
-paired job (Other item) = served job item
+after_pair job (Other item) = after_atomics job item
 
 -- behind an action, or the line `end`
-abbrev pub acted : HandlerText → Job → Option Action → Result State LineWhy
-acted handler job None = Ok (record { place = AtHandlers; job = with_handler handler job })
-acted handler job (Some action) =
+abbrev pub after_action : HandlerText → Job → Option Action → Result State LineWhy
+after_action handler job None = Ok (record { place = AtHandlers; job = with_handler handler job })
+after_action handler job (Some action) =
     unless (action_why handler.body) (record { place = AtBody (with_action action handler); job = job })
 
 -- behind a step, or the line `end`
-abbrev pub scripted : NodeScript → Job → Option ScriptStep → Result State LineWhy
-scripted script job None = Ok (record { place = AtScripts; job = with_script script job })
-scripted script job (Some step) =
+abbrev pub after_script_line : NodeScript → Job → Option ScriptStep → Result State LineWhy
+after_script_line script job None = Ok (record { place = AtScripts; job = with_script script job })
+after_script_line script job (Some step) =
     unless (step_why (scripts_pieces job.scripts) script.steps step)
     (record { place = AtSteps (with_step step script); job = job })
 
 -- behind a line of the schedule, or the line `end`
-abbrev pub scheduled : Job → Option TimedEvent → Result State LineWhy
-scheduled job None = Ok (record { place = AtDone; job = job })
-scheduled job (Some timed) =
+abbrev pub after_event : Job → Option TimedEvent → Result State LineWhy
+after_event job None = Ok (record { place = AtDone; job = job })
+after_event job (Some timed) =
     unless (line_why job.settings.nodes (scripts_pieces job.scripts) (lines_of job.schedule) timed)
     (record { place = AtSchedule; job = with_line timed job })
 
@@ -346,23 +346,23 @@ next (AtSetting setting) job number = Ok (record {
   job = with_number setting number job;
 })
 next AtSieve job rule = Ok (record { place = AtPairs; job = record job { sieve = rule } })
-next AtPairs job item = paired job item
-next AtAtomics job item = served job item
-next AtCollect job item = collected job item
-next AtHandlers job item = headed job item
-next (AtBody handler) job item = acted handler job item
-next AtScripts job section = opened job section
-next (AtSteps script) job item = scripted script job item
-next AtSchedule job item = scheduled job item
+next AtPairs job item = after_pair job item
+next AtAtomics job item = after_atomics job item
+next AtCollect job item = after_collect job item
+next AtHandlers job item = after_handler_line job item
+next (AtBody handler) job item = after_action handler job item
+next AtScripts job section = after_section job section
+next (AtSteps script) job item = after_script_line script job item
+next AtSchedule job item = after_event job item
 next AtDone job item = Ok (record { place = Over; job = job })
 next Over job item = absurd item
 
 -- what the first line says, where `at` reads its words, and the bytes after the line
-abbrev pub lined : {A : Type 0} → (at : List ℕ → Option (A × List ℕ)) → List ℕ → Option (A × List ℕ)
-lined at bytes = at bytes >>= λ item. ended item.1 >>= λ rest. Some (item.0, rest)
+abbrev pub item_of_line : {A : Type 0} → (at : List ℕ → Option (A × List ℕ)) → List ℕ → Option (A × List ℕ)
+item_of_line at bytes = at bytes >>= λ item. after_newline item.1 >>= λ rest. Some (item.0, rest)
 
 abbrev pub line_at : (place : Place) → Scope → List ℕ → Option (Item place × List ℕ)
-line_at place scope bytes = lined (item_at place scope) bytes
+line_at place scope bytes = item_of_line (item_at place scope) bytes
 
 -- why it says nothing
 abbrev pub why_at : (place : Place) → Scope → List ℕ → LineWhy
@@ -373,14 +373,14 @@ abbrev pub onward : List ℕ → Result State LineWhy → Result (State × List 
 onward rest (Err why) = Err why
 onward rest (Ok state) = Ok (state, rest)
 
-abbrev pub stepped : (place : Place) → Job → LineWhy → Option (Item place × List ℕ) → Result (State × List ℕ) LineWhy
-stepped place job why None = Err why
-stepped place job why (Some item) = onward item.1 (next place job item.0)
+abbrev pub after_item : (place : Place) → Job → LineWhy → Option (Item place × List ℕ) → Result (State × List ℕ) LineWhy
+after_item place job why None = Err why
+after_item place job why (Some item) = onward item.1 (next place job item.0)
 
 -- what was read with the first line, and the bytes after it; or the first reason that applies to that line
 unfoldable pub step : State → List ℕ → Result (State × List ℕ) LineWhy
 step state bytes =
-    stepped state.place state.job (why_at state.place (scope_of state.job) bytes)
+    after_item state.place state.job (why_at state.place (scope_of state.job) bytes)
     (line_at state.place (scope_of state.job) bytes)
 
 -- ---- line by line
@@ -406,13 +406,13 @@ unfoldable pub from_lines : List ℕ → List (List ℕ)
 from_lines bytes = also_from bytes (from_later_lines bytes)
 
 -- a job with whose text bytes begin, the number of the line behind it, and the bytes from there on
-pub record Front : Type 0 where
+pub record Prefix : Type 0 where
   pub job : Job
   pub line : ℕ
   pub rest : List ℕ
 
-abbrev pub front_with : Job → (line : ℕ) → (rest : List ℕ) → Front
-front_with job line rest = record { job = job; line = line; rest = rest }
+abbrev pub prefix_with : Job → (line : ℕ) → (rest : List ℕ) → Prefix
+prefix_with job line rest = record { job = job; line = line; rest = rest }
 
 -- behind the last line of a job it is told, and else something goes on
 abbrev pub over_or : {A : Type 0} → Place → (told other : A) → A
@@ -420,45 +420,45 @@ over_or Over told other = told
 over_or place told other = other
 
 -- a line was read, or not
-abbrev pub after_step : (line : ℕ) → (State → Result Front BadLine) → Result (State × List ℕ) LineWhy
-    → Result Front BadLine
+abbrev pub after_step : (line : ℕ) → (State → Result Prefix BadLine) → Result (State × List ℕ) LineWhy
+    → Result Prefix BadLine
 after_step line more (Err why) = Err (record { line = line; why = why })
 after_step line more (Ok x) = more x.0
 
 -- the lines from these places on up to the last one of a job
-unfoldable pub read_lines : State → (line : ℕ) → List (List ℕ) → Result Front BadLine
+unfoldable pub read_lines : State → (line : ℕ) → List (List ℕ) → Result Prefix BadLine
 read_lines state line [] =
-    over_or state.place (Ok (front_with state.job line [])) (Err (record { line = line; why = Early }))
+    over_or state.place (Ok (prefix_with state.job line [])) (Err (record { line = line; why = Early }))
 read_lines state line (bytes ∷ later) =
-    over_or state.place (Ok (front_with state.job line bytes))
+    over_or state.place (Ok (prefix_with state.job line bytes))
     (after_step line (λ then_state. read_lines then_state (line + 1) later) (step state bytes))
 
 -- the bytes from a line on
-unfoldable pub read : State → (line : ℕ) → List ℕ → Result Front BadLine
+unfoldable pub read : State → (line : ℕ) → List ℕ → Result Prefix BadLine
 read state line bytes = read_lines state line (from_lines bytes)
 
--- what is made of a front, unless a line was bad
-abbrev pub of_front : {A : Type 0} → (Front → Result A BadLine) → Result Front BadLine → Result A BadLine
-of_front make (Ok front) = make front
-of_front make (Err bad) = Err bad
+-- what is made of a prefix, unless a line was bad
+abbrev pub of_prefix : {A : Type 0} → (Prefix → Result A BadLine) → Result Prefix BadLine → Result A BadLine
+of_prefix make (Ok prefix) = make prefix
+of_prefix make (Err bad) = Err bad
 
 -- the job, where no byte stands behind it
-abbrev pub alone : Front → Result Job BadLine
-alone front = if length front.rest == 0 then Ok front.job else Err (record { line = front.line; why = After })
+abbrev pub alone : Prefix → Result Job BadLine
+alone prefix = if length prefix.rest == 0 then Ok prefix.job else Err (record { line = prefix.line; why = After })
 
 -- what a text is read as
 unfoldable pub job_of : List ℕ → Result Job BadLine
 job_of bytes =
     if nat_lt MAX_JOB_BYTES (length bytes)
     then Err (record { line = 0; why = Size })
-    else of_front alone (read start 1 bytes)
+    else of_prefix alone (read start 1 bytes)
 
--- the job at the front of so many bytes, and the size of its text, which is not too long
-abbrev pub sized : (count : ℕ) → Front → Result (Job × ℕ) BadLine
-sized count front =
-    if nat_lt MAX_JOB_BYTES (count - length front.rest) then Err (record { line = 0; why = Size })
-    else Ok (front.job, count - length front.rest)
+-- the job at the prefix of so many bytes, and the size of its text, which is not too long
+abbrev pub within_size : (count : ℕ) → Prefix → Result (Job × ℕ) BadLine
+within_size count prefix =
+    if nat_lt MAX_JOB_BYTES (count - length prefix.rest) then Err (record { line = 0; why = Size })
+    else Ok (prefix.job, count - length prefix.rest)
 
 -- what bytes are read as that go on behind a job's text
-unfoldable pub front_of : List ℕ → Result (Job × ℕ) BadLine
-front_of bytes = of_front (sized (length bytes)) (read start 1 bytes)
+unfoldable pub prefix_of : List ℕ → Result (Job × ℕ) BadLine
+prefix_of bytes = of_prefix (within_size (length bytes)) (read start 1 bytes)

@@ -15,7 +15,7 @@ use Rattle.text_job.specs.Places.{AtBody}
 use Rattle.text_job.specs.Places.{AtScripts, AtSteps, HandlerItem, CollectItem, AtomicsItem}
 use Rattle.text_job.specs.Places.{AtSchedule, AtDone, Over, NamedOr, Named, Other, Item, item_form, item_text}
 use Rattle.text_job.specs.Places.{IsItem}
-use Rattle.text_job.specs.JobReading.{job_of, front_of, with_handler, with_script, lines_of}
+use Rattle.text_job.specs.JobReading.{job_of, prefix_of, with_handler, with_script, lines_of}
 use Rattle.text_job.specs.JobReading.{amounts_of}
 use Rattle.text_job.specs.PlanPieces.{scripts_pieces}
 use Rattle.text_job.specs.StepPieces.{steps_pieces}
@@ -51,23 +51,23 @@ after_lines zero (b ∷ bytes) = b ∷ bytes
 after_lines (suc count) (b ∷ bytes) = if b == 10 then after_lines count bytes else after_lines (suc count) bytes
 
 -- some job's text, its size apart, begins with the bytes
-pub record IsFront (bytes : List ℕ) : Type 0 where
+pub record IsPrefix (bytes : List ℕ) : Type 0 where
   pub job : Job
   pub more : List ℕ
   pub is : IsJob job
   pub text : job_text job ≡ bytes ++ more
 
 -- no job's text does
-abbrev pub IsNoFront : List ℕ → Type 0
-IsNoFront bytes = (job : Job) (more : List ℕ) → IsJob job → job_text job ≡ bytes ++ more → ⊥
+abbrev pub IsNoPrefix : List ℕ → Type 0
+IsNoPrefix bytes = (job : Job) (more : List ℕ) → IsJob job → job_text job ≡ bytes ++ more → ⊥
 
 -- ---- a line, and what came before it
 
 -- the job that the lines so far are of, with the handler or the script that they end with
-abbrev pub completed : Place → Job → Job
-completed (AtBody handler) job = with_handler handler job
-completed (AtSteps script) job = with_script script job
-completed place job = job
+abbrev pub completed_job : Place → Job → Job
+completed_job (AtBody handler) job = with_handler handler job
+completed_job (AtSteps script) job = with_script script job
+completed_job place job = job
 
 -- the settings before one
 abbrev pub settings_before : Setting → List Setting
@@ -131,7 +131,7 @@ IsReached place job = Unit {0}
 pub record Before (bytes : List ℕ) (line : ℕ) : Type 0 where
   pub place : Place
   pub job : Job
-  pub is : IsJob (completed place job)
+  pub is : IsJob (completed_job place job)
   pub unread : IsUnread place job
   pub reached : IsReached place job
   pub count : line ≡ length (so_far place job) + 1
@@ -250,13 +250,13 @@ IsAtFault Size place job rest = ⊥
 abbrev pub NoneGoesOn : LineWhy → List ℕ → Type 0
 NoneGoesOn Early lines = Unit {0}
 NoneGoesOn Text lines = Unit {0}
-NoneGoesOn why lines = IsNoFront lines
+NoneGoesOn why lines = IsNoPrefix lines
 
 -- the lines before this one begin some job's text, those with it begin none, and by what they say this is wrong with it
 pub record IsWrong (bytes : List ℕ) (line : ℕ) (why : LineWhy) : Type 0 where
   pub before : Before bytes line
   pub fault : IsAtFault why before.place before.job (after_lines (line - 1) bytes)
-  pub front : IsFront (first_lines (line - 1) bytes)
+  pub prefix : IsPrefix (first_lines (line - 1) bytes)
   pub none : NoneGoesOn why (first_lines line bytes)
 
 -- what a refusal at a line means
@@ -295,17 +295,17 @@ pub record IsTooLong (bytes : List ℕ) : Type 0 where
   pub long : MAX_JOB_BYTES < length (job_text job)
 
 -- what a refusal means where any bytes may follow a job's text
-abbrev pub FrontMeans : List ℕ → (line : ℕ) → LineWhy → Type 0
-FrontMeans bytes line Size = (line ≡ 0) × IsTooLong bytes
-FrontMeans bytes line After = ⊥
-FrontMeans bytes line why = IsWrong bytes line why
+abbrev pub PrefixMeans : List ℕ → (line : ℕ) → LineWhy → Type 0
+PrefixMeans bytes line Size = (line ≡ 0) × IsTooLong bytes
+PrefixMeans bytes line After = ⊥
+PrefixMeans bytes line why = IsWrong bytes line why
 
 -- a refusal means that, unless memory ran out
-abbrev pub IsFrontMeant : List ℕ → JobFault → Type 0
-IsFrontMeant bytes faults.NoMemory = Unit {0}
-IsFrontMeant bytes (faults.Bad line why) = FrontMeans bytes line why
+abbrev pub IsPrefixMeant : List ℕ → JobFault → Type 0
+IsPrefixMeant bytes faults.NoMemory = Unit {0}
+IsPrefixMeant bytes (faults.Bad line why) = PrefixMeans bytes line why
 
 -- the fault names the first bad line of the bytes up to a job's last line, and the first reason that applies to it
-abbrev pub IsBadFront : List ℕ → JobFault → Type 0
-IsBadFront bytes faults.NoMemory = ⊥
-IsBadFront bytes (faults.Bad line why) = front_of bytes ≡ Err (record { line = line; why = why })
+abbrev pub IsBadPrefix : List ℕ → JobFault → Type 0
+IsBadPrefix bytes faults.NoMemory = ⊥
+IsBadPrefix bytes (faults.Bad line why) = prefix_of bytes ≡ Err (record { line = line; why = why })

@@ -2,7 +2,7 @@
 
 ghost use Rattle.std.specs.Prelude.{◌≡◌, ◌≤◌, ◌+◌, None};
 ghost use Rattle.text_job.specs.Places.{AtDone, Over, done_at};
-ghost use Rattle.text_job.specs.JobReading.{State, lined, job_of_head, front_with, behind_scripts};
+ghost use Rattle.text_job.specs.JobReading.{State, item_of_line, job_of_head, prefix_with, behind_scripts};
 ghost use Rattle.text_job.specs.JobReading.{read};
 ghost use Rattle.base_text.specs.Found.{Finds};
 ghost use Rattle.text_job.specs.Reading.{GivesAt, Continues};
@@ -34,7 +34,7 @@ pub fn job_with(head: Head, handlers: HandlerTexts, scripts: NodeScripts) -> Job
 
 /// The bytes after the line `done`.
 fn done_at(bytes: &[u8]) -> Result<&[u8], Other>
-    ensures { Finds (λ rest. (tt, rest.now)) result (lined done_at bytes.now) }
+    ensures { Finds (λ rest. (tt, rest.now)) result (item_of_line done_at bytes.now) }
 {
     let (word, rest) = name_of(bytes);
     if !JobForm::Done.has_name(word) {
@@ -70,7 +70,7 @@ pub fn tail_at(
 ) -> Result<(Job, u32, &[u8]), JobFault>
     requires line { line ≤ 20000000 }
     requires none { job.schedule ≡ None }
-    ensures { GivesAt (λ x. front_with x.0 x.1 x.2.now) result
+    ensures { GivesAt (λ x. prefix_with x.0 x.1 x.2.now) result
         (read (behind_scripts schedule job) line bytes.now) }
 {
     if !schedule {

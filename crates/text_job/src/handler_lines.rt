@@ -3,13 +3,13 @@
 ghost use Rattle.std.specs.Prelude.{◌≡◌, ◌+◌, ◌≤◌, ◌<◌, ◌==◌, [], length, map, true, IfOk};
 ghost use Rattle.text_job.specs.Places.{AtHandlers, AtBody, AtScripts, end_or};
 ghost use Rattle.text_steps.specs.Bodies.{action_at, action_form};
-ghost use Rattle.text_job.specs.HeadReading.{told};
-ghost use Rattle.text_job.specs.JobReading.{State, begun, lined, has_index, is_reserved};
+ghost use Rattle.text_job.specs.HeadReading.{found_in_line};
+ghost use Rattle.text_job.specs.JobReading.{State, new_handler, item_of_line, has_index, is_reserved};
 ghost use Rattle.text_job.specs.JobReading.{most_beside};
 ghost use Rattle.text_job.specs.JobReading.{most_handlers, with_body, with_handler, handler_why};
 ghost use Rattle.text_job.specs.JobReading.{read};
 ghost use Rattle.text_job.specs.Scopes.{scope_of};
-ghost use Rattle.base_text.specs.Lines.{front};
+ghost use Rattle.base_text.specs.Lines.{prefix};
 ghost use Rattle.base_text.specs.Found.{Reads};
 ghost use Rattle.text_job.specs.Reading.{GivesAt, Continues};
 ghost use Rattle.base_text.specs.Reasons.{reason};
@@ -37,7 +37,7 @@ const ACTIONS: usize = 64;
 
 /// An action, or none at the line `end`, and the bytes after the line.
 fn action_or_end(alloc: Global, bytes: &[u8]) -> Result<(Option<Action>, &[u8]), Miss>
-    ensures { Reads (λ x. (x.0, x.1.now)) result (lined (end_or action_at) bytes.now) }
+    ensures { Reads (λ x. (x.0, x.1.now)) result (item_of_line (end_or action_at) bytes.now) }
 {
     if JobForm::End.begins(bytes) {
         let (_, rest) = name_of(bytes);
@@ -56,8 +56,8 @@ fn action_or_end(alloc: Global, bytes: &[u8]) -> Result<(Option<Action>, &[u8]),
 
 /// The action of the next line, or none at the line `end`, and the bytes after it; or why it isn't read.
 fn next_action(alloc: Global, line: u32, bytes: &[u8]) -> Result<(Option<Action>, &[u8]), JobFault>
-    ensures { GivesAt (λ x. (x.0, x.1.now)) result (told line (reason action_form bytes.now)
-        (lined (end_or action_at) bytes.now)) }
+    ensures { GivesAt (λ x. (x.0, x.1.now)) result (found_in_line line (reason action_form bytes.now)
+        (item_of_line (end_or action_at) bytes.now)) }
 {
     match action_or_end(alloc, bytes) {
         Ok(read) => Ok(read),
@@ -104,7 +104,7 @@ fn body_at(alloc: Global, first: u32, bytes: &[u8]) -> Result<(Body, u32, &[u8])
 
 /// The handler of this first line, with these actions.
 fn handler_of(header: HandlerHeader, body: Body) -> HandlerText
-    ensures { result ≡ with_body body (begun header) }
+    ensures { result ≡ with_body body (new_handler header) }
 {
     HandlerText {
         index: header.index,
@@ -176,9 +176,9 @@ fn next_header<'a>(
     line: u32,
     bytes: &'a [u8],
 ) -> Result<(HandlerHeader, &'a [u8]), JobFault>
-    requires { bytes_eq (front bytes.now) (codes "handler") ≡ true }
+    requires { bytes_eq (prefix bytes.now) (codes "handler") ≡ true }
     ensures value { (job : JobState) → scope_of job ≡ scope.now → job.handlers ≡ before.now →
-        Continues (λ x. read (record { place = AtBody (begun x.0); job = job }) (line + 1) x.1.now)
+        Continues (λ x. read (record { place = AtBody (new_handler x.0); job = job }) (line + 1) x.1.now)
         result (read (record { place = AtHandlers; job = job }) line bytes.now) }
     ensures room { IfOk result (λ x. length before.now < 128) }
 {

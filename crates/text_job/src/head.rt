@@ -4,7 +4,7 @@ ghost use Rattle.std.specs.Prelude.{◌≡◌, ◌≤◌, ◌*◌, ◌-◌, ◌%
 ghost use Rattle.text_job.specs.HeadReading.{credits_form, fitting_line, head_at, in_range};
 ghost use Rattle.text_job.specs.HeadReading.{nodes_form, number_from};
 ghost use Rattle.text_job.specs.HeadReading.{number_line, number_why, segment_form, sieve_line};
-ghost use Rattle.text_job.specs.HeadReading.{sieve_why, told};
+ghost use Rattle.text_job.specs.HeadReading.{sieve_why, found_in_line};
 ghost use Rattle.text_job.specs.JobReading.{job_of_head};
 ghost use Rattle.text_job.specs.Places.{setting_name};
 ghost use Rattle.text_calls.specs.Forms.{Number, part_at};
@@ -238,7 +238,7 @@ fn segment_from(line: u32, nodes: u64, bytes: &[u8]) -> Result<(u64, &[u8]), Job
 
 /// The rule of the sieve, and the bytes after its line.
 fn sieve_from(line: u32, bytes: &[u8]) -> Result<(SieveRule, &[u8]), JobFault>
-    ensures { GivesAt (λ x. (x.0, x.1.now)) result (told line (sieve_why bytes.now)
+    ensures { GivesAt (λ x. (x.0, x.1.now)) result (found_in_line line (sieve_why bytes.now)
         (sieve_line bytes.now)) }
 {
     match sieve_line(bytes) {

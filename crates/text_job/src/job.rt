@@ -2,7 +2,7 @@
 
 ghost use Rattle.std.specs.Prelude.{◌≡◌, ◌≤◌, length, true};
 ghost use Rattle.std.specs.Option.{option_map};
-ghost use Rattle.wire_message.specs.Parameters.{upgraded};
+ghost use Rattle.wire_message.specs.Parameters.{as_version_2};
 ghost use Rattle.text_job.specs.Locks.{are_listed, listed_by};
 ghost use Rattle.text_job.specs.JobReading.{lines_of};
 ghost use Rattle.text_job.specs.PlanPieces.{scripts_pieces};
@@ -298,7 +298,7 @@ impl Job {
 
     /// The same job with datagrams of version 2, in whose limits its settings are too. It takes no memory.
     pub fn into_upgraded(mut self) -> Job
-        ensures { result ≡ record self { settings = upgraded self.settings } }
+        ensures { result ≡ record self { settings = as_version_2 self.settings } }
     {
         self.settings = self.settings.upgraded();
         self

@@ -14,10 +14,10 @@
 //! no job's text begins with the lines up to it. Or there are too many bytes. What is so meant is told [`told`], unless
 //! memory ran out: so no text has two bad lines, and no line two reasons.
 //!
-//! `read_job_front` is the same reader where any bytes may stand behind a job's text [`found`, `one`, `bad`, `meant`,
+//! `read_job_prefix` is the same reader where any bytes may stand behind a job's text [`found`, `one`, `bad`, `meant`,
 //! `told`, `none`]: it tells the one job with whose text the bytes begin, and the size of that text (`BeginsWith`);
-//! else the first bad line of the front (`front_of`), with what that means (`FrontMeans`), or that the text at the
-//! front is too long.
+//! else the first bad line of the prefix (`prefix_of`), with what that means (`PrefixMeans`), or that the text at the
+//! prefix is too long.
 #![tactic(auto)]
 
 mod atomics_line;
@@ -43,4 +43,4 @@ pub use job::{
     Body, CollectArea, HandlerText, HandlerTexts, Job, ListedLocks, NodeScript, NodeScripts,
     Schedule, ScriptSteps, SieveRule,
 };
-pub use reading::{MAX_JOB_BYTES, read_job, read_job_front};
+pub use reading::{MAX_JOB_BYTES, read_job, read_job_prefix};

@@ -3,9 +3,9 @@
 ghost use Rattle.std.specs.Prelude.{◌≡◌, ◌≢◌, ◌≤◌, ◌<◌, ◌+◌, ◌*◌, ◌-◌, ◌==◌, ◌&&◌, true, [], length, codes, IfOk};
 ghost use Rattle.std.specs.Str.{bytes_eq};
 ghost use Rattle.wire_message.specs.Parameters.{AreInRange, credits_in_all};
-ghost use Rattle.base_text.specs.Lines.{front};
+ghost use Rattle.base_text.specs.Lines.{prefix};
 ghost use Rattle.text_calls.specs.Forms.{Number, part_at};
-ghost use Rattle.text_job.specs.JobReading.{State, lined, has_pair, job_of_head, read};
+ghost use Rattle.text_job.specs.JobReading.{State, item_of_line, has_pair, job_of_head, read};
 ghost use Rattle.text_job.specs.Places.{AtAtomics, AtPairs, pair_at, pair_fits, pairs_form};
 ghost use Rattle.base_text.specs.Found.{Finds};
 ghost use Rattle.text_job.specs.Reading.{Continues, IsPaired};
@@ -84,7 +84,7 @@ fn pair_line<'a>(
     bytes: &'a [u8],
 ) -> Result<(PairCredits, &'a [u8]), Other>
     requires sum { sum ≡ credits_in_all settings.now }
-    ensures value { Finds (λ x. (x.0, x.1.now)) result (lined (pair_at settings.now) bytes.now) }
+    ensures value { Finds (λ x. (x.0, x.1.now)) result (item_of_line (pair_at settings.now) bytes.now) }
     ensures range { IfOk result (λ x. (1 ≤ x.0.credits) × (x.0.credits ≤ 32)) }
     ensures fits { IfOk result (λ x. pair_fits settings.now x.0 ≡ true) }
 {
@@ -95,7 +95,7 @@ fn pair_line<'a>(
 
 /// Why a line that begins with `pair` isn't read.
 fn pair_why(bytes: &[u8]) -> LineWhy
-    requires { bytes_eq (front bytes.now) (codes "pair") ≡ true }
+    requires { bytes_eq (prefix bytes.now) (codes "pair") ≡ true }
     ensures { (scope : AnyScope) → result ≡ reason (pairs_form scope) bytes.now }
 {
     let (_, rest) = name_of(bytes);

@@ -2,11 +2,11 @@
 
 ghost use Rattle.std.specs.Prelude.{◌≡◌, ◌⊎◌, ℕ, IfOk, IfErr};
 ghost use Rattle.text_job.specs.JobText.{BeginsWith, JobText};
-ghost use Rattle.text_job.specs.Refusals.{FrontMeans, IsBadFront, IsBadLine, IsFrontMeant, IsMeant};
+ghost use Rattle.text_job.specs.Refusals.{PrefixMeans, IsBadPrefix, IsBadLine, IsPrefixMeant, IsMeant};
 ghost use Rattle.text_job.specs.Refusals.{IsNoMemory, IsTold, Means};
 ghost use Rattle.base_text.specs.declared.why.LineWhy.{LineWhy as Why};
 ghost use Rattle.text_job.specs.declared.job.Job.{Job as JobState};
-ghost use Rattle.text_job.specs.JobReading.{front_of, front_with, job_of, read, start};
+ghost use Rattle.text_job.specs.JobReading.{prefix_of, prefix_with, job_of, read, start};
 ghost use Rattle.text_job.specs.Reading.{GivesAt};
 
 use crate::collect_line::services_from;
@@ -25,8 +25,8 @@ use std::alloc::Global;
 pub const MAX_JOB_BYTES: usize = 4_194_304;
 
 /// The job with whose text the bytes begin, the number of the line behind it, and the bytes from there on.
-fn front_at(alloc: Global, bytes: &[u8]) -> Result<(Job, u32, &[u8]), JobFault>
-    ensures { GivesAt (λ x. front_with x.0 x.1 x.2.now) result (read start 1 bytes.now) }
+fn prefix_at(alloc: Global, bytes: &[u8]) -> Result<(Job, u32, &[u8]), JobFault>
+    ensures { GivesAt (λ x. prefix_with x.0 x.1 x.2.now) result (read start 1 bytes.now) }
 {
     let (head, rest) = match head_at(bytes) {
         Ok(read) => read,
@@ -66,7 +66,7 @@ fn job_at(alloc: Global, bytes: &[u8]) -> Result<Job, JobFault>
         let (line, why) = (0, LineWhy::Size);
         return Err(JobFault::Bad { line, why });
     }
-    let (job, line, rest) = match front_at(alloc, bytes) {
+    let (job, line, rest) = match prefix_at(alloc, bytes) {
         Ok(read) => read,
         Err(fault) => return Err(fault),
     };
@@ -80,9 +80,9 @@ fn job_at(alloc: Global, bytes: &[u8]) -> Result<Job, JobFault>
 
 /// The job with whose text the bytes begin, by its lines, and the size of the text.
 fn sized_job_at(alloc: Global, bytes: &[u8]) -> Result<(Job, usize), JobFault>
-    ensures { GivesAt (λ x. x) result (front_of bytes.now) }
+    ensures { GivesAt (λ x. x) result (prefix_of bytes.now) }
 {
-    let (job, _, rest) = match front_at(alloc, bytes) {
+    let (job, _, rest) = match prefix_at(alloc, bytes) {
         Ok(read) => read,
         Err(fault) => return Err(fault),
     };
@@ -124,20 +124,20 @@ pub fn read_job(alloc: Global, bytes: &[u8]) -> Result<Job, JobFault>
 /// # Errors
 ///
 /// `NoMemory` where memory ran out, else `Bad` exactly where the bytes begin with no job's text: with the first bad
-/// line of the front and the first reason that applies to it, or `Size` for line 0 where they begin with the text of a
+/// line of the prefix and the first reason that applies to it, or `Size` for line 0 where they begin with the text of a
 /// job that is good, but too long. `After` never comes.
-pub fn read_job_front(alloc: Global, bytes: &[u8]) -> Result<(Job, usize), JobFault>
+pub fn read_job_prefix(alloc: Global, bytes: &[u8]) -> Result<(Job, usize), JobFault>
     // The bytes begin with the text of what is read, which has this size.
     ensures found { IfOk result (λ x. BeginsWith x.0 x.1 bytes.now) }
     // It is the one job with whose text they begin.
     ensures one { IfOk result (λ x. (other : JobState) (size : ℕ) → BeginsWith other size bytes.now
         → (other ≡ x.0) × (size ≡ x.1)) }
     // What is told is the first bad line, and the first reason that applies to it.
-    ensures bad { IfErr result (λ fault. IsNoMemory fault ⊎ IsBadFront bytes.now fault) }
+    ensures bad { IfErr result (λ fault. IsNoMemory fault ⊎ IsBadPrefix bytes.now fault) }
     // What that means, apart from the reader.
-    ensures meant { IfErr result (λ fault. IsFrontMeant bytes.now fault) }
-    // What is so meant of a line is told: no front has two bad lines, and no line two reasons.
-    ensures told { (line : ℕ) (why : Why) → FrontMeans bytes.now line why → IsTold result line why }
+    ensures meant { IfErr result (λ fault. IsPrefixMeant bytes.now fault) }
+    // What is so meant of a line is told: no prefix has two bad lines, and no line two reasons.
+    ensures told { (line : ℕ) (why : Why) → PrefixMeans bytes.now line why → IsTold result line why }
     // Where no job is read, the bytes begin with no job's text, unless memory ran out.
     ensures none { IfErr result (λ fault. IsNoMemory fault ⊎
         ((job : JobState) (size : ℕ) → BeginsWith job size bytes.now → ⊥)) }

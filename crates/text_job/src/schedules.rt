@@ -3,9 +3,9 @@
 ghost use Rattle.std.specs.Prelude.{◌≡◌, ◌+◌, ◌*◌, ◌≤◌, [], length, Some, IfOk};
 ghost use Rattle.text_job.specs.Places.{AtSchedule, AtDone, end_or};
 ghost use Rattle.text_steps.specs.Events.{timed_at, timed_form};
-ghost use Rattle.text_job.specs.HeadReading.{told};
-ghost use Rattle.text_job.specs.JobReading.{State, lined, rounds_of, are_too_many, is_full};
-ghost use Rattle.text_job.specs.JobReading.{admitted, read};
+ghost use Rattle.text_job.specs.HeadReading.{found_in_line};
+ghost use Rattle.text_job.specs.JobReading.{State, item_of_line, rounds_of, are_too_many, is_full};
+ghost use Rattle.text_job.specs.JobReading.{amounts_with, read};
 ghost use Rattle.text_job.specs.PlanPieces.{scripts_pieces};
 ghost use Rattle.text_job.specs.declared.plan_pieces.TheConstants.{PIECES};
 ghost use Rattle.base_text.specs.Found.{Reads};
@@ -41,7 +41,7 @@ fn timed_or_end<'a>(
     bytes: &'a [u8],
 ) -> Result<(Option<TimedEvent>, &'a [u8]), Miss>
     ensures { Reads (λ x. (x.0, x.1.now)) result
-        (lined (end_or (timed_at scope.now)) bytes.now) }
+        (item_of_line (end_or (timed_at scope.now)) bytes.now) }
 {
     if JobForm::End.begins(bytes) {
         let (_, rest) = name_of(bytes);
@@ -66,8 +66,8 @@ fn next_timed<'a>(
     bytes: &'a [u8],
 ) -> Result<(Option<TimedEvent>, &'a [u8]), JobFault>
     ensures { GivesAt (λ x. (x.0, x.1.now)) result
-        (told line (reason (timed_form scope.now) bytes.now)
-        (lined (end_or (timed_at scope.now)) bytes.now)) }
+        (found_in_line line (reason (timed_form scope.now) bytes.now)
+        (item_of_line (end_or (timed_at scope.now)) bytes.now)) }
 {
     match timed_or_end(alloc, scope, bytes) {
         Ok(read) => Ok(read),
@@ -114,7 +114,7 @@ fn is_full(nodes: u16, so_far: Amounts, event: &ScheduledEvent) -> bool
 fn admitted(nodes: u16, so_far: Amounts, event: &ScheduledEvent) -> Option<Amounts>
     requires rounds { so_far.rounds ≤ 4096 }
     requires pieces { so_far.pieces ≤ PIECES }
-    ensures { result ≡ admitted nodes so_far event.now }
+    ensures { result ≡ amounts_with nodes so_far event.now }
 {
     if is_full(nodes, so_far, event) {
         return None;

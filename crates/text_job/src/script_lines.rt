@@ -1,12 +1,12 @@
 //! Reading the scripts of a job.
 
 ghost use Rattle.std.specs.Prelude.{◌≡◌, ◌+◌, ◌≤◌, [], length, true, None, IfOk};
-ghost use Rattle.text_job.specs.HeadReading.{told};
+ghost use Rattle.text_job.specs.HeadReading.{found_in_line};
 ghost use Rattle.text_job.specs.Places.{AtScripts, AtSteps, end_or, section_fits};
 ghost use Rattle.text_steps.specs.Scripts.{step_at, step_form};
 ghost use Rattle.text_job.specs.JobReading.{State, begun_script, behind_scripts, behind_section};
 ghost use Rattle.text_job.specs.JobReading.{has_thread};
-ghost use Rattle.text_job.specs.JobReading.{is_full_script, is_schedule, lined, read, section_why};
+ghost use Rattle.text_job.specs.JobReading.{is_full_script, is_schedule, item_of_line, read, section_why};
 ghost use Rattle.text_job.specs.JobReading.{with_script, with_steps};
 ghost use Rattle.text_job.specs.PlanPieces.{scripts_pieces};
 ghost use Rattle.text_job.specs.StepPieces.{steps_pieces};
@@ -38,7 +38,7 @@ fn step_or_end<'a>(
     scope: &Scope,
     bytes: &'a [u8],
 ) -> Result<(Option<ScriptStep>, &'a [u8]), Miss>
-    ensures { Reads (λ x. (x.0, x.1.now)) result (lined (end_or (step_at scope.now)) bytes.now) }
+    ensures { Reads (λ x. (x.0, x.1.now)) result (item_of_line (end_or (step_at scope.now)) bytes.now) }
 {
     if JobForm::End.begins(bytes) {
         let (_, rest) = name_of(bytes);
@@ -62,8 +62,8 @@ fn next_step<'a>(
     line: u32,
     bytes: &'a [u8],
 ) -> Result<(Option<ScriptStep>, &'a [u8]), JobFault>
-    ensures { GivesAt (λ x. (x.0, x.1.now)) result (told line (reason (step_form scope.now) bytes.now)
-        (lined (end_or (step_at scope.now)) bytes.now)) }
+    ensures { GivesAt (λ x. (x.0, x.1.now)) result (found_in_line line (reason (step_form scope.now) bytes.now)
+        (item_of_line (end_or (step_at scope.now)) bytes.now)) }
 {
     match step_or_end(alloc, scope, bytes) {
         Ok(read) => Ok(read),

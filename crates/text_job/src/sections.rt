@@ -2,10 +2,10 @@
 
 ghost use Rattle.std.specs.Prelude.{◌≡◌, ◌||◌, ◌&&◌, ◌==◌, nat_le, nat_lt, codes, true};
 ghost use Rattle.std.specs.Str.{bytes_eq};
-ghost use Rattle.base_text.specs.Lines.{front};
+ghost use Rattle.base_text.specs.Lines.{prefix};
 ghost use Rattle.text_job.specs.Places.{header_at, header_or_section_form, section_at};
 ghost use Rattle.text_job.specs.Places.{section_form};
-ghost use Rattle.text_job.specs.JobReading.{lined};
+ghost use Rattle.text_job.specs.JobReading.{item_of_line};
 ghost use Rattle.base_text.specs.Found.{Finds, Reads};
 ghost use Rattle.base_text.specs.Reasons.{reason};
 
@@ -70,7 +70,7 @@ fn header_at(alloc: Global, bytes: &[u8]) -> Result<(HandlerHeader, &[u8]), Miss
 
 /// What the first line of a handler says, and the bytes after it.
 pub fn header_line(alloc: Global, bytes: &[u8]) -> Result<(HandlerHeader, &[u8]), Miss>
-    ensures { Reads (λ x. (x.0, x.1.now)) result (lined header_at bytes.now) }
+    ensures { Reads (λ x. (x.0, x.1.now)) result (item_of_line header_at bytes.now) }
 {
     let (header, rest) = header_at(alloc, bytes)?;
     let rest = ended(rest)?;
@@ -79,7 +79,7 @@ pub fn header_line(alloc: Global, bytes: &[u8]) -> Result<(HandlerHeader, &[u8])
 
 /// Why a line that begins with `handler` isn't read.
 pub fn header_why(bytes: &[u8]) -> LineWhy
-    requires { bytes_eq (front bytes.now) (codes "handler") ≡ true }
+    requires { bytes_eq (prefix bytes.now) (codes "handler") ≡ true }
     ensures { result ≡ reason header_or_section_form bytes.now }
 {
     let (_, rest) = name_of(bytes);
@@ -118,7 +118,7 @@ fn section_at(nodes: u16, threads: u16, bytes: &[u8]) -> Result<(Section, &[u8])
 
 /// What begins another part, and the bytes after its line.
 pub fn section_line(nodes: u16, threads: u16, bytes: &[u8]) -> Result<(Section, &[u8]), Other>
-    ensures { Finds (λ x. (x.0, x.1.now)) result (lined (section_at nodes threads) bytes.now) }
+    ensures { Finds (λ x. (x.0, x.1.now)) result (item_of_line (section_at nodes threads) bytes.now) }
 {
     let (section, rest) = section_at(nodes, threads, bytes)?;
     let rest = ended(rest)?;

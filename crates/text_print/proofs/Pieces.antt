@@ -111,13 +111,13 @@ one_more lines last =
     ∙ ap (λ (rest : List ℕ). spell lines ++ rest) (append-nil (last ++ 10 ∷ []))
 
 -- lines, and other ones behind them
-both : (front back : List Line) → spell (front ++ back) ≡ spell front ++ spell back
-both front back = flat_map-append (λ (line : Line). line ++ 10 ∷ []) front back
+both : (prefix back : List Line) → spell (prefix ++ back) ≡ spell prefix ++ spell back
+both prefix back = flat_map-append (λ (line : Line). line ++ 10 ∷ []) prefix back
 
-both_then : (front back : List Line) (rest : List ℕ)
-    → spell (front ++ back) ++ rest ≡ spell front ++ (spell back ++ rest)
-both_then front back rest =
-    ap (λ (text : List ℕ). text ++ rest) (both front back) ∙ append_assoc (spell front) (spell back) rest
+both_then : (prefix back : List Line) (rest : List ℕ)
+    → spell (prefix ++ back) ++ rest ≡ spell prefix ++ (spell back ++ rest)
+both_then prefix back rest =
+    ap (λ (text : List ℕ). text ++ rest) (both prefix back) ∙ append_assoc (spell prefix) (spell back) rest
 
 head_parts : (head pairs atomics collect : List Line) (rest : List ℕ)
     → spell (((head ++ pairs) ++ atomics) ++ collect) ++ rest
@@ -127,15 +127,15 @@ head_parts head pairs atomics collect rest =
     ∙ both_then (head ++ pairs) atomics (spell collect ++ rest)
     ∙ both_then head pairs (spell atomics ++ (spell collect ++ rest))
 
-tail_parts : (front handlers scripts schedule : List Line)
-    → spell (((front ++ handlers) ++ scripts) ++ (schedule ++ codes "done" ∷ []))
-    ≡ spell front ++ (spell handlers ++ (spell scripts ++ (spell schedule ++ last_line)))
-tail_parts front handlers scripts schedule =
+tail_parts : (prefix handlers scripts schedule : List Line)
+    → spell (((prefix ++ handlers) ++ scripts) ++ (schedule ++ codes "done" ∷ []))
+    ≡ spell prefix ++ (spell handlers ++ (spell scripts ++ (spell schedule ++ last_line)))
+tail_parts prefix handlers scripts schedule =
     let rest = spell (schedule ++ codes "done" ∷ []) in
-    both ((front ++ handlers) ++ scripts) (schedule ++ codes "done" ∷ [])
-    ∙ both_then (front ++ handlers) scripts rest
-    ∙ both_then front handlers (spell scripts ++ rest)
-    ∙ ap (λ (text : List ℕ). spell front ++ (spell handlers ++ (spell scripts ++ text)))
+    both ((prefix ++ handlers) ++ scripts) (schedule ++ codes "done" ∷ [])
+    ∙ both_then (prefix ++ handlers) scripts rest
+    ∙ both_then prefix handlers (spell scripts ++ rest)
+    ∙ ap (λ (text : List ℕ). spell prefix ++ (spell handlers ++ (spell scripts ++ text)))
     (both schedule (codes "done" ∷ []))
 
 -- the parts of a job's text

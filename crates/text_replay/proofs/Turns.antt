@@ -3,7 +3,7 @@ use Rattle.std.proofs.Common.{◌≡◌, ℕ, ◌+◌, List, [], ◌∷◌, ◌+
 use Rattle.std.proofs.Common.{Some, None, slice_get, take_all, inl, inr}
 use Rattle.std.proofs.lemmas.List.{append-nil, append_assoc, map-append, take_more}
 use Rattle.std.proofs.lemmas.Option.{get_or_from_slice_get, slice_get_cases, slice_get_within}
-use Rattle.base_turns.specs.Replay.{Steps, after_entry, given_by, replayed}
+use Rattle.base_turns.specs.Replay.{Steps, after_entry, given_by, replay_state}
 use Rattle.base_turns.specs.declared.entry.Entry.{Entry}
 use Rattle.text_replay.specs.Sending.{numbered_sends, sent_from}
 use Rattle.text_replay.specs.declared.sent.Sent.{Sent}
@@ -11,7 +11,7 @@ use Rattle.text_replay.specs.declared.sent.Sent.{Sent}
 pub sent_from-push : {State : Type 0} (steps : Steps State) (state : State) (number : ℕ) (entries : List Entry)
     (last : Entry) (place : ℕ) → place ≡ number + length entries
     → sent_from steps state number (entries ++ last ∷ [])
-    ≡ sent_from steps state number entries ++ numbered_sends place (given_by steps (replayed steps state entries) last)
+    ≡ sent_from steps state number entries ++ numbered_sends place (given_by steps (replay_state steps state entries) last)
 sent_from-push steps state number [] last place is =
     append-nil (numbered_sends number (given_by steps state last))
     ∙ ap (λ n. numbered_sends n (given_by steps state last)) (omega (arith, is))
@@ -21,7 +21,7 @@ sent_from-push steps state number (entry ∷ entries) last place is =
     ap (λ (more : List Sent). given ++ more)
     (sent_from-push steps next (number + 1) entries last place (omega (arith, is)))
     ∙ sym (append_assoc given (sent_from steps next (number + 1) entries)
-    (numbered_sends place (given_by steps (replayed steps next entries) last)))
+    (numbered_sends place (given_by steps (replay_state steps next entries) last)))
 
 pub taken_next : {A : Type 0} (xs : List A) (place : ℕ) (x : A) → slice_get xs place ≡ Some x
     → take (place + 1) xs ≡ take place xs ++ x ∷ []

@@ -9,7 +9,7 @@ use Rattle.node_atomics.specs.BatchRequests.{batch_handler, block_handler}
 use Rattle.node_atomics.specs.Served.{HasBatches, ServesBatches, batch_entry, block_entry}
 use Rattle.text_job.specs.declared.job.HandlerText.{HandlerText}
 use Rattle.text_script.specs.Bodies.{script_meaning}
-use Rattle.text_script.specs.Registration.{JobHandlers, Registry, entries_first, entry_of, in_turn, register, registered}
+use Rattle.text_script.specs.Registration.{JobHandlers, Registry, entries_first, entry_of, in_turn, register, registry_of}
 use Rattle.text_script.specs.Registration.{registered_first, with_index}
 use Rattle.text_script.proofs.Placing.{IsFree, at_index-set_other, given_free}
 
@@ -57,7 +57,7 @@ replies_first true true is = refl
 replies_first false collect is = absurd (cc)
 
 -- so they are when all handlers are registered
-pub has_batches : (handlers : JobHandlers) → handlers.atomics ≡ true → HasBatches (registered handlers).table
+pub has_batches : (handlers : JobHandlers) → handlers.atomics ≡ true → HasBatches (registry_of handlers).table
 has_batches handlers is = record {
   requests = ap is_for_requests
       (entry_kept (in_turn handlers.texts) (registered_first handlers.atomics handlers.collect) batch_handler

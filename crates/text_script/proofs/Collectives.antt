@@ -4,7 +4,7 @@ use Rattle.part_handlers.specs.Registered.{entry_at, is_for_requests}
 use Rattle.part_collective_area.specs.Served.{HasCollectives, ServesCollectives, collective_handler}
 use Rattle.node_atomics.specs.BatchRequests.{batch_handler, block_handler}
 use Rattle.text_script.specs.Bodies.{is_for_batches, script_meaning}
-use Rattle.text_script.specs.Registration.{JobHandlers, collective_entry, entries_first, in_turn, registered}
+use Rattle.text_script.specs.Registration.{JobHandlers, collective_entry, entries_first, in_turn, registry_of}
 use Rattle.text_script.specs.Registration.{registered_first}
 use Rattle.text_script.proofs.Batches.{entry_kept}
 
@@ -16,7 +16,7 @@ collective_first true true is = refl
 collective_first atomics false is = absurd (cc)
 
 -- so it is when all handlers are registered
-pub has_collectives : (handlers : JobHandlers) → handlers.collect ≡ true → HasCollectives (registered handlers).table
+pub has_collectives : (handlers : JobHandlers) → handlers.collect ≡ true → HasCollectives (registry_of handlers).table
 has_collectives handlers is =
     ap is_for_requests
     (entry_kept (in_turn handlers.texts) (registered_first handlers.atomics handlers.collect) collective_handler

@@ -22,7 +22,7 @@ use Rattle.part_handlers.specs.Registered.{no_entries, entry_at, index_for, lowe
 use Rattle.text_steps.specs.declared.steps.Action.{Action}
 use Rattle.text_job.specs.declared.job.HandlerText.{HandlerText}
 use Rattle.text_script.specs.Registration.{JobHandlers, Registry, body_among, entries_first, entry_of, register}
-use Rattle.text_script.specs.Registration.{registered, registered_first, with_index}
+use Rattle.text_script.specs.Registration.{registry_of, registered_first, with_index}
 use Rattle.text_script.specs.Places.{AreBodies, ArePlaced, AtRegistering, Placing, body_at, found_body, is_in_turn}
 use Rattle.text_script.specs.Places.{place_at, register_turn}
 use Rattle.base_lists.proofs.Cases.{option_or_none}
@@ -302,11 +302,11 @@ placed_body texts (Some place) = refl
 
 -- what is placed by the registry of all are the bodies
 pub bodies_placed : (handlers : JobHandlers) (table : List (Option Entry)) (places : List (Option ℕ))
-    → ArePlaced handlers.texts (registered handlers) table places → AreBodies handlers places
+    → ArePlaced handlers.texts (registry_of handlers) table places → AreBodies handlers places
 bodies_placed handlers table places P = record {
   long = P.long;
   each = λ index low.
-      sym (among_found (registered handlers).bodies index
+      sym (among_found (registry_of handlers).bodies index
       ∙ (ap body_or (P.found index low) ∙ placed_body handlers.texts (place_at places index)));
 }
 
@@ -340,7 +340,7 @@ pub both_turns : (atomics collect : Bool) (texts : List HandlerText) (first seco
     AtRegistering texts (register_turn false texts) first second
     → AtRegistering texts (register_turn true texts) second third →
     first.table ≡ entries_first atomics collect → first.places ≡ replicate 128 None
-    → ArePlaced texts (registered (record { atomics = atomics; collect = collect; texts = texts })) third.table
+    → ArePlaced texts (registry_of (record { atomics = atomics; collect = collect; texts = texts })) third.table
     third.places
 both_turns atomics collect texts first second third one two table_is places_are =
     let none = registered_first atomics collect in

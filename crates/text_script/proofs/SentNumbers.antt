@@ -8,12 +8,12 @@ use Rattle.std.specs.Option.{option_map}
 use Rattle.std.proofs.lemmas.Bool.{and_parts, lt-ltb, ltb-true}
 use Rattle.std.proofs.lemmas.Bool.Decides.{nat_tests}
 use Rattle.wire_message.specs.Parameters.{Parameters, credits_of}
-use Rattle.base_lists.specs.Numbered.{numbered, change}
+use Rattle.base_lists.specs.Numbered.{element_at, change}
 use Rattle.base_lists.proofs.Put.{put_same}
 use Rattle.spec_node.specs.Record.{Request, Node}
 use Rattle.spec_node.specs.Credits.{limits_of}
 use Rattle.spec_node.specs.Behaviour.{Sending}
-use Rattle.spec_node.specs.Requests.{Due, all_dues, free_slot, next_claim, open_in, sent_at, unreturned}
+use Rattle.spec_node.specs.Requests.{Due, all_dues, free_slot, next_claim, open_in, sent_at, outstanding}
 use Rattle.spec_node.specs.Step.{Site, after_resend, after_sending, can_ask, new_request, next_due, put, request_slot}
 use Rattle.spec_node.specs.Invariant.{NodeInvariant}
 use Rattle.spec_node.specs.SlotMessages.{has_slot, number_in_slot}
@@ -51,7 +51,7 @@ sent_there settings IsKept me node now due peer holds low is =
     one_more : 1 + is.place ≡ suc is.place
     one_more = omega arith
 
-    there : numbered (node.asked peer) (suc is.place) ≡ Some is.x
+    there : element_at (node.asked peer) (suc is.place) ≡ Some is.x
     there = is.at
 
     other : peer ≢ me
@@ -105,10 +105,10 @@ first_sent_there site node now sending can =
     let requests = node.asked sending.to in
     let limits = limits_of site.settings site.me sending.to in
     let parts = and_parts (nat_lt sending.to site.settings.nodes && not (sending.to == site.me))
-    (nat_lt (length requests) limits.last && nat_lt (unreturned requests) limits.credits) can in
+    (nat_lt (length requests) limits.last && nat_lt (outstanding requests) limits.credits) can in
     let ends = and_parts (nat_lt sending.to site.settings.nodes) (not (sending.to == site.me)) parts.0 in
-    let room = and_parts (nat_lt (length requests) limits.last) (nat_lt (unreturned requests) limits.credits) parts.1 in
-    let few = ltb-true (unreturned requests) limits.credits room.1 in
+    let room = and_parts (nat_lt (length requests) limits.last) (nat_lt (outstanding requests) limits.credits) parts.1 in
+    let few = ltb-true (outstanding requests) limits.credits room.1 in
     let low : nat_lt (free_slot requests) limits.credits ≡ true =
     lt-ltb (free_slot requests) limits.credits (omega (arith, few, free_le requests)) in
     let new = new_request now (free_slot requests) sending.content in

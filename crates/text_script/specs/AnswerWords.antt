@@ -107,7 +107,7 @@ asked_words asked.NotYet = codes "not-yet" ∷ []
 -- the words of the answer to bytes that were delivered
 abbrev pub delivered_words : Delivered → Line
 delivered_words (delivered.Ran at) = codes "ran" ∷ []
-delivered_words (delivered.Noted at note) = codes "ran" ∷ []
+delivered_words (delivered.Notified at notification) = codes "ran" ∷ []
 delivered_words (delivered.Duplicate at) = codes "again" ∷ []
 delivered_words delivered.Stale = codes "stale" ∷ []
 delivered_words (delivered.Returned to slot number) = codes "returned" ∷ []
@@ -203,7 +203,7 @@ sent_words word at number = word ∷ decimal at.peer ∷ decimal at.slot ∷ dec
 -- the words of the answer to a tick, by the number at each slot
 abbrev pub ticked_words : (SlotRef → ℕ) → Ticked → Line
 ticked_words numbers (ticked.Retransmission at) = sent_words (codes "resend") at (numbers at)
-ticked_words numbers (ticked.Note at) = sent_words (codes "note") at (numbers at)
+ticked_words numbers (ticked.Notification at) = sent_words (codes "note") at (numbers at)
 ticked_words numbers (ticked.Chunk at) = sent_words (codes "chunk") at (numbers at)
 ticked_words numbers ticked.Nothing = codes "nothing" ∷ []
 

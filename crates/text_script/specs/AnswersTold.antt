@@ -34,7 +34,7 @@ pub record HasRange (endpoint : EndpointState) (offset len : ℕ) : Type 0 where
 -- the slot of what a tick sent has it
 abbrev pub TicksItsNumbers : EndpointState → Ticked → Type 0
 TicksItsNumbers endpoint (ticked.Retransmission at) = HasNumber endpoint at
-TicksItsNumbers endpoint (ticked.Note at) = HasNumber endpoint at
+TicksItsNumbers endpoint (ticked.Notification at) = HasNumber endpoint at
 TicksItsNumbers endpoint (ticked.Chunk at) = HasNumber endpoint at
 TicksItsNumbers endpoint ticked.Nothing = Unit {0}
 

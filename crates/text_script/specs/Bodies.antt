@@ -8,11 +8,11 @@ use Rattle.std.specs.Option.{option_map}
 use Rattle.part_segment.specs.Bytes.{part}
 use Rattle.part_segment.specs.Image.{Write, overwritten, written_by}
 use Rattle.wire_message.specs.Content.{Content, short_reply, medium_reply, long_reply}
-use Rattle.part_handlers.specs.Runs.{Arrival, Frame, Start, Outcome, untouched, attempted, took_lock, gave_lock}
+use Rattle.part_handlers.specs.Runs.{Arrival, Frame, Start, Outcome, nothing_done, after_attempt, took_lock, gave_lock}
 use Rattle.part_handlers.specs.Runs.{writing, replying}
-use Rattle.part_collective_area.specs.Served.{collective_handler, stamped}
+use Rattle.part_collective_area.specs.Served.{collective_handler, outcome_of_piece}
 use Rattle.node_atomics.specs.BatchRequests.{batch_handler, block_handler}
-use Rattle.node_atomics.specs.Served.{served}
+use Rattle.node_atomics.specs.Served.{outcome_of_batch}
 use Rattle.text_calls.specs.declared.values.Operand.{Operand}
 use Rattle.text_calls.specs.declared.values.Operand.TheVariants as operand
 use Rattle.text_calls.specs.declared.values.Payload.{Payload}
@@ -40,8 +40,8 @@ abbrev pub with_cell : Outcome → (cell : ℕ) → ℤ → Outcome
 with_cell outcome cell number = record outcome { cells = slice_set outcome.cells cell number }
 
 -- the outcome, where the cell rose by this number, wrapping
-abbrev pub raised : Outcome → (cell : ℕ) → ℤ → Outcome
-raised outcome cell number =
+abbrev pub with_cell_raised : Outcome → (cell : ℕ) → ℤ → Outcome
+with_cell_raised outcome cell number =
     with_cell outcome cell (int_wrap w32 (slice_index_or outcome.cells cell (pos 0) +ℤ number))
 
 -- ---- bytes
@@ -103,24 +103,24 @@ replying_if frame None outcome = outcome
 replying_if frame (Some content) outcome = replying frame content outcome
 
 -- after a reply of a body. One whose own range is outside the segment isn't asked for, and no rule judges it
-abbrev pub replied : Frame → Start → Outcome → ReplyAction → Outcome
-replied frame start outcome asked =
+abbrev pub after_reply : Frame → Start → Outcome → ReplyAction → Outcome
+after_reply frame start outcome asked =
     replying_if frame
     (reply_content frame.arrival (segment_at start outcome) (map (operand_at frame outcome)) asked) outcome
 
 -- after an action of a body, whatever came before it. A refusal doesn't end the body
 abbrev pub act : Frame → Start → Outcome → Action → Outcome
-act frame start outcome (action.Add cell operand) = raised outcome cell (operand_at frame outcome operand)
+act frame start outcome (action.Add cell operand) = with_cell_raised outcome cell (operand_at frame outcome operand)
 act frame start outcome (action.SetCell cell operand) = with_cell outcome cell (operand_at frame outcome operand)
 act frame start outcome (action.Source cell) = with_cell outcome cell (pos frame.arrival.source)
 act frame start outcome (action.Sum cell) =
-    raised outcome cell (pos (sum (message_bytes frame.arrival (segment_at start outcome))))
+    with_cell_raised outcome cell (pos (sum (message_bytes frame.arrival (segment_at start outcome))))
 act frame start outcome (action.Keep offset) =
     writing_if (kept_write (length start.segment) offset frame.arrival.payload) outcome
 act frame start outcome (action.Lock lock) = took_lock frame lock outcome
 act frame start outcome (action.Unlock lock) = gave_lock lock outcome
-act frame start outcome (action.Attempt kind) = attempted frame kind outcome
-act frame start outcome (action.Reply asked) = replied frame start outcome asked
+act frame start outcome (action.Attempt kind) = after_attempt frame kind outcome
+act frame start outcome (action.Reply asked) = after_reply frame start outcome asked
 
 -- after the actions of a body, in order
 abbrev pub acts : Frame → Start → Outcome → List Action → Outcome
@@ -140,11 +140,11 @@ is_for_collectives handlers index = handlers.collect && (index == collective_han
 -- another one does what its text says
 abbrev pub other_meaning : JobHandlers → (index : ℕ) → Frame → Start → Outcome
 other_meaning handlers index frame start =
-    if is_for_collectives handlers index then stamped frame start (untouched start)
-    else acts frame start (untouched start) (body_for handlers index)
+    if is_for_collectives handlers index then outcome_of_piece frame start (nothing_done start)
+    else acts frame start (nothing_done start) (body_for handlers index)
 
 -- what the run of a handler of a job gives: one of batches serves them
 abbrev pub script_meaning : JobHandlers → (index : ℕ) → Frame → Start → Outcome
 script_meaning handlers index frame start =
-    if is_for_batches handlers index then served index frame start (untouched start)
+    if is_for_batches handlers index then outcome_of_batch index frame start (nothing_done start)
     else other_meaning handlers index frame start

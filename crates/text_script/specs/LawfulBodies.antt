@@ -4,20 +4,20 @@ use Rattle.std.specs.Option.{option_map}
 use Rattle.std.proofs.Common.{Bool, true, false, refl, if◌then◌else◌}
 use Rattle.std.proofs.lemmas.Bool.{ltb-false}
 use Rattle.wire_message.specs.Content.{Content, long_reply, medium_reply}
-use Rattle.part_handlers.specs.Runs.{Frame, Start, Outcome, IsLawfulRun, IsReplyContent, untouched}
+use Rattle.part_handlers.specs.Runs.{Frame, Start, Outcome, IsLawfulRun, IsReplyContent, nothing_done}
 use Rattle.part_handlers.proofs.Lawful.{lawful-attempted, lawful-cells, lawful-gave_lock, lawful-replying}
 use Rattle.part_handlers.proofs.Lawful.{lawful-took_lock, lawful-untouched, lawful-writing, long_reply-content}
 use Rattle.part_handlers.proofs.Lawful.{medium_reply-content, short_reply-content}
 use Rattle.part_segment.specs.Image.{Write}
-use Rattle.part_collective_area.specs.Served.{stamped}
+use Rattle.part_collective_area.specs.Served.{outcome_of_piece}
 use Rattle.part_collective_area.proofs.Stamping.{lawful-stamped}
-use Rattle.node_atomics.specs.Served.{served}
+use Rattle.node_atomics.specs.Served.{outcome_of_batch}
 use Rattle.node_atomics.proofs.Lawful.{lawful-served}
 use Rattle.text_steps.specs.declared.steps.Action.{Action}
 use Rattle.text_steps.specs.declared.steps.Action.TheVariants as action
 use Rattle.text_steps.specs.declared.steps.ReplyAction.{ReplyAction}
 use Rattle.text_steps.specs.declared.steps.ReplyAction.TheVariants as reply
-use Rattle.text_script.specs.Bodies.{act, acts, operand_at, payload_bytes, replied, replying_if, segment_at}
+use Rattle.text_script.specs.Bodies.{act, acts, operand_at, payload_bytes, after_reply, replying_if, segment_at}
 use Rattle.text_script.specs.Bodies.{script_meaning, other_meaning, is_for_batches, is_for_collectives, writing_if}
 use Rattle.text_script.specs.Registration.{JobHandlers, body_for}
 
@@ -38,7 +38,7 @@ lawful-loaded make (Some bytes) is_reply lawful = lawful-replying _ _ (make byte
 
 -- a reply keeps a run lawful
 lawful-replied : (frame : Frame) (start : Start) (outcome : Outcome) (asked : ReplyAction)
-    → IsLawfulRun frame start outcome → IsLawfulRun frame start (replied frame start outcome asked)
+    → IsLawfulRun frame start outcome → IsLawfulRun frame start (after_reply frame start outcome asked)
 lawful-replied frame start outcome (reply.Short handler operands) lawful =
     lawful-replying frame start _ outcome
     (short_reply-content handler (map (operand_at frame outcome) operands)) lawful
@@ -82,11 +82,11 @@ lawful-other handlers handler frame start = by_handler (is_for_collectives handl
   where
     by_handler : (collective : Bool)
         → IsLawfulRun frame start
-        (if collective then stamped frame start (untouched start)
-        else acts frame start (untouched start) (body_for handlers handler))
-    by_handler true = lawful-stamped frame start (untouched start) (lawful-untouched frame start)
+        (if collective then outcome_of_piece frame start (nothing_done start)
+        else acts frame start (nothing_done start) (body_for handlers handler))
+    by_handler true = lawful-stamped frame start (nothing_done start) (lawful-untouched frame start)
     by_handler false =
-        lawful-acts frame start (untouched start) (body_for handlers handler) (lawful-untouched frame start)
+        lawful-acts frame start (nothing_done start) (body_for handlers handler) (lawful-untouched frame start)
 
 -- each run of a handler of a job is lawful
 pub lawful-script : (handlers : JobHandlers) (handler : ℕ) (frame : Frame) (start : Start)
@@ -95,7 +95,7 @@ lawful-script handlers handler frame start = by_handler (is_for_batches handlers
   where
     by_handler : (batches : Bool)
         → IsLawfulRun frame start
-        (if batches then served handler frame start (untouched start)
+        (if batches then outcome_of_batch handler frame start (nothing_done start)
         else other_meaning handlers handler frame start)
-    by_handler true = lawful-served handler frame start (untouched start) (lawful-untouched frame start)
+    by_handler true = lawful-served handler frame start (nothing_done start) (lawful-untouched frame start)
     by_handler false = lawful-other handlers handler frame start

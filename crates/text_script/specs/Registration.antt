@@ -77,8 +77,8 @@ abbrev pub in_turn : List HandlerText → List HandlerText
 in_turn texts = filter (λ text. not (text.index == 0)) texts ++ filter (λ text. text.index == 0) texts
 
 -- all handlers of a job
-abbrev pub registered : JobHandlers → Registry
-registered handlers = fold register (registered_first handlers.atomics handlers.collect) (in_turn handlers.texts)
+abbrev pub registry_of : JobHandlers → Registry
+registry_of handlers = fold register (registered_first handlers.atomics handlers.collect) (in_turn handlers.texts)
 
 -- the body of this index; none, which does nothing, for another one
 abbrev pub body_among : List (ℕ × List Action) → (index : ℕ) → List Action
@@ -87,4 +87,4 @@ body_among (body ∷ bodies) index = if body.0 == index then body.1 else body_am
 
 -- the body of the handler of the job's own that is registered for this index
 abbrev pub body_for : JobHandlers → (index : ℕ) → List Action
-body_for handlers index = body_among (registered handlers).bodies index
+body_for handlers index = body_among (registry_of handlers).bodies index

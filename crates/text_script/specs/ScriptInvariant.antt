@@ -2,7 +2,7 @@
 use Rattle.std.specs.Prelude.{◌≡◌, true, is_some, ℕ, ◌<◌, ◌≤◌, length, List, Option, Some, slice_get}
 use Rattle.wire_message.specs.Parameters.{Parameters}
 use Rattle.part_handlers.specs.declared.table.Entry.{Entry}
-use Rattle.text_script.specs.Registration.{JobHandlers, registered}
+use Rattle.text_script.specs.Registration.{JobHandlers, registry_of}
 use Rattle.text_script.specs.ScheduledCalls.{IsGiven}
 use Rattle.text_job.specs.CollectAreas.{IsCollectOrNone}
 use Rattle.text_job.specs.declared.job.CollectArea.{CollectArea}
@@ -50,7 +50,7 @@ AllMayCollect collect events =
 -- them, which it may have; and the nodes and threads that the lines of the schedule name are there
 pub record IsMade (settings : Parameters) (collect : Option CollectArea) (handlers : JobHandlers)
     (table : List (Option Entry)) (schedule : Option (List TimedEvent)) : Type 0 where
-  pub table_is : table ≡ (registered handlers).table
+  pub table_is : table ≡ (registry_of handlers).table
   pub collect_is : handlers.collect ≡ is_some collect
   pub area : IsCollectOrNone settings collect
   pub may_collect : AllMayCollect collect (lines_of schedule)

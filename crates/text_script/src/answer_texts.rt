@@ -102,7 +102,7 @@ pub(crate) fn write_delivered<K: Sink>(answer: Delivered, sink: &mut BufferedSin
         (ending (delivered_words answer)) result }
 {
     match answer {
-        Delivered::Ran(_) | Delivered::Noted(..) => write_word(b"ran", sink),
+        Delivered::Ran(_) | Delivered::Notified(..) => write_word(b"ran", sink),
         Delivered::Duplicate(_) => write_word(b"again", sink),
         Delivered::Stale => write_word(b"stale", sink),
         Delivered::Returned { .. } => write_word(b"returned", sink),

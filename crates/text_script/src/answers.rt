@@ -52,7 +52,7 @@ fn write_ticked<K: Sink>(answer: Ticked, endpoint: &Endpoint, sink: &mut Buffere
 {
     match answer {
         Ticked::Retransmission(at) => write_sent(b"resend", at, endpoint, sink),
-        Ticked::Note(at) => write_sent(b"note", at, endpoint, sink),
+        Ticked::Notification(at) => write_sent(b"note", at, endpoint, sink),
         Ticked::Chunk(at) => write_sent(b"chunk", at, endpoint, sink),
         Ticked::Nothing => write_word(b"nothing", sink),
     }

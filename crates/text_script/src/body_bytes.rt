@@ -2,22 +2,22 @@
 
 ghost use Rattle.std.specs.Prelude.{◌≡◌, length};
 ghost use Rattle.std.specs.Option.{option_map};
-ghost use Rattle.part_handlers.specs.Desks.{arrival_at};
+ghost use Rattle.part_handlers.specs.Tokens.{arrival_at};
 ghost use Rattle.part_handlers.specs.Runs.{IsPlaced};
 ghost use Rattle.text_script.specs.Bodies.{kept_write, message_bytes, overwritten_if, payload_bytes, range_bytes};
 
-use part_handlers::Desk;
+use part_handlers::Token;
 use part_segment::Segment;
 use text_calls::Payload;
 
-/// The payload of the message that the desk is for; of a Long the bytes at its place, of a Short none.
-pub(crate) fn message_bytes<'b, 'a: 'b>(segment: &'b Segment, desk: &Desk<'a>) -> &'b [u8]
-    requires { IsPlaced (length segment.now) (arrival_at desk.now).place }
-    ensures { result.now ≡ message_bytes (arrival_at desk.now) segment.now }
+/// The payload of the message that the token is for; of a Long the bytes at its place, of a Short none.
+pub(crate) fn message_bytes<'b, 'a: 'b>(segment: &'b Segment, token: &Token<'a>) -> &'b [u8]
+    requires { IsPlaced (length segment.now) (arrival_at token.now).place }
+    ensures { result.now ≡ message_bytes (arrival_at token.now) segment.now }
 {
-    match desk.place() {
+    match token.place() {
         Some((offset, len)) => segment.part(offset, len).unwrap(),
-        None => desk.payload(),
+        None => token.payload(),
     }
 }
 
@@ -32,16 +32,16 @@ fn range_bytes(segment: &Segment, offset: u64, len: u64) -> Option<&[u8]>
 pub(crate) fn payload_bytes<'b, 'a: 'b>(
     payload: &'b Payload,
     segment: &'b Segment,
-    desk: &Desk<'a>,
+    token: &Token<'a>,
 ) -> Option<&'b [u8]>
-    requires { IsPlaced (length segment.now) (arrival_at desk.now).place }
+    requires { IsPlaced (length segment.now) (arrival_at token.now).place }
     ensures { option_map (λ lent. lent.now) result
-        ≡ payload_bytes (arrival_at desk.now) segment.now payload.now }
+        ≡ payload_bytes (arrival_at token.now) segment.now payload.now }
 {
     match payload {
         Payload::Bytes { bytes } => Some(bytes.items()),
         Payload::Range { offset, len } => range_bytes(segment, *offset, *len),
-        Payload::Message => Some(message_bytes(segment, desk)),
+        Payload::Message => Some(message_bytes(segment, token)),
     }
 }
 

@@ -5,13 +5,13 @@ ghost use Rattle.text_job.specs.declared.job.HandlerText.{HandlerText};
 ghost use Rattle.part_handlers.specs.Registered.{no_entries};
 ghost use Rattle.text_script.specs.Bodies.{is_for_batches, is_for_collectives};
 ghost use Rattle.text_script.specs.Registration.{JobHandlers, batch_entries, body_for, entries_first, entry_of};
-ghost use Rattle.text_script.specs.Registration.{register, registered};
+ghost use Rattle.text_script.specs.Registration.{register, registry_of};
 ghost use Rattle.text_script.specs.Places.{ArePlaced, AtRegistering, body_at, place_at, placing, register_turn};
 
 use crate::body::do_all;
 use node_atomics::{BATCH_HANDLER, BLOCK_HANDLER, entries, serve};
 use part_collective_area::{entry, serve as serve_collective};
-use part_handlers::{Cells, Desk, Entry, Handlers, Serves, Table};
+use part_handlers::{Cells, Entry, Handlers, Serves, Table, Token};
 use part_segment::Segment;
 use std::alloc::{AllocError, Global};
 use std::marker::Model;
@@ -75,7 +75,7 @@ impl ScriptHandlers {
             ≡ record { atomics = services.atomics; collect = services.collect; texts = texts }) }
         ensures table { let handlers : JobHandlers =
             record { atomics = services.atomics; collect = services.collect; texts = texts } in
-            IfOk result (λ made. made.1 ≡ (registered handlers).table) }
+            IfOk result (λ made. made.1 ≡ (registry_of handlers).table) }
     {
         let mut table = Table::new(alloc)?;
         let mut places = [None; PLACES];
@@ -173,7 +173,7 @@ fn register_all(
 )
     requires table { table.old ≡ entries_first services.atomics services.collect }
     requires places { places.old ≡ replicate 128 None }
-    ensures { ArePlaced texts.now (registered (record {
+    ensures { ArePlaced texts.now (registry_of (record {
       atomics = services.atomics;
       collect = services.collect;
       texts = texts.now;
@@ -229,13 +229,13 @@ impl Handlers for ScriptHandlers {
 
     ghost is_lawful = { lawful-script };
 
-    fn run(&self, handler: u8, segment: &mut Segment, cells: &mut Cells, desk: &mut Desk<'_>) {
+    fn run(&self, handler: u8, segment: &mut Segment, cells: &mut Cells, token: &mut Token<'_>) {
         if self.is_for_batches(handler) {
-            serve(handler, segment, desk);
+            serve(handler, segment, token);
         } else if self.is_for_collectives(handler) {
-            serve_collective(segment, desk);
+            serve_collective(segment, token);
         } else {
-            do_all(self.actions(handler), segment, cells, desk);
+            do_all(self.actions(handler), segment, cells, token);
         }
     }
 }

@@ -5,7 +5,7 @@ ghost use Rattle.std.specs.Option.{option_map};
 ghost use Rattle.part_collective_area.specs.Area.{IsArea};
 ghost use Rattle.text_job.specs.JobReading.{lines_of};
 ghost use Rattle.text_job.specs.JobText.{IsJob};
-ghost use Rattle.text_script.specs.Registration.{handlers_of, registered};
+ghost use Rattle.text_script.specs.Registration.{handlers_of, registry_of};
 ghost use Rattle.text_script.specs.ScriptInvariant.{IsWithin, MayCollect};
 
 use crate::handlers::{ScriptHandlers, Services};
@@ -129,7 +129,7 @@ impl Script {
 
     /// The table in which the handlers are registered.
     pub fn table(&self) -> &Table
-        ensures { result.now ≡ (registered (handlers_of self.now)).table }
+        ensures { result.now ≡ (registry_of (handlers_of self.now)).table }
     {
         &self.table
     }

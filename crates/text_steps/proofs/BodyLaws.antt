@@ -6,7 +6,7 @@ use Rattle.text_steps.specs.declared.steps.Action.{Action}
 use Rattle.text_steps.specs.declared.steps.Action.TheVariants as action
 use Rattle.text_calls.specs.Forms.{none_at, none_text, none_fits}
 use Rattle.text_steps.specs.Bodies.{replies, reply_entry, reply_at, reply_text, IsReply}
-use Rattle.text_steps.specs.Bodies.{actions, desk_actions, action_entry, action_at, action_text, IsAction}
+use Rattle.text_steps.specs.Bodies.{actions, token_actions, action_entry, action_at, action_text, IsAction}
 use Rattle.text_calls.proofs.FormLaws.{IsExact, IsTable, IsEntryOf, entry_of, table_exact, none_exact}
 
 reply_again : (r : ReplyAction) → IsEntryOf replies reply_entry r
@@ -23,7 +23,7 @@ unfolding reply_at
 replies_exact = table_exact none_at none_text none_fits replies reply_entry (λ r. true) none_exact replies_are
 
 action_again : (a : Action) → IsEntryOf actions action_entry a
-unfolding actions desk_actions
+unfolding actions token_actions
 action_again (action.Add cell operand) = entry_of refl refl refl
 action_again (action.SetCell cell operand) = entry_of refl refl refl
 action_again (action.Source cell) = entry_of refl refl refl
@@ -35,7 +35,7 @@ action_again (action.Attempt kind) = entry_of refl refl refl
 action_again (action.Reply r) = entry_of refl refl refl
 
 actions_are : IsTable actions action_entry (λ a. true)
-unfolding actions desk_actions
+unfolding actions token_actions
 actions_are = record {
   makes = (
     λ v. refl,

@@ -4,7 +4,7 @@ use Rattle.base_text.specs.Lines.{◌>>=◌}
 use Rattle.text_calls.specs.Forms.{none_at, Row, named_at}
 use Rattle.text_calls.specs.FormTests.{named_form}
 use Rattle.text_calls.proofs.TableLaws.{found_form, read_named, test_named}
-use Rattle.text_steps.specs.Bodies.{action_form_row, action_forms, action_named, action_words_at, actions, desk_actions}
+use Rattle.text_steps.specs.Bodies.{action_form_row, action_forms, action_named, action_words_at, actions, token_actions}
 use Rattle.text_steps.specs.Bodies.{all_replies, replies, reply_at, reply_form, reply_form_row, reply_named}
 use Rattle.text_steps.specs.Bodies.{reply_words_at}
 use Rattle.text_steps.specs.declared.steps.Action.{Action}
@@ -16,7 +16,7 @@ unfolding all_replies
 replies_are = refl
 
 actions_are : actions ≡ map action_form_row action_forms
-unfolding actions desk_actions action_forms
+unfolding actions token_actions action_forms
 actions_are = refl
 
 -- reading a line is reading the words of the form of its name

@@ -113,12 +113,12 @@ abbrev pub reply_row : Row ReplyAction Action
 reply_row = row_of_action (codes "reply") Inner action.Reply
 
 -- the forms of actions from `lock` on
-unfoldable pub desk_actions : List (Row ReplyAction Action)
-desk_actions = lock_row ∷ unlock_row ∷ attempt_row ∷ reply_row ∷ []
+unfoldable pub token_actions : List (Row ReplyAction Action)
+token_actions = lock_row ∷ unlock_row ∷ attempt_row ∷ reply_row ∷ []
 
 -- the forms of actions
 unfoldable pub actions : List (Row ReplyAction Action)
-actions = add_row ∷ set_cell_row ∷ source_row ∷ sum_row ∷ keep_row ∷ desk_actions
+actions = add_row ∷ set_cell_row ∷ source_row ∷ sum_row ∷ keep_row ∷ token_actions
 
 -- the row of a form of the code's table
 abbrev pub action_form_row : ActionForm → Row ReplyAction Action

@@ -1,9 +1,9 @@
 -- The forms of events, and lines of a schedule.
 use Rattle.std.specs.Prelude.{ℕ, ◌-◌, ◌^◌, ◌<◌, List, [], ◌∷◌, ◌++◌, Option, Some, Bool, true, not, ◌==◌, codes}
 use Rattle.std.specs.Prelude.{decimal}
-use Rattle.base_text.specs.Lines.{Word, ◌>>=◌, back, spaced}
+use Rattle.base_text.specs.Lines.{Word, ◌>>=◌, back, after_space}
 use Rattle.text_calls.specs.Forms.{Number, Shape, End, ◌▸◌, Inner, Maker, Values, Row, Entry}
-use Rattle.text_calls.specs.Forms.{passed, row_at, word_at, table_at, entry_text, IsOf, U64, Below}
+use Rattle.text_calls.specs.Forms.{if_passes, row_at, word_at, table_at, entry_text, IsOf, U64, Below}
 use Rattle.text_calls.specs.FormTests.{table_form, behind}
 use Rattle.text_calls.specs.Tables.{first_named}
 use Rattle.text_steps.specs.declared.event_forms.EventForm.{EventForm}
@@ -96,7 +96,7 @@ is_apart event = true
 unfoldable pub event_words_at : Scope → EventForm → List ℕ → Option (ScheduledEvent × List ℕ)
 event_words_at scope form bytes =
     row_at (thread_action_at scope) (event_form_row scope.settings.nodes scope.settings.threads form) bytes
-    >>= passed is_apart
+    >>= if_passes is_apart
 
 -- what reads an event
 unfoldable pub event_at : Scope → List ℕ → Option (ScheduledEvent × List ℕ)
@@ -110,12 +110,12 @@ event_form scope bytes =
 
 -- whether bytes have the form of a line of a schedule: the time is any word
 unfoldable pub timed_form : Scope → List ℕ → Bool
-timed_form scope bytes = behind (event_form scope) (spaced (back bytes))
+timed_form scope bytes = behind (event_form scope) (after_space (back bytes))
 
 -- what reads a line of a schedule
 unfoldable pub timed_at : Scope → List ℕ → Option (TimedEvent × List ℕ)
 timed_at scope bytes =
-    word_at U64 bytes >>= λ time. spaced time.1 >>= λ rest. event_at scope rest >>= λ event.
+    word_at U64 bytes >>= λ time. after_space time.1 >>= λ rest. event_at scope rest >>= λ event.
     Some (record { time = time.0; event = event.0 }, event.1)
 
 -- the text of an event

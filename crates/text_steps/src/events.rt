@@ -125,7 +125,7 @@ fn event_at<'a>(
 ) -> Result<(ScheduledEvent, &'a [u8]), Miss>
     ensures { Reads (λ x. (x.0, x.1.now)) result (event_at scope.now bytes.now) }
 {
-    let Some((form, rest)) = EventForm::at_front(bytes) else {
+    let Some((form, rest)) = EventForm::at_prefix(bytes) else {
         return Err(Miss::Unlike);
     };
     words_at(alloc, scope, form, rest)

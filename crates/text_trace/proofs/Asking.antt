@@ -7,7 +7,7 @@ use Rattle.base_turns.specs.Replay.{Steps}
 use Rattle.text_trace.specs.declared.trace.Trace.{Trace}
 use Rattle.text_trace.specs.Going.{MayGet, MayGo}
 use Rattle.text_trace.specs.Noted.{PlaceMaps, MarkLists, mark, IsNoted, GotNoted, AreAtNoted}
-use Rattle.text_trace.proofs.FrontLemmas.{some_from, some_at}
+use Rattle.text_trace.proofs.PrefixLemmas.{some_from, some_at}
 
 -- it may go where its thread polls
 pub may_go_marked : {S : Type 0} (g : Steps S) (r : S) (es : List Entry) (at : ℕ) (e : Entry) (ps : PlaceMaps)

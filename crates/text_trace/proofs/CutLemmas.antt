@@ -1,15 +1,15 @@
--- The entries that have gone at a front that is reached are a run.
+-- The entries that have gone at a prefix that is reached are a run.
 use Rattle.std.proofs.Common.{◌≡◌, ℕ, zero, suc, ◌+◌, ◌<◌, ◌≤◌, List, [], ◌∷◌, length, take, Option, Some, None}
 use Rattle.std.proofs.Common.{refl, sym, ap, ◌∙◌, subst, inl, inr, arith, slice_get, slice_index, Contains}
 use Rattle.std.proofs.lemmas.List.{take-take, set_past, length-set, length-map}
 use Rattle.std.proofs.lemmas.Bool.{cases_lt, cases_eq}
 use Rattle.std.proofs.lemmas.Option.{slice_get_within}
 use Rattle.base_turns.specs.declared.entry.Entry.{Entry}
-use Rattle.base_turns.specs.Replay.{Steps, replayed, sent_in}
-use Rattle.base_turns.specs.Fronts.{Node, replay, start, full, advance, WasSent, CanGet, CanGo, GoesOn, Reaches, IsRun}
+use Rattle.base_turns.specs.Replay.{Steps, replay_state, sent_in}
+use Rattle.base_turns.specs.Prefixes.{Node, replay, start, full, advance, WasSent, CanGet, CanGo, GoesOn, Reaches, IsRun}
 use Rattle.text_trace.specs.Cut.{cut, cut_one}
-use Rattle.text_trace.proofs.FrontLemmas.{Within, some_from, some_at, advance_same, advance_other}
-use Rattle.text_trace.proofs.FrontLemmas.{reached_length, start_at}
+use Rattle.text_trace.proofs.PrefixLemmas.{Within, some_from, some_at, advance_same, advance_other}
+use Rattle.text_trace.proofs.PrefixLemmas.{reached_length, start_at}
 
 -- the node at a place
 
@@ -57,13 +57,13 @@ module _ {S : Type 0} (g : Steps S) (xs : List (Node S)) (p : List ℕ) where
       let x = at.0 in
       let en = some_from (slice_get x.entries i) _ at.2 in
       let same : replay g x i ≡ replay g (cut_one x k) i =
-      ap (replayed g x.state) (sym (take-take i k x.entries (within n))) in
+      ap (replay_state g x.state) (sym (take-take i k x.entries (within n))) in
       some_at (slice_get (cut xs p) n) _ (cut_one x k) (cut_at xs p n x at.1)
       (some_at (slice_get (take k x.entries) i) _ en.0 (cut_entry x.entries i k below ∙ en.1)
       (subst (λ m. CanGet g (cut xs p) f n m (en.0).thread (en.0).got) same
       (can_get_cut f n (replay g x i) (en.0).thread (en.0).got within en.2)))
 
--- fronts only grow
+-- prefixes only grow
 
 advance_more : (f : List ℕ) (n : ℕ) → Within f (advance f n)
 advance_more f n k =
@@ -97,7 +97,7 @@ goes_cut g xs (n ∷ ns) f to len h =
       goes_cut g xs ns (advance f n) to (length-set f n (slice_index f n + 1) ∙ len) h.1,
     )
 
--- no front has more than there is
+-- no prefix has more than there is
 
 abbrev pub Bounded : {S : Type 0} → List (Node S) → List ℕ → Type 0
 Bounded {S} xs f = (n : ℕ) (x : Node S) → slice_get xs n ≡ Some x → slice_index f n ≤ length x.entries

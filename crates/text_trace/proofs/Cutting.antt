@@ -14,7 +14,7 @@ use Rattle.base_text.specs.Reasons.{is_text}
 use Rattle.text_trace.specs.TraceReading.{line_at, words_of, is_one, second_of, turn_of}
 use Rattle.text_trace.proofs.LineLaws.{cond_not, cut_whole, text_ends}
 use Rattle.base_text.proofs.Decimals.{not_so}
-use Rattle.base_text.proofs.Fronts.{cond_yes}
+use Rattle.base_text.proofs.Prefixes.{cond_yes}
 
 -- the first place of a byte
 pub place_is : (byte : ℕ) (bytes : List ℕ) (r : Option ℕ) → IsFirstByte (is_byte byte) bytes r → r

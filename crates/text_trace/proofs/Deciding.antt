@@ -1,4 +1,4 @@
--- Whether an entry can go is decided, so going on as far as one can ends in a run or at a stuck front.
+-- Whether an entry can go is decided, so going on as far as one can ends in a run or at a stuck prefix.
 use Rattle.std.proofs.Common.{◌≡◌, ℕ, zero, suc, ◌+◌, ◌<◌, ◌≤◌, Bool, true, false, List, [], ◌∷◌, ◌++◌, length, get_or}
 use Rattle.std.proofs.Common.{Option, Some, None, refl, sym, ap, ◌∙◌, subst, ◌⊎◌, inl, inr, arith, slice_get}
 use Rattle.std.proofs.Common.{slice_index, Contains, IsSomeAnd, sum}
@@ -10,10 +10,10 @@ use Rattle.std.proofs.lemmas.Slice.Eq.{bytes_eq-Decides}
 use Rattle.std.specs.Str.{bytes_eq}
 use Rattle.std.proofs.lemmas.Option.{slice_get_within, get_or_from_slice_get, slice_get_cases}
 use Rattle.base_turns.specs.Replay.{Steps}
-use Rattle.base_turns.specs.Fronts.{Node, replay, sent_of, start, full, advance, WasSent, CanGet, CanGo, GoesOn, Reaches}
-use Rattle.base_turns.specs.Fronts.{IsRun, HasLeft, IsStuck}
-use Rattle.text_trace.proofs.FrontLemmas.{some_from, some_at, some_then, reached_length, Within, advance_within}
-use Rattle.text_trace.proofs.FrontLemmas.{start_within}
+use Rattle.base_turns.specs.Prefixes.{Node, replay, sent_of, start, full, advance, WasSent, CanGet, CanGo, GoesOn, Reaches}
+use Rattle.base_turns.specs.Prefixes.{IsRun, HasLeft, IsStuck}
+use Rattle.text_trace.proofs.PrefixLemmas.{some_from, some_at, some_then, reached_length, Within, advance_within}
+use Rattle.text_trace.proofs.PrefixLemmas.{start_within}
 
 abbrev pub Either : Type 0 → Type 0
 Either P = P ⊎ (P → ⊥)
@@ -99,7 +99,7 @@ pub either_go : {S : Type 0} (g : Steps S) (xs : List (Node S)) (f : List ℕ) (
 either_go g xs f n = either_some (slice_get xs n) _ (λ x. either_some (slice_get x.entries (slice_index f n)) _
     (λ e. either_get g xs f n (replay g x (slice_index f n)) e.thread e.got))
 
--- how far a front can be from all entries
+-- how far a prefix can be from all entries
 
 pub go_left : {S : Type 0} (g : Steps S) (xs : List (Node S)) (f : List ℕ) (n : ℕ) → CanGo g xs f n → HasLeft xs f n
 go_left g xs f n h = some_then (slice_get xs n) _ _ (λ x _ h'. let e = some_from (slice_get x.entries (slice_index f n))
@@ -181,7 +181,7 @@ advance_counts g xs f n l w go =
     ∙ sym (length-map xs (λ x. length x.entries))) (advance_full g xs f n w go) in
     (e, omega arith)
 
--- where none can go, all have gone, or the front is stuck
+-- where none can go, all have gone, or the prefix is stuck
 settled : {S : Type 0} (g : Steps S) (xs : List (Node S)) (ns f : List ℕ) → Reaches g xs ns f → Within f (full xs)
     → ((n : ℕ) → n < length xs → CanGo g xs f n → ⊥)
     → IsRun g xs ⊎ ((s : List ℕ) × IsStuck g xs s)

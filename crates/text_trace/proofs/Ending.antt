@@ -4,23 +4,23 @@ use Rattle.std.proofs.Common.{arith, slice_index, replicate, Ok, Err, Vec}
 use Rattle.std.specs.Global.{Global}
 use Rattle.std.proofs.lemmas.Bool.{cases_eq}
 use Rattle.base_turns.specs.declared.turns.Machine.{Ghosts}
-use Rattle.base_turns.specs.Fronts.{Node, full, HasLeft}
+use Rattle.base_turns.specs.Prefixes.{Node, full, HasLeft}
 use Rattle.text_trace.specs.declared.trace.Trace.{Trace}
 use Rattle.text_trace.specs.declared.trace.Placed.{Placed}
 use Rattle.text_trace.specs.declared.merging.MergeFault.TheVariants.{NotARun, NoMemory}
 use Rattle.text_trace.specs.Going.{MergeState, IsBlocked, IsLeftAt}
 use Rattle.text_trace.specs.Noted.{IsNoted}
 use Rattle.text_trace.specs.Merged.{StandFor, nodes_of, Merges}
-use Rattle.text_trace.proofs.FrontLemmas.{Within}
+use Rattle.text_trace.proofs.PrefixLemmas.{Within}
 use Rattle.text_trace.proofs.Deciding.{all_gone}
 use Rattle.text_trace.proofs.NodeLemmas.{ends, ends_full, nodes_of_length}
-use Rattle.text_trace.proofs.Walking.{Walk, Stood, start_is_front, replays_start, left_trace, trace_left, none_can}
+use Rattle.text_trace.proofs.Walking.{Walk, Stood, start_is_prefix, replays_start, left_trace, trace_left, none_can}
 
 -- before any entry went
 pub merges_start : {M : Type 0} (g : Ghosts M) (rs : List g.State) (ts : List Trace) (ms : List M) → length ts
     ≡ length ms → StandFor g ms rs → Merges g (nodes_of rs ts) (replicate (length ms) 0) (Err NoMemory) ms
 merges_start {M} g rs ts ms l stand =
-    subst (λ f. Merges g (nodes_of rs ts) f (Err NoMemory) ms) (start_is_front g rs ts (replicate (length ms) 0) ms l
+    subst (λ f. Merges g (nodes_of rs ts) f (Err NoMemory) ms) (start_is_prefix g rs ts (replicate (length ms) 0) ms l
     stand refl)
     (record { answers = ([], refl); replays = replays_start g rs ts ms l stand })
 
@@ -55,15 +55,15 @@ merges_all g rs ts f ms kept placed l w s none =
 pub merges_stuck : {M : Type 0} (g : Ghosts M) (rs : List g.State) (merging : MergeState M) (placed : List Placed)
     (node : ℕ)
     → length merging.traces ≡ length rs → length merging.traces ≡ length merging.machines
-    → Stood g (nodes_of rs merging.traces) merging.front merging.machines (IsNoted merging.places merging.marks) placed
+    → Stood g (nodes_of rs merging.traces) merging.prefix merging.machines (IsNoted merging.places merging.marks) placed
     → ((n : ℕ) → n < length merging.machines → IsBlocked g merging n)
-    → IsLeftAt merging.traces merging.front node
-    → ((k : ℕ) → k < node → IsLeftAt merging.traces merging.front k → ⊥)
-    → Merges g (nodes_of rs merging.traces) merging.front
-    (Err (NotARun node (slice_index merging.front node + 1))) merging.machines
+    → IsLeftAt merging.traces merging.prefix node
+    → ((k : ℕ) → k < node → IsLeftAt merging.traces merging.prefix k → ⊥)
+    → Merges g (nodes_of rs merging.traces) merging.prefix
+    (Err (NotARun node (slice_index merging.prefix node + 1))) merging.machines
 merges_stuck g rs merging placed node l l' s none left first =
     let ts = merging.traces in
-    let f = merging.front in
+    let f = merging.prefix in
     let here : HasLeft (nodes_of rs ts) f node = trace_left rs ts f node l left in
     record {
       answers = (

@@ -9,7 +9,7 @@ use Rattle.base_text.specs.Lines.{Word}
 use Rattle.base_text.specs.LineTexts.{IsPlain}
 use Rattle.base_text.proofs.ByteLaws.{pairs_take}
 use Rattle.base_text.proofs.Decimals.{not_so}
-use Rattle.base_text.proofs.Fronts.{cond_yes}
+use Rattle.base_text.proofs.Prefixes.{cond_yes}
 use Rattle.text_trace.specs.TraceReading.{decoded_bytes, few_got}
 use Rattle.text_trace.specs.declared.words.TheConstants.{MAX_GOT}
 

@@ -11,12 +11,12 @@ use Rattle.std.proofs.lemmas.List.Sums.{split_at_first}
 use Rattle.std.proofs.lemmas.Bool.{ne_eqb, eqb-true}
 use Rattle.base_text.specs.declared.why.LineWhy.{LineWhy}
 use Rattle.base_text.specs.Lines.{Word}
-use Rattle.base_text.specs.LineTexts.{Line, IsPlain, IsWord, IsLine, spaced_word, joined, line_text}
+use Rattle.base_text.specs.LineTexts.{Line, IsPlain, IsWord, IsLine, spaced_word, text_of_words, line_text}
 use Rattle.base_text.specs.Chains.{◌>>=◌}
 use Rattle.base_text.specs.Reasons.{is_text}
 use Rattle.base_text.proofs.TextLaws.{text_again, text_takes}
 use Rattle.text_trace.specs.TraceReading.{at_line, words_of, line_at, read_line}
-use Rattle.base_text.proofs.Fronts.{cond_yes}
+use Rattle.base_text.proofs.Prefixes.{cond_yes}
 
 -- ---- results
 
@@ -44,7 +44,7 @@ cond_not false x y h = refl
 
 -- ---- lines
 
-pub joined-join : (words : Line) → joined words ≡ join_with_byte 32 words
+pub joined-join : (words : Line) → text_of_words words ≡ join_with_byte 32 words
 joined-join [] = refl
 joined-join (word ∷ []) = append-nil word
 joined-join (word ∷ next ∷ words) = ap (λ z. word ++ (32 ∷ z)) (joined-join (next ∷ words))
@@ -71,12 +71,12 @@ cut_whole bytes within =
     ∙ ap (λ (n : ℕ). before_first (λ b. eqb b 10) bytes ++ n ∷ after_first (λ b. eqb b 10) bytes) (at_first bytes within)
 
 -- a line's words, joined, are the line
-pub words_joined : (line : List ℕ) → joined (words_of line) ≡ line
+pub words_joined : (line : List ℕ) → text_of_words (words_of line) ≡ line
 words_joined line = joined-join (words_of line) ∙ join_with_byte-slice_split 32 line
 
-pos_front : (l r : List ℕ) → AllByRecursion (λ b. b ≢ 10) l → break_at (l ++ 10 ∷ r) ≡ length l
-pos_front [] r h = refl
-pos_front (b ∷ l) r h = rw (ne_eqb b 10 h.0) (omega (arith, pos_front l r h.1))
+pos_prefix : (l r : List ℕ) → AllByRecursion (λ b. b ≢ 10) l → break_at (l ++ 10 ∷ r) ≡ length l
+pos_prefix [] r h = refl
+pos_prefix (b ∷ l) r h = rw (ne_eqb b 10 h.0) (omega (arith, pos_prefix l r h.1))
 
 both : (P : ℕ → Type 0) (xs ys : List ℕ) → AllByRecursion P xs → AllByRecursion P ys → AllByRecursion P (xs ++ ys)
 both P [] ys h k = k
@@ -97,7 +97,7 @@ spaced_breaks (word ∷ words) h = (
       (word_breaks word h.0) (spaced_breaks words h.1),
 )
 
-no_break : (words : Line) → IsLine words → AllByRecursion (λ b. b ≢ 10) (joined words)
+no_break : (words : Line) → IsLine words → AllByRecursion (λ b. b ≢ 10) (text_of_words words)
 no_break [] h = tt
 no_break (word ∷ words) h = both (λ b. b ≢ 10) word (flat_map spaced_word words) (word_breaks word h.0)
     (spaced_breaks words h.1)
@@ -106,12 +106,12 @@ word_spaces : (word : Word) → IsWord word → All (λ b. eqb b 32 ≡ false) w
 word_spaces word h = All-from_recursion (λ b. eqb b 32 ≡ false) word (weaker IsPlain (λ b. eqb b 32 ≡ false)
     (λ b p. let l = p.0 in ne_eqb b 32 (λ e. omega arith)) word h.plain)
 
-pub split_joined : (words : Line) → IsLine words → slice_split (λ b. eqb b 32) (joined words) ≡ words
+pub split_joined : (words : Line) → IsLine words → slice_split (λ b. eqb b 32) (text_of_words words) ≡ words
 split_joined [] h = absurd h
 split_joined (word ∷ []) h = ap (slice_split (λ b. eqb b 32)) (append-nil word) ∙ slice_split_none (λ b. eqb b 32) word
     (word_spaces word h.0)
 split_joined (word ∷ next ∷ words) h =
-    slice_split_at (λ b. eqb b 32) word 32 (joined (next ∷ words)) (word_spaces word h.0) refl
+    slice_split_at (λ b. eqb b 32) word 32 (text_of_words (next ∷ words)) (word_spaces word h.0) refl
     ∙ ap (λ (ws : Line). word ∷ ws) (split_joined (next ∷ words) h.1)
 
 drop_seam : (l r : List ℕ) (b : ℕ) → drop (suc (length l)) (l ++ b ∷ r) ≡ r
@@ -122,30 +122,30 @@ drop_seam (x ∷ l) r b = drop_seam l r b
 pub text_ends : (bytes : List ℕ) → is_text bytes ≡ true → break_at bytes < length bytes
 text_ends bytes test =
     let found = text_takes bytes test in
-    let whole : bytes ≡ joined found.words ++ 10 ∷ found.rest =
-    found.text ∙ append_assoc (joined found.words) (10 ∷ []) found.rest in
-    let at = ap break_at whole ∙ pos_front (joined found.words) found.rest (no_break found.words found.are) in
-    let size = ap length whole ∙ length-append (joined found.words) (10 ∷ found.rest) in
+    let whole : bytes ≡ text_of_words found.words ++ 10 ∷ found.rest =
+    found.text ∙ append_assoc (text_of_words found.words) (10 ∷ []) found.rest in
+    let at = ap break_at whole ∙ pos_prefix (text_of_words found.words) found.rest (no_break found.words found.are) in
+    let size = ap length whole ∙ length-append (text_of_words found.words) (10 ∷ found.rest) in
     omega (arith, at, size)
 
 pub cut_again : (l rest : List ℕ) → AllByRecursion (λ b. b ≢ 10) l → is_text (l ++ 10 ∷ rest) ≡ true
     → line_at (l ++ 10 ∷ rest) ≡ Ok (l, rest)
 unfolding line_at
 cut_again l rest h test =
-    let at = pos_front l rest h in
+    let at = pos_prefix l rest h in
     let len : length (l ++ 10 ∷ rest) ≡ length l + suc (length rest) = length-append l (10 ∷ rest) in
-    let front : before_first (λ b. eqb b 10) (l ++ 10 ∷ rest) ≡ l = rw (at, take-append_seam l (10 ∷ rest)) refl in
+    let prefix : before_first (λ b. eqb b 10) (l ++ 10 ∷ rest) ≡ l = rw (at, take-append_seam l (10 ∷ rest)) refl in
     let back : after_first (λ b. eqb b 10) (l ++ 10 ∷ rest) ≡ rest = rw (at, add-one (length l), drop_seam l rest 10)
     refl in
     cond_not _ _ _ (ne_eqb (length (l ++ 10 ∷ rest)) 0 (λ z. omega arith)) ∙ cond_yes _ _ _ test ∙
-    ap (λ z. Ok (z, after_first (λ b. eqb b 10) (l ++ 10 ∷ rest))) front ∙ ap (λ z. Ok (l, z)) back
+    ap (λ z. Ok (z, after_first (λ b. eqb b 10) (l ++ 10 ∷ rest))) prefix ∙ ap (λ z. Ok (l, z)) back
 
 pub line_again : (words : Line) (rest : List ℕ) → IsLine words → line_at (line_text words ++ rest)
-    ≡ Ok (joined words, rest)
+    ≡ Ok (text_of_words words, rest)
 line_again words rest h =
-    let cut = append_assoc (joined words) (10 ∷ []) rest in
+    let cut = append_assoc (text_of_words words) (10 ∷ []) rest in
     ap line_at cut
-    ∙ cut_again (joined words) rest (no_break words h) (ap is_text (sym cut) ∙ text_again words rest h)
+    ∙ cut_again (text_of_words words) rest (no_break words h) (ap is_text (sym cut) ∙ text_again words rest h)
 
 -- the words of a line that was read: they are a line, and the bytes begin with its text
 pub record LineIs (bytes : List ℕ) (x : List ℕ × List ℕ) : Type 0 where
@@ -158,10 +158,10 @@ line_takes bytes x e =
     let some = guard_err _ _ _ x e in
     let test = guard_ok _ _ _ x some.1 in
     let found = text_takes bytes test.0 in
-    let again : line_at bytes ≡ Ok (joined found.words, found.rest) =
+    let again : line_at bytes ≡ Ok (text_of_words found.words, found.rest) =
     ap line_at found.text ∙ line_again found.words found.rest found.are in
-    let words : words_of (joined found.words) ≡ found.words = split_joined found.words found.are in
-    subst (LineIs bytes) (ok_is (joined found.words, found.rest) x (sym again ∙ e)) (record {
+    let words : words_of (text_of_words found.words) ≡ found.words = split_joined found.words found.are in
+    subst (LineIs bytes) (ok_is (text_of_words found.words, found.rest) x (sym again ∙ e)) (record {
       are = subst IsLine (sym words) found.are;
       text = found.text ∙ ap (λ (line : Line). line_text line ++ found.rest) (sym words);
     })

@@ -9,10 +9,10 @@ use Rattle.text_trace.specs.declared.fault.TraceFault.{TraceFault}
 use Rattle.text_trace.specs.declared.fault.TraceFault.TheVariants as faults
 use Rattle.base_text.specs.declared.why.LineWhy.{LineWhy}
 use Rattle.base_text.specs.declared.why.LineWhy.TheVariants.{Size, Early, Text, Form, Value, Entry, Count, After}
-use Rattle.base_text.specs.LineTexts.{Line, IsLine, joined, line_text, spell}
+use Rattle.base_text.specs.LineTexts.{Line, IsLine, text_of_words, line_text, spell}
 use Rattle.base_text.specs.Chains.{◌>>=◌}
 use Rattle.text_trace.specs.TraceReading.{BadLine, at_line, line_at, read_line, words_of}
-use Rattle.text_trace.specs.LineRefusals.{Before, EndsEarly, HasNoText, IsAtFault, IsFront, IsMeant, IsNoFront, IsNoMemory}
+use Rattle.text_trace.specs.LineRefusals.{Before, EndsEarly, HasNoText, IsAtFault, IsPrefix, IsMeant, IsNoPrefix, IsNoMemory}
 use Rattle.text_trace.specs.LineRefusals.{IsWrong, Means, TextKind}
 use Rattle.text_trace.proofs.LineLaws.{line_again, line_takes, ok_is, split_joined}
 use Rattle.base_lists.proofs.Members.{all_append}
@@ -116,11 +116,11 @@ line_same a b x y first second e =
     (sym (split_joined a first) ∙ ap words_of same.0 ∙ split_joined b second, same.1)
 
 pub no_text : (line : Line) (rest : List ℕ) → line_text line ++ rest ≡ [] → ⊥
-no_text line rest e = some_bytes (joined line) rest e
+no_text line rest e = some_bytes (text_of_words line) rest e
   where
-    some_bytes : (front rest : List ℕ) → (front ++ 10 ∷ []) ++ rest ≡ [] → ⊥
+    some_bytes : (prefix rest : List ℕ) → (prefix ++ 10 ∷ []) ++ rest ≡ [] → ⊥
     some_bytes [] rest e = cc
-    some_bytes (b ∷ front) rest e = cc
+    some_bytes (b ∷ prefix) rest e = cc
 
 pub begin_same : (all lines : List Line) (more : List ℕ) → AllByRecursion IsLine all → AllByRecursion IsLine lines
     → spell all ≡ spell lines ++ more → (others : List Line) × (all ≡ lines ++ others)
@@ -185,8 +185,8 @@ module _ {A : Type 0} (kind : TextKind A) (has : HasLines kind) where
     text = reached.text ∙ ap (λ (t : List ℕ). spell lines ++ t) e ∙ sym (spelled_more lines line more);
   }
 
-  abbrev front_of : (lines : List Line) → Walked kind has lines → IsFront kind (spell lines)
-  front_of lines walked = record {
+  abbrev prefix_of : (lines : List Line) → Walked kind has lines → IsPrefix kind (spell lines)
+  prefix_of lines walked = record {
     one = walked.one;
     more = spell (walked.next ∷ walked.others);
     is = walked.is;
@@ -207,7 +207,7 @@ module _ {A : Type 0} (kind : TextKind A) (has : HasLines kind) where
 
   -- no text goes on with a line that may not stand there
   none_with : (lines : List Line) (words : Line) → AllByRecursion IsLine lines → IsLine words
-      → (kind.MayStand lines words → ⊥) → IsNoFront kind (spell (lines ++ words ∷ []))
+      → (kind.MayStand lines words → ⊥) → IsNoPrefix kind (spell (lines ++ words ∷ []))
   none_with lines words are is none one more is_one e =
       let begun = begin_same (has.lines_of one) (lines ++ words ∷ []) more (has.are one is_one)
       (all_append IsLine lines (words ∷ []) are (is, tt)) (sym (has.text_is one) ∙ e) in
@@ -220,7 +220,7 @@ module _ {A : Type 0} (kind : TextKind A) (has : HasLines kind) where
   wrong_by lines bytes rest line reached count words more why is text (NoForm form unlike) =
       let wrong : IsWrong kind bytes line Form = record {
         before = before_of lines bytes rest line reached count;
-        front = front_of lines reached.walked;
+        prefix = prefix_of lines reached.walked;
         words = words;
         are = is;
         more = more;
@@ -232,7 +232,7 @@ module _ {A : Type 0} (kind : TextKind A) (has : HasLines kind) where
   wrong_by lines bytes rest line reached count words more why is text (NoValue value form unlike) =
       let wrong : IsWrong kind bytes line Value = record {
         before = before_of lines bytes rest line reached count;
-        front = front_of lines reached.walked;
+        prefix = prefix_of lines reached.walked;
         words = words;
         are = is;
         more = more;
@@ -250,14 +250,14 @@ module _ {A : Type 0} (kind : TextKind A) (has : HasLines kind) where
   fails_behind lines bytes rest line read bad reached count refuses (AtEnd empty e) =
       let early : EndsEarly kind bytes line = record {
         before = before_of lines bytes rest line reached count;
-        front = front_of lines reached.walked;
+        prefix = prefix_of lines reached.walked;
         none = empty;
       } in
       subst (λ (b : BadLine). Means kind bytes b.line b.why) (sym e) early
   fails_behind lines bytes rest line read bad reached count refuses (NoWords some none e) =
       let no_words : HasNoText kind bytes line = record {
         before = before_of lines bytes rest line reached count;
-        front = front_of lines reached.walked;
+        prefix = prefix_of lines reached.walked;
         some = some;
         no_text = none;
       } in
@@ -274,28 +274,28 @@ module _ {A : Type 0} (kind : TextKind A) (has : HasLines kind) where
     AtBytes : (rest ≡ [] → ⊥) → ((words : Line) (more : List ℕ) → IsLine words → rest ≡ line_text words ++ more → ⊥)
         → why ≡ Text → Stops lines rest why
     AtLine : (words : Line) (more : List ℕ) → IsLine words → rest ≡ line_text words ++ more
-        → IsNoFront kind (spell (lines ++ words ∷ [])) → IsAtFault kind why lines words → Stops lines rest why
+        → IsNoPrefix kind (spell (lines ++ words ∷ [])) → IsAtFault kind why lines words → Stops lines rest why
 
   record StopsAt (bytes : List ℕ) (line : ℕ) (why : LineWhy) : Type 0 where
     pub before : Before bytes line
-    pub front : IsFront kind (spell before.lines)
+    pub prefix : IsPrefix kind (spell before.lines)
     pub stops : Stops before.lines before.rest why
 
   stops_at : (bytes : List ℕ) (line : ℕ) (why : LineWhy) → Means kind bytes line why → StopsAt bytes line why
-  stops_at bytes line Early m = record { before = m.before; front = m.front; stops = AtNone m.none refl }
-  stops_at bytes line Text m = record { before = m.before; front = m.front; stops = AtBytes m.some m.no_text refl }
+  stops_at bytes line Early m = record { before = m.before; prefix = m.prefix; stops = AtNone m.none refl }
+  stops_at bytes line Text m = record { before = m.before; prefix = m.prefix; stops = AtBytes m.some m.no_text refl }
   stops_at bytes line Size m = absurd m.fault
   stops_at bytes line Entry m = absurd m.fault
   stops_at bytes line Count m = absurd m.fault
   stops_at bytes line After m = absurd m.fault
   stops_at bytes line Form m = record {
     before = m.before;
-    front = m.front;
+    prefix = m.prefix;
     stops = AtLine m.words m.more m.are m.text m.none m.fault;
   }
   stops_at bytes line Value m = record {
     before = m.before;
-    front = m.front;
+    prefix = m.prefix;
     stops = AtLine m.words m.more m.are m.text m.none m.fault;
   }
 
@@ -428,12 +428,12 @@ module _ {A : Type 0} (kind : TextKind A) (has : HasLines kind) where
       )
   stops_once bytes line other why reason one two (First longer) =
       absurd (no_stop two.before.lines two.before.rest reason two.stops longer.words longer.others
-      (spell longer.others ++ one.before.rest) one.front.more one.front.one longer.is longer.rest_is one.front.is
-      (one.front.text ∙ ap (λ (ls : List Line). spell ls ++ one.front.more) longer.more_is))
+      (spell longer.others ++ one.before.rest) one.prefix.more one.prefix.one longer.is longer.rest_is one.prefix.is
+      (one.prefix.text ∙ ap (λ (ls : List Line). spell ls ++ one.prefix.more) longer.more_is))
   stops_once bytes line other why reason one two (Second longer) =
       absurd (no_stop one.before.lines one.before.rest why one.stops longer.words longer.others
-      (spell longer.others ++ two.before.rest) two.front.more two.front.one longer.is longer.rest_is two.front.is
-      (two.front.text ∙ ap (λ (ls : List Line). spell ls ++ two.front.more) longer.more_is))
+      (spell longer.others ++ two.before.rest) two.prefix.more two.prefix.one longer.is longer.rest_is two.prefix.is
+      (two.prefix.text ∙ ap (λ (ls : List Line). spell ls ++ two.prefix.more) longer.more_is))
 
   pub means_once : (bytes : List ℕ) (line other : ℕ) (why reason : LineWhy) → Means kind bytes line why
       → Means kind bytes other reason → SameBad line other why reason
@@ -450,21 +450,21 @@ module _ {A : Type 0} (kind : TextKind A) (has : HasLines kind) where
       (rest : List ℕ) → kind.IsOne one
       → Compared stops.before.lines (has.lines_of one) stops.before.rest rest → ⊥
   stops_no_text bytes line why stops one rest is (Same lines rests) =
-      stops.front.goes_on (has.alone one stops.front.one stops.front.more is stops.front.is
-      (stops.front.text ∙ ap (λ (ls : List Line). spell ls ++ stops.front.more) lines
-      ∙ ap (λ (t : List ℕ). t ++ stops.front.more) (sym (has.text_is one))))
+      stops.prefix.goes_on (has.alone one stops.prefix.one stops.prefix.more is stops.prefix.is
+      (stops.prefix.text ∙ ap (λ (ls : List Line). spell ls ++ stops.prefix.more) lines
+      ∙ ap (λ (t : List ℕ). t ++ stops.prefix.more) (sym (has.text_is one))))
   stops_no_text bytes line why stops one rest is (First longer) =
-      let more = line_text longer.words ++ (spell longer.others ++ stops.front.more) in
-      let begins : kind.text_of stops.front.one ≡ kind.text_of one ++ more =
-      stops.front.text ∙ ap (λ (ls : List Line). spell ls ++ stops.front.more) longer.more_is
-      ∙ ap (λ (t : List ℕ). t ++ stops.front.more)
+      let more = line_text longer.words ++ (spell longer.others ++ stops.prefix.more) in
+      let begins : kind.text_of stops.prefix.one ≡ kind.text_of one ++ more =
+      stops.prefix.text ∙ ap (λ (ls : List Line). spell ls ++ stops.prefix.more) longer.more_is
+      ∙ ap (λ (t : List ℕ). t ++ stops.prefix.more)
       (flat_map-append line_text (has.lines_of one) (longer.words ∷ longer.others))
-      ∙ append_assoc (spell (has.lines_of one)) (spell (longer.words ∷ longer.others)) stops.front.more
+      ∙ append_assoc (spell (has.lines_of one)) (spell (longer.words ∷ longer.others)) stops.prefix.more
       ∙ ap (λ (t : List ℕ). spell (has.lines_of one) ++ t)
-      (append_assoc (line_text longer.words) (spell longer.others) stops.front.more)
+      (append_assoc (line_text longer.words) (spell longer.others) stops.prefix.more)
       ∙ ap (λ (t : List ℕ). t ++ more) (sym (has.text_is one)) in
-      no_text longer.words (spell longer.others ++ stops.front.more)
-      (has.alone one stops.front.one more is stops.front.is begins)
+      no_text longer.words (spell longer.others ++ stops.prefix.more)
+      (has.alone one stops.prefix.one more is stops.prefix.is begins)
   stops_no_text bytes line why stops one rest is (Second longer) =
       no_stop stops.before.lines stops.before.rest why stops.stops longer.words longer.others
       (spell longer.others ++ rest) [] one longer.is longer.rest_is is

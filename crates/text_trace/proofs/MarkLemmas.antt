@@ -8,7 +8,7 @@ use Rattle.std.proofs.lemmas.Bool.{cases_eq}
 use Rattle.std.proofs.lemmas.Option.{same_Some, slice_get_within}
 use Rattle.std.proofs.lemmas.List.{get_or-set_same, get_or-set_other, length-set}
 use Rattle.text_trace.specs.Noted.{PlaceMaps, MarkLists, spot, mark, IsNoted, Fit, Marks, datagram}
-use Rattle.text_trace.proofs.FrontLemmas.{some_from, some_at}
+use Rattle.text_trace.proofs.PrefixLemmas.{some_from, some_at}
 use Rattle.std.proofs.lemmas.List.Elements.{Contains-append_left, Contains-append_right, Contains-append_cases}
 use Rattle.std.specs.Option.{option_to_list}
 use Rattle.text_trace.proofs.NodeLemmas.{take_more_get}

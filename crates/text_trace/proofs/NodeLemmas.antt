@@ -6,11 +6,11 @@ use Rattle.std.specs.Option.{option_to_list}
 use Rattle.std.proofs.lemmas.Option.{slice_get_cases, slice_get_within, get_or_from_slice_get, same_Some}
 use Rattle.base_turns.specs.declared.turns.Machine.{Ghosts}
 use Rattle.base_turns.specs.declared.entry.Entry.{Entry}
-use Rattle.base_turns.specs.Fronts.{Node, full}
+use Rattle.base_turns.specs.Prefixes.{Node, full}
 use Rattle.text_trace.specs.declared.trace.Trace.{Trace}
 use Rattle.text_trace.specs.Going.{CanTake, CanTakeNext}
 use Rattle.text_trace.specs.Merged.{StandFor, nodes_of, HaveThreads}
-use Rattle.text_trace.proofs.FrontLemmas.{some_from}
+use Rattle.text_trace.proofs.PrefixLemmas.{some_from}
 
 -- how many entries each trace has
 abbrev pub ends : List Trace → List ℕ

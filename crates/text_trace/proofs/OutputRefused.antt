@@ -15,7 +15,7 @@ use Rattle.text_trace.specs.declared.output.NodeStatus.{NodeStatus}
 use Rattle.text_trace.specs.declared.output.NodeStatus.TheVariants as status
 use Rattle.text_trace.specs.declared.output.Output.{Output}
 use Rattle.text_trace.specs.declared.output.Wanted.{Wanted}
-use Rattle.base_text.specs.LineTexts.{Line, IsLine, joined, line_text, spell}
+use Rattle.base_text.specs.LineTexts.{Line, IsLine, text_of_words, line_text, spell}
 use Rattle.text_trace.specs.LineRefusals.{IsMeant, Means, TextKind}
 use Rattle.text_trace.specs.OutputReading.{output_at, status_at, status_of}
 use Rattle.text_trace.specs.OutputRefusals.{AtEntries, AtStatus, HasForm, MayStand, OutputPlace, output_kind}
@@ -40,7 +40,7 @@ use Rattle.base_lists.proofs.Members.{all_append}
 
 -- ---- the line of a status
 
-words_text : (ended : NodeStatus) → joined (status_line ended) ≡ status_text ended
+words_text : (ended : NodeStatus) → text_of_words (status_line ended) ≡ status_text ended
 words_text status.Ok = refl
 words_text status.Violations = refl
 words_text status.LinkFault = refl
@@ -49,7 +49,7 @@ words_text status.JournalFull = refl
 
 -- what is said by the words of a line
 abbrev said_by : Line → Result NodeStatus LineWhy
-said_by words = status_of (joined words)
+said_by words = status_of (text_of_words words)
 
 -- a status, and the bytes after its line
 abbrev Said : Type 0
@@ -87,7 +87,7 @@ form_alone line why e =
 
 status_wrong : (wanted : Wanted) → Refuses (HasForm AtStatus) (MayStand wanted AtStatus) said_by
 status_wrong wanted words why e =
-    NoForm (form_alone (joined words) why e)
+    NoForm (form_alone (text_of_words words) why e)
     (λ is. ok_err (ap said_by is.1 ∙ ap status_of (words_text is.0) ∙ status_again is.0) e)
 
 words_split : (ended : NodeStatus) → words_of (status_text ended) ≡ status_line ended

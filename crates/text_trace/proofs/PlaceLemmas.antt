@@ -9,7 +9,7 @@ use Rattle.std.proofs.lemmas.Option.{same_Some, slice_get_read}
 use Rattle.std.proofs.lemmas.List.Elements.{All-more, All-weaker}
 use Rattle.base_turns.specs.declared.entry.Entry.{Entry}
 use Rattle.text_trace.specs.Noted.{PlaceMap, place_in, AreFound, ArePlaces}
-use Rattle.text_trace.proofs.FrontLemmas.{some_at}
+use Rattle.text_trace.proofs.PrefixLemmas.{some_at}
 
 module _ (m n : PlaceMap) (bs : List ℕ) (i : ℕ) (h : (b : List ℕ)
     → place_in n b ≡ cond (bytes_eq bs b) (Some i) (place_in m b)) where

@@ -5,12 +5,12 @@ use Rattle.std.proofs.lemmas.List.{take-take, set_past, get_or-map, length-map}
 use Rattle.std.proofs.lemmas.Bool.{cases_lt, cases_eq}
 use Rattle.std.proofs.lemmas.Option.{slice_get_within, get_or_from_slice_get}
 use Rattle.std.specs.Prelude.{◌⊎◌}
-use Rattle.base_turns.specs.Replay.{Steps, replayed, sent_in}
-use Rattle.base_turns.specs.Fronts.{Node, replay, sent_of, start, full, advance, WasSent, CanGet, CanGo, GoesOn, Reaches}
-use Rattle.base_turns.specs.Fronts.{IsRun, IsStuck}
+use Rattle.base_turns.specs.Replay.{Steps, replay_state, sent_in}
+use Rattle.base_turns.specs.Prefixes.{Node, replay, sent_of, start, full, advance, WasSent, CanGet, CanGo, GoesOn, Reaches}
+use Rattle.base_turns.specs.Prefixes.{IsRun, IsStuck}
 use Rattle.text_trace.specs.Cut.{cut, cut_one, IsSilent}
-use Rattle.text_trace.proofs.FrontLemmas.{some_from, some_at, advance_same, advance_other, sent_more, start_at}
-use Rattle.text_trace.proofs.FrontLemmas.{reached_length}
+use Rattle.text_trace.proofs.PrefixLemmas.{some_from, some_at, advance_same, advance_other, sent_more, start_at}
+use Rattle.text_trace.proofs.PrefixLemmas.{reached_length}
 use Rattle.base_turns.specs.declared.entry.Entry.{Entry}
 use Rattle.text_trace.proofs.CutLemmas.{cut_at, cut_entry, goes_bounded}
 use Rattle.text_trace.proofs.Deciding.{run_or_stuck}
@@ -51,7 +51,7 @@ module _ {S : Type 0} (g : Steps S) (xs : List (Node S)) (p s : List ℕ) (silen
       let x = at.0 in
       let en = some_from (slice_get x.entries i) _ at.2 in
       let state : replay g x i ≡ replay g (cut_one x k) j =
-      ap (replay g x) same ∙ ap (replayed g x.state) (sym (take-take j k x.entries (within n))) in
+      ap (replay g x) same ∙ ap (replay_state g x.state) (sym (take-take j k x.entries (within n))) in
       some_at (slice_get (cut xs p) n) _ (cut_one x k) (cut_at xs p n x at.1)
       (some_at (slice_get (take k x.entries) j) _ en.0
       (cut_entry x.entries j k below ∙ ap (slice_get x.entries) (sym same) ∙ en.1)
@@ -117,7 +117,7 @@ cut_length (x ∷ xs) (k ∷ p) = ap suc (cut_length xs p)
 
 module _ {S : Type 0} (g : Steps S) (xs : List (Node S)) (p ns : List ℕ) (run : Reaches g xs ns (full xs))
     (silent : IsSilent g xs p) where
-  -- a front that nodes reach that were cut is within the cut
+  -- a prefix that nodes reach that were cut is within the cut
   reached_cut : (order s : List ℕ) → Reaches g (cut xs p) order s → (k : ℕ) → slice_index s k ≤ slice_index p k
   reached_cut order s h k =
       let len : length s ≡ length xs = reached_length g (cut xs p) order s h ∙ cut_length xs p in

@@ -13,7 +13,7 @@ use Rattle.text_trace.specs.declared.trace.Trace.{Trace}
 use Rattle.text_trace.specs.Merged.{nodes_of}
 use Rattle.text_trace.specs.Noted.{PlaceMap, PlaceMaps, MarkLists, place_in, AreFound, ArePlaces, spot, mark, IsNoted}
 use Rattle.text_trace.specs.Noted.{Fit, GotNoted, AreAtNoted, HavePlaces, AreUnmarked}
-use Rattle.text_trace.proofs.FrontLemmas.{some_from, some_at, some_then}
+use Rattle.text_trace.proofs.PrefixLemmas.{some_from, some_at, some_then}
 use Rattle.text_trace.proofs.NodeLemmas.{node_parts}
 use Rattle.text_trace.proofs.Walking.{IsGot}
 

@@ -9,21 +9,21 @@ use Rattle.std.proofs.lemmas.Bool.{cases_eq, both_ways}
 use Rattle.std.proofs.lemmas.Option.{slice_get_within, slice_get_cases, get_or_from_slice_get, same_Some}
 use Rattle.base_turns.specs.declared.entry.Entry.{Entry}
 use Rattle.base_turns.specs.declared.turns.Machine.{Ghosts}
-use Rattle.base_turns.specs.Replay.{Steps, steps_of, replayed, sent_in, given_by}
-use Rattle.base_turns.specs.Fronts.{Node, replay, sent_of, start, advance, WasSent, CanGet, CanGo, GoesOn, Reaches}
-use Rattle.base_turns.specs.Fronts.{HasLeft}
+use Rattle.base_turns.specs.Replay.{Steps, steps_of, replay_state, sent_in, given_by}
+use Rattle.base_turns.specs.Prefixes.{Node, replay, sent_of, start, advance, WasSent, CanGet, CanGo, GoesOn, Reaches}
+use Rattle.base_turns.specs.Prefixes.{HasLeft}
 use Rattle.text_trace.specs.declared.trace.Trace.{Trace}
 use Rattle.text_trace.specs.declared.trace.Placed.{Placed}
 use Rattle.text_trace.specs.Going.{MergeState, MayGet, MayGo, Judges, IsBlocked, TookNext, IsLeftAt}
 use Rattle.text_trace.specs.Noted.{PlaceMaps, MarkLists, Marks, IsNoted, spot}
 use Rattle.text_trace.specs.Merged.{StandFor, nodes_of, HaveThreads, placed_by, AreReplays}
-use Rattle.text_trace.proofs.FrontLemmas.{some_from, some_at, some_then, sent_in-append, replayed-append, Within}
-use Rattle.text_trace.proofs.FrontLemmas.{was_sent_later, advance_same, advance_other, advance_within, start_at}
+use Rattle.text_trace.proofs.PrefixLemmas.{some_from, some_at, some_then, sent_in-append, replayed-append, Within}
+use Rattle.text_trace.proofs.PrefixLemmas.{was_sent_later, advance_same, advance_other, advance_within, start_at}
 use Rattle.text_trace.proofs.Deciding.{goes_push, sum_within, sum_advance}
 use Rattle.text_trace.proofs.NodeLemmas.{ends, nodes_of_at, node_parts, nodes_of_length, stand_at, stand_length}
 use Rattle.base_lists.proofs.Indexes.{get-set_same, get-set_other}
 
--- an order that came to a front
+-- an order that came to a prefix
 abbrev pub Came : {S : Type 0} → Steps S → List (Node S) → List ℕ → List Placed → Type 0
 Came g xs f placed = (ns : List ℕ) × Reaches g xs ns f × (placed ≡ placed_by (start xs) ns)
 
@@ -37,13 +37,13 @@ pub record SentAt {S : Type 0} (g : Steps S) (xs : List (Node S)) (f : List ℕ)
     pub no_more : (n : ℕ) (bytes : List ℕ) → sent n bytes → WasSent g xs f n bytes
     pub found : (n : ℕ) (bytes : List ℕ) → IsGot xs n bytes → WasSent g xs f n bytes → sent n bytes
 
--- what the code knows of a front, apart from states
+-- what the code knows of a prefix, apart from states
 pub record Walk {M : Type 0} (g : Ghosts M) (ts : List Trace) (f : List ℕ) (ms : List M) : Type 0 where
   pub size : length f ≡ length ts
   pub within : Within f (ends ts)
   pub threads : HaveThreads g ms ts
 
--- what holds of a front for the states for which the machines stood
+-- what holds of a prefix for the states for which the machines stood
 pub record Stood {M : Type 0} (g : Ghosts M) (xs : List (Node g.State)) (f : List ℕ) (ms : List M) (sent : ℕ → List ℕ
     → Type 0) (placed : List Placed) : Type 0 where
   pub came : Came (steps_of g) xs f placed
@@ -55,7 +55,7 @@ pub record Stood {M : Type 0} (g : Ghosts M) (xs : List (Node g.State)) (f : Lis
 pub replay_more : {S : Type 0} (g : Steps S) (x : Node S) (i : ℕ) (e : Entry) → slice_get x.entries i ≡ Some e
     → replay g x (i + 1) ≡ g.after (replay g x i) e.thread e.now e.got
 replay_more g x i e at =
-    ap (replayed g x.state) (take_more x.entries i e (slice_get_within x.entries i e at)) ∙ replayed-append g x.state
+    ap (replay_state g x.state) (take_more x.entries i e (slice_get_within x.entries i e at)) ∙ replayed-append g x.state
     (take i x.entries) (get_or x.entries i e ∷ [])
     ∙ ap (λ (e' : Entry). g.after (replay g x i) e'.thread e'.now e'.got) (get_or_from_slice_get x.entries i e e at)
 
@@ -207,11 +207,11 @@ pub record Next {M : Type 0} (g : Ghosts M) (ts : List Trace) (f : List ℕ) (n 
   pub counts : (sum (advance f n) ≡ sum f + 1) × (sum f + 1 ≤ sum (ends ts))
 
 pub walk_next : {M : Type 0} (g : Ghosts M) (before : MergeState M) (ms' : List M) (new : MarkLists) (n : ℕ)
-    → Walk g before.traces before.front before.machines → TookNext g before n ms' new
-    → Next g before.traces before.front n ms'
+    → Walk g before.traces before.prefix before.machines → TookNext g before n ms' new
+    → Next g before.traces before.prefix n ms'
 walk_next {M} g before ms' new n w t =
     let ts = before.traces in
-    let f = before.front in
+    let f = before.prefix in
     let ms = before.machines in
     let l : n < length f = omega (arith, slice_get_within ts n t.trace t.trace_at, w.size) in
     let l' : n < length ms = slice_get_within ms n t.machine t.machine_at in
@@ -245,14 +245,14 @@ walk_next {M} g before ms' new n w t =
 
 pub stood_next : {M : Type 0} (g : Ghosts M) (rs : List g.State) (before : MergeState M) (ms' : List M)
     (new : MarkLists) (n : ℕ) (b : Bool) (placed : List Placed)
-    → Walk g before.traces before.front before.machines → Judges g before n b → b ≡ true → TookNext g before n ms' new
+    → Walk g before.traces before.prefix before.machines → Judges g before n b → b ≡ true → TookNext g before n ms' new
     → ((k : ℕ) (bytes : List ℕ) → IsGot (nodes_of rs before.traces) k bytes → IsSome (spot before.places k bytes))
-    → Stood g (nodes_of rs before.traces) before.front before.machines (IsNoted before.places before.marks) placed
-    → Stood g (nodes_of rs before.traces) (advance before.front n) ms' (IsNoted before.places new)
-    (placed ++ record { node = n; entry = slice_index before.front n + 1 } ∷ [])
+    → Stood g (nodes_of rs before.traces) before.prefix before.machines (IsNoted before.places before.marks) placed
+    → Stood g (nodes_of rs before.traces) (advance before.prefix n) ms' (IsNoted before.places new)
+    (placed ++ record { node = n; entry = slice_index before.prefix n + 1 } ∷ [])
 stood_next {M} g rs before ms' new n b placed w judges is_true t found s =
     let ts = before.traces in
-    let f = before.front in
+    let f = before.prefix in
     let ms = before.machines in
     let ps = before.places in
     let old = before.marks in
@@ -312,9 +312,9 @@ walk_start g ts f ms l e threads = record {
   threads = threads;
 }
 
-pub start_is_front : {M : Type 0} (g : Ghosts M) (rs : List g.State) (ts : List Trace) (f : List ℕ) (ms : List M)
+pub start_is_prefix : {M : Type 0} (g : Ghosts M) (rs : List g.State) (ts : List Trace) (f : List ℕ) (ms : List M)
     → length ts ≡ length ms → StandFor g ms rs → f ≡ replicate (length ms) 0 → start (nodes_of rs ts) ≡ f
-start_is_front g rs ts f ms l stand e = let k = stand_length g ms rs stand in let len : length (nodes_of rs ts)
+start_is_prefix g rs ts f ms l stand e = let k = stand_length g ms rs stand in let len : length (nodes_of rs ts)
     ≡ length ms = nodes_of_length rs ts (omega arith) ∙ l in start_is (nodes_of rs ts) ∙ ap (λ i. replicate i 0) len
     ∙ sym e
 
@@ -326,7 +326,7 @@ replays_start {M} g rs ts ms l stand n m at =
       | inl t ↦ some_at (slice_get (nodes_of rs ts) n)
           (λ x. g.stands m (replay (steps_of g) x (slice_index (start (nodes_of rs ts)) n)))
           (record { state = r.0; entries = (t.0).entries }) (nodes_of_at rs ts n r.0 t.0 r.1 t.2)
-          (subst (λ i. g.stands m (replayed (steps_of g) r.0 (take i (t.0).entries)))
+          (subst (λ i. g.stands m (replay_state (steps_of g) r.0 (take i (t.0).entries)))
           (sym (start_at (nodes_of rs ts) n)) r.2)
       | inr past ↦ absurd (omega (arith, past.0, slice_get_within ms n m at))
     ]
@@ -336,7 +336,7 @@ pub stood_start : {M : Type 0} (g : Ghosts M) (rs : List g.State) (ts : List Tra
     → length ts ≡ length ms → StandFor g ms rs → f ≡ replicate (length ms) 0 → placed ≡ []
     → ((n : ℕ) (b : List ℕ) → sent n b → ⊥) → Stood g (nodes_of rs ts) f ms sent placed
 stood_start {M} g rs ts f ms sent placed l stand e e2 none =
-    subst (λ f'. Stood g (nodes_of rs ts) f' ms sent placed) (start_is_front g rs ts f ms l stand e) (record {
+    subst (λ f'. Stood g (nodes_of rs ts) f' ms sent placed) (start_is_prefix g rs ts f ms l stand e) (record {
       came = ([], refl, e2);
       replays = replays_start g rs ts ms l stand;
       kept = sent_none (steps_of g) (nodes_of rs ts) sent none;
@@ -378,15 +378,15 @@ pub judged_blocked : {M : Type 0} (g : Ghosts M) (merging : MergeState M) (n : �
 judged_blocked g merging n b judges is_false m at t at' r stands may = both_ways b is_false
     ((judges m at t at' r stands).1 may)
 
--- where none may go now, none can go at the front
+-- where none may go now, none can go at the prefix
 pub none_can : {M : Type 0} (g : Ghosts M) (rs : List g.State) (merging : MergeState M) (placed : List Placed)
     → length merging.traces ≡ length merging.machines
-    → Stood g (nodes_of rs merging.traces) merging.front merging.machines (IsNoted merging.places merging.marks) placed
+    → Stood g (nodes_of rs merging.traces) merging.prefix merging.machines (IsNoted merging.places merging.marks) placed
     → ((n : ℕ) → n < length merging.machines → IsBlocked g merging n)
-    → (n : ℕ) → CanGo (steps_of g) (nodes_of rs merging.traces) merging.front n → ⊥
+    → (n : ℕ) → CanGo (steps_of g) (nodes_of rs merging.traces) merging.prefix n → ⊥
 none_can {M} g rs merging placed l s none n go =
     let ts = merging.traces in
-    let f = merging.front in
+    let f = merging.prefix in
     let ms = merging.machines in
     let kept = IsNoted merging.places merging.marks in
     let xs = nodes_of rs ts in

@@ -14,7 +14,7 @@ use Rattle.std.proofs.lemmas.Bool.Decides.{same_from_decides}
 use Rattle.base_turns.specs.declared.entry.Entry.{Entry}
 use Rattle.base_text.specs.declared.why.LineWhy.TheVariants.{Form, Value}
 use Rattle.base_text.specs.Lines.{Word}
-use Rattle.base_text.specs.LineTexts.{Line, IsPlain, IsWord, IsLine, joined}
+use Rattle.base_text.specs.LineTexts.{Line, IsPlain, IsWord, IsLine, text_of_words}
 use Rattle.text_trace.specs.TraceText.{got_word, entry_line, end_line, line_of_number, IsEntry}
 use Rattle.base_text.specs.Chains.{◌>>=◌}
 use Rattle.text_trace.specs.TraceReading.{within, number_between, thread_of, few_got, decoded_bytes}
@@ -25,7 +25,7 @@ use Rattle.text_trace.proofs.GotLaws.{digits_plain}
 use Rattle.text_trace.specs.TraceReading.{got_of, second_of, setting_of, is_end, TurnWords, turn_of, entry_of}
 use Rattle.text_trace.specs.TraceReading.{entry_or_end, words_of}
 use Rattle.base_text.proofs.Decimals.{number_of-decimal, decimal_of_number}
-use Rattle.base_text.proofs.Fronts.{cond_yes}
+use Rattle.base_text.proofs.Prefixes.{cond_yes}
 use Rattle.text_trace.proofs.LineLaws.{ok_is, bind_ok, guard_ok, cond_not, words_joined}
 use Rattle.text_trace.specs.declared.words.TheConstants.{MAX_GOT}
 
@@ -203,7 +203,7 @@ pub end_text : (line : List ℕ) → bytes_eq line (codes "end") ≡ is_end (wor
 unfolding is_end
 end_text line = same_from_decides (bytes_eq line (codes "end")) (is_end (words_of line))
     (bytes_eq-Decides line (codes "end")) (
-      λ h. sym (words_joined line) ∙ ap joined (end_takes (words_of line)
+      λ h. sym (words_joined line) ∙ ap text_of_words (end_takes (words_of line)
           h),
       λ same. ap (λ z. is_end (words_of z)) same,
     )

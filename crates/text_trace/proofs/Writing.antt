@@ -24,10 +24,10 @@ entry_parts e thread same =
     ++ (spaced_word (decimal e.now) ++ ((32 ∷ []) ++ (got_word e.got ++ 10 ∷ []))))) (sym same)
 
 -- what stands before the word of what a turn got went in
-pub entry_front : (a b c d e f : Outbox) (entry : Entry) (thread : ℕ) (word : List ℕ) → thread ≡ entry.thread
+pub entry_prefix : (a b c d e f : Outbox) (entry : Entry) (thread : ℕ) (word : List ℕ) → thread ≡ entry.thread
     → word ≡ codes "turn" → Gathers a b [] → Gathers b c word → Gathers c d (spaced_word (decimal thread)) → Gathers d e (spaced_word (decimal entry.now))
     → Gathers e f (32 ∷ []) → GathersUpTo a f (line_text (entry_line entry)) (got_word entry.got ++ 10 ∷ [])
-entry_front a b c d e f entry thread word same named room name first second space =
+entry_prefix a b c d e f entry thread word same named room name first second space =
     past_done _ _ _ _ _ _ _ refl
     (past_done _ _ _ _ _ _ _ refl
     (past_done _ _ _ _ _ _ _ refl

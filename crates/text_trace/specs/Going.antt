@@ -5,7 +5,7 @@ use Rattle.std.specs.Option.{ForSome}
 use Rattle.base_turns.specs.declared.entry.Entry.{Entry}
 use Rattle.base_turns.specs.declared.turns.Machine.{Ghosts}
 use Rattle.base_turns.specs.Replay.{Steps, steps_of, given_by}
-use Rattle.base_turns.specs.Fronts.{Node}
+use Rattle.base_turns.specs.Prefixes.{Node}
 use Rattle.text_trace.specs.declared.trace.Trace.{Trace}
 use Rattle.text_trace.specs.Noted.{PlaceMaps, MarkLists, Marks, IsNoted}
 
@@ -14,7 +14,7 @@ use Rattle.text_trace.specs.Noted.{PlaceMaps, MarkLists, Marks, IsNoted}
 pub record MergeState (M : Type 0) : Type 0 where
   pub machines : List M
   pub traces : List Trace
-  pub front : List ℕ
+  pub prefix : List ℕ
   pub places : PlaceMaps
   pub marks : MarkLists
 
@@ -34,9 +34,9 @@ CanTake ghosts machine entry = IfSome entry.got (λ bytes. ghosts.polls_at machi
 
 -- the node's next entry is there, and its machine can take it
 abbrev pub CanTakeNext : {M : Type 0} → Ghosts M → List M → List Trace → List ℕ → ℕ → Type 0
-CanTakeNext ghosts machines traces front n =
+CanTakeNext ghosts machines traces prefix n =
     IsSomeAnd (slice_get machines n) (λ machine. IsSomeAnd (slice_get traces n)
-    (λ trace. IsSomeAnd (slice_get trace.entries (slice_index front n))
+    (λ trace. IsSomeAnd (slice_get trace.entries (slice_index prefix n))
     (CanTake ghosts machine)))
 
 -- the answer is whether the node's next entry may go, in whatever state its machine stands for
@@ -47,7 +47,7 @@ Judges ghosts merging n answer =
     → IsTrue answer
     ↔ MayGo (steps_of ghosts) (record { state = state; entries = trace.entries })
     (IsNoted merging.places merging.marks n)
-    (slice_index merging.front n)))
+    (slice_index merging.prefix n)))
 
 -- the node's next entry may not go
 abbrev pub IsBlocked : {M : Type 0} → (ghosts : Ghosts M) → MergeState M → (n : ℕ) → Type 0
@@ -56,15 +56,15 @@ IsBlocked ghosts merging n =
     (λ trace. (state : ghosts.State) → ghosts.stands machine state
     → MayGo (steps_of ghosts) (record { state = state; entries = trace.entries })
     (IsNoted merging.places merging.marks n)
-    (slice_index merging.front n)
+    (slice_index merging.prefix n)
     → ⊥))
 
 -- the node's trace has an entry that hasn't gone
 abbrev pub IsLeftAt : List Trace → List ℕ → ℕ → Type 0
-IsLeftAt traces front n = IsSomeAnd (slice_get traces n) (λ trace. slice_index front n < length trace.entries)
+IsLeftAt traces prefix n = IsSomeAnd (slice_get traces n) (λ trace. slice_index prefix n < length trace.entries)
 
 -- a machine, and which datagrams are marked as sent
-pub record Marked (M : Type 0) : Type 0 where
+pub record MachineWithMarks (M : Type 0) : Type 0 where
   pub machine : M
   pub marks : MarkLists
 
@@ -74,7 +74,7 @@ pub record Took
     (ghosts : Ghosts M)
     (places : PlaceMaps)
     (entry : Entry)
-    (old new : Marked M) : Type 0
+    (old new : MachineWithMarks M) : Type 0
   where
     pub after : (state : ghosts.State) → ghosts.stands old.machine state → ghosts.stands new.machine
         (ghosts.after state entry.thread entry.now entry.got)
@@ -97,7 +97,7 @@ pub record TookNext
     pub left : M
     pub machine_at : slice_get before.machines n ≡ Some machine
     pub trace_at : slice_get before.traces n ≡ Some trace
-    pub entry_at : slice_get trace.entries (slice_index before.front n) ≡ Some entry
+    pub entry_at : slice_get trace.entries (slice_index before.prefix n) ≡ Some entry
     pub machines : new_machines ≡ slice_set before.machines n left
     pub took : Took ghosts before.places entry (record { machine = machine; marks = before.marks })
         (record { machine = left; marks = new_marks })

@@ -16,7 +16,7 @@ pub record TextKind (A : Type 0) : Type 1 where
   pub MayStand : (before : List Line) → Line → Type 0
 
 -- some text of the kind begins with the bytes, and goes on behind them
-pub record IsFront {A : Type 0} (kind : TextKind A) (bytes : List ℕ) : Type 0 where
+pub record IsPrefix {A : Type 0} (kind : TextKind A) (bytes : List ℕ) : Type 0 where
   pub one : A
   pub more : List ℕ
   pub is : kind.IsOne one
@@ -24,8 +24,8 @@ pub record IsFront {A : Type 0} (kind : TextKind A) (bytes : List ℕ) : Type 0 
   pub goes_on : more ≡ [] → ⊥
 
 -- no text of the kind begins with the bytes
-abbrev pub IsNoFront : {A : Type 0} → TextKind A → List ℕ → Type 0
-IsNoFront {A} kind bytes = (one : A) (more : List ℕ) → kind.IsOne one → kind.text_of one ≡ bytes ++ more → ⊥
+abbrev pub IsNoPrefix : {A : Type 0} → TextKind A → List ℕ → Type 0
+IsNoPrefix {A} kind bytes = (one : A) (more : List ℕ) → kind.IsOne one → kind.text_of one ≡ bytes ++ more → ⊥
 
 -- the lines before the one of this number, and the bytes from it on
 pub record Before (bytes : List ℕ) (line : ℕ) : Type 0 where
@@ -35,16 +35,16 @@ pub record Before (bytes : List ℕ) (line : ℕ) : Type 0 where
   pub text : bytes ≡ spell lines ++ rest
   pub count : line ≡ suc (length lines)
 
--- the bytes end behind the front of a text
+-- the bytes end behind the prefix of a text
 pub record EndsEarly {A : Type 0} (kind : TextKind A) (bytes : List ℕ) (line : ℕ) : Type 0 where
   pub before : Before bytes line
-  pub front : IsFront kind (spell before.lines)
+  pub prefix : IsPrefix kind (spell before.lines)
   pub none : before.rest ≡ []
 
--- the line isn't one of words, behind the front of a text
+-- the line isn't one of words, behind the prefix of a text
 pub record HasNoText {A : Type 0} (kind : TextKind A) (bytes : List ℕ) (line : ℕ) : Type 0 where
   pub before : Before bytes line
-  pub front : IsFront kind (spell before.lines)
+  pub prefix : IsPrefix kind (spell before.lines)
   pub some : before.rest ≡ [] → ⊥
   pub no_text : (words : Line) (more : List ℕ) → IsLine words → before.rest ≡ line_text words ++ more → ⊥
 
@@ -57,12 +57,12 @@ IsAtFault kind why before words = ⊥
 -- the lines before this one begin some text, those with it begin none, and this is wrong with it
 pub record IsWrong {A : Type 0} (kind : TextKind A) (bytes : List ℕ) (line : ℕ) (why : LineWhy) : Type 0 where
   pub before : Before bytes line
-  pub front : IsFront kind (spell before.lines)
+  pub prefix : IsPrefix kind (spell before.lines)
   pub words : Line
   pub are : IsLine words
   pub more : List ℕ
   pub text : before.rest ≡ line_text words ++ more
-  pub none : IsNoFront kind (spell (before.lines ++ words ∷ []))
+  pub none : IsNoPrefix kind (spell (before.lines ++ words ∷ []))
   pub fault : IsAtFault kind why before.lines words
 
 -- what a refusal at a line means

@@ -1,6 +1,6 @@
 //! Traces of nodes: their text, and the orders in which their entries can go.
 //!
-//! What is proved, by the names of clauses (in `src/`) and definitions (in `specs/`, and in `base_turns`'s `Fronts`):
+//! What is proved, by the names of clauses (in `src/`) and definitions (in `specs/`, and in `base_turns`'s `Prefixes`):
 //!
 //! - `print_head` and `print_entry` write the lines of a trace (`trace_text`) into a sink that gathers, or at a fault of
 //!   the sink a prefix of them.
@@ -12,11 +12,11 @@
 //!   before the bad one, and goes on, and none begins with these and the bad one, whose form or value no output has there
 //!   (`IsAtFault`); or the bytes end there, or the line is none of words. A line and a reason of which that holds are
 //!   told, unless memory ran out [`told`]. So no text has two of them. The line is no further than the bytes [`near`].
-//! - `merge` [`front`, `run`, `no_run`] answers an order of all entries in which each can go in its turn only where
-//!   some order is a run, and the smallest node with an entry left at the one stuck front only where none is
+//! - `merge` [`prefix`, `run`, `no_run`] answers an order of all entries in which each can go in its turn only where
+//!   some order is a run, and the smallest node with an entry left at the one stuck prefix only where none is
 //!   (`Answers`); or memory ran out. Afterwards each machine stands for the replay of its entries that have gone
 //!   (`AreReplays`). All is said of whatever states the machines stood for.
-//! - `front_law` [`later`, `one`, `run_or_stuck`, `not_both`]: of any nodes, traces are a run or have a stuck front,
+//! - `prefix_law` [`later`, `one`, `run_or_stuck`, `not_both`]: of any nodes, traces are a run or have a stuck prefix,
 //!   never both, and at most one. So the answer is compared with whether an order exists, and not with the search for
 //!   one.
 //!
@@ -39,7 +39,7 @@ mod wanted;
 mod words;
 
 pub use fault::TraceFault;
-pub use laws::front_law;
+pub use laws::prefix_law;
 pub use merging::{MergeFault, merge};
 pub use output::{NodeStatus, Output, Wanted, read_output};
 pub use printing::{print_entry, print_head};

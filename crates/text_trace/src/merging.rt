@@ -4,7 +4,7 @@ ghost use Rattle.std.specs.Prelude.{◌≡◌, ℕ, ◌<◌, ◌≤◌, ◌^◌,
 ghost use Rattle.std.specs.Prelude.{IsSomeAnd, IfSome, IfNone, OnOk, IsErrOf, slice_get, ◌↔◌};
 ghost use Rattle.std.specs.Option.{option_to_list};
 ghost use Rattle.base_turns.specs.Replay.{steps_of};
-ghost use Rattle.base_turns.specs.Fronts.{IsRun};
+ghost use Rattle.base_turns.specs.Prefixes.{IsRun};
 ghost use Rattle.text_trace.specs.Going.{CanTake, CanTakeNext, IsLeftAt, Judges, MayGo};
 ghost use Rattle.text_trace.specs.Going.{Took, TookNext};
 ghost use Rattle.text_trace.specs.Noted.{mark, AreAtNoted, Fit, GotNoted, IsNoted, Marks};
@@ -70,24 +70,24 @@ fn may_go<M: Machine>(
 fn may_go_next<M: Machine>(
     machines: &[M],
     traces: &[Trace],
-    front: &[usize],
+    prefix: &[usize],
     places: &[Places<'_>],
     marks: &[Vec<bool>],
     node: usize,
 ) -> bool
     requires nodes { length traces.now ≡ length machines.now }
-    requires front { length front.now ≡ length machines.now }
+    requires prefix { length prefix.now ≡ length machines.now }
     requires many { length machines.now ≤ 256 }
     requires threads { HaveThreads M.Machine machines.now traces.now }
     requires marks { length marks.now ≡ length machines.now }
     requires marked { AreAtNoted places.now marks.now traces.now }
     requires node { node < length machines.now }
-    ensures takes { IsTrue result → CanTakeNext M.Machine machines.now traces.now front.now node }
+    ensures takes { IsTrue result → CanTakeNext M.Machine machines.now traces.now prefix.now node }
     ensures judges { Judges M.Machine
         (record {
           machines = machines.now;
           traces = traces.now;
-          front = front.now;
+          prefix = prefix.now;
           places = places.now;
           marks = marks.now;
         })
@@ -96,7 +96,7 @@ fn may_go_next<M: Machine>(
     may_go(
         &machines[node],
         traces[node].entries.as_slice(),
-        front[node],
+        prefix[node],
         places,
         marks,
         node,
@@ -139,43 +139,43 @@ fn let_go<M: Machine>(machine: &mut M, next: &Entry, places: &[Places<'_>], mark
 fn go_next<M: Machine>(
     machines: &mut [M],
     traces: &[Trace],
-    front: &[usize],
+    prefix: &[usize],
     places: &[Places<'_>],
     marks: &mut [Vec<bool>],
     node: usize,
 )
     requires nodes { length traces.now ≡ length machines.old }
-    requires front { length front.now ≡ length machines.old }
+    requires prefix { length prefix.now ≡ length machines.old }
     requires threads { HaveThreads M.Machine machines.old traces.now }
     requires node { node < length machines.old }
-    requires takes { CanTakeNext M.Machine machines.old traces.now front.now node }
+    requires takes { CanTakeNext M.Machine machines.old traces.now prefix.now node }
     requires fit { Fit places.now marks.old }
     ensures fit { Fit places.now marks.new }
     ensures took { TookNext M.Machine
         (record {
           machines = machines.old;
           traces = traces.now;
-          front = front.now;
+          prefix = prefix.now;
           places = places.now;
           marks = marks.old;
         })
         node machines.new marks.new }
 {
-    let next = &traces[node].entries.as_slice()[front[node]];
+    let next = &traces[node].entries.as_slice()[prefix[node]];
     let_go(&mut machines[node], next, places, marks)
 }
 
 /// The smallest node with an entry left.
-fn first_left(traces: &[Trace], front: &[usize]) -> Option<usize>
-    requires { length front.now ≡ length traces.now }
-    ensures some { IfSome result (λ n. IsLeftAt traces.now front.now n
-        × ((k : ℕ) → k < n → IsLeftAt traces.now front.now k → ⊥)) }
+fn first_left(traces: &[Trace], prefix: &[usize]) -> Option<usize>
+    requires { length prefix.now ≡ length traces.now }
+    ensures some { IfSome result (λ n. IsLeftAt traces.now prefix.now n
+        × ((k : ℕ) → k < n → IsLeftAt traces.now prefix.now k → ⊥)) }
     ensures within { IfSome result (λ n. n < length traces.now) }
     ensures none { IfNone result ((k : ℕ) → k < length traces.now
-        → IsLeftAt traces.now front.now k → ⊥) }
+        → IsLeftAt traces.now prefix.now k → ⊥) }
 {
     for node in 0..traces.len() {
-        if front[node] < traces[node].entries.as_slice().len() {
+        if prefix[node] < traces[node].entries.as_slice().len() {
             return Some(node);
         }
     }
@@ -202,8 +202,8 @@ pub fn merge<M: Machine>(
     requires many { length machines.old ≤ 256 }
     requires entries { All (λ t. length t.entries < 2 ^ 32) traces.now }
     requires threads { HaveThreads M.Machine machines.old traces.now }
-    // For whatever states the machines stood for, answer and machines are those of one front.
-    ensures front { (f : List ℕ) × ((rs : List M.State) → StandFor M.Machine machines.old rs
+    // For whatever states the machines stood for, answer and machines are those of one prefix.
+    ensures prefix { (f : List ℕ) × ((rs : List M.State) → StandFor M.Machine machines.old rs
         → Merges M.Machine (nodes_of rs traces.now) f result machines.new) }
     // An order comes only where some order is a run,
     ensures run { (rs : List M.State) → StandFor M.Machine machines.old rs
@@ -224,16 +224,16 @@ pub fn merge<M: Machine>(
     let Ok(mut counts) = vec![in alloc; 0usize; machines.len()] else {
         return Err(MergeFault::NoMemory);
     };
-    let front = counts.as_mut_slice();
+    let prefix = counts.as_mut_slice();
     let mut placed = Vec::new(alloc);
     let mut went = true;
     'rounds: while went {
         went = false;
         'nodes: for node in 0..machines.len() {
-            'entries: while may_go_next(machines, traces, front, places, marks, node) {
-                go_next(machines, traces, front, places, marks, node);
-                let number = front[node] + 1;
-                front[node] = number;
+            'entries: while may_go_next(machines, traces, prefix, places, marks, node) {
+                go_next(machines, traces, prefix, places, marks, node);
+                let number = prefix[node] + 1;
+                prefix[node] = number;
                 went = true;
                 let Ok(()) = placed.push(Placed {
                     node: node as u16,
@@ -244,11 +244,11 @@ pub fn merge<M: Machine>(
             }
         }
     }
-    match first_left(traces, front) {
+    match first_left(traces, prefix) {
         None => Ok(placed),
         Some(node) => Err(MergeFault::NotARun {
             node: node as u16,
-            entry: (front[node] + 1) as u32,
+            entry: (prefix[node] + 1) as u32,
         }),
     }
 }

@@ -105,8 +105,8 @@ vis_entry words = entry_by words.way words.shape words.register words.from words
 -- ---- plans
 
 -- the transfers that are wanted; their slices lie at no place, which nothing here asks
-abbrev pub strided : Way → (to remote local len : ℕ) → List Level → Strided
-strided way to remote local len levels = record {
+abbrev pub strided_transfer : Way → (to remote local len : ℕ) → List Level → Strided
+strided_transfer way to remote local len levels = record {
   way = way;
   to = to;
   remote = remote;
@@ -115,8 +115,8 @@ strided way to remote local len levels = record {
   levels = record { ref_ptr = (0, 0); now = levels };
 }
 
-abbrev pub indexed : Way → (to : ℕ) → (remote local : List (ℕ × ℕ)) → Indexed
-indexed way to remote local =
+abbrev pub indexed_transfer : Way → (to : ℕ) → (remote local : List (ℕ × ℕ)) → Indexed
+indexed_transfer way to remote local =
     record {
       way = way;
       to = to;
@@ -127,14 +127,15 @@ indexed way to remote local =
 -- why there is no plan of them, if there is none
 abbrev pub shape_fault : Parameters → Way → (to : ℕ) → VisShape → Option PlanFault
 shape_fault settings way to (shapes.Strided remote local len levels) =
-    strided_fault settings (strided way to remote local len levels)
-shape_fault settings way to (shapes.Indexed remote local) = indexed_fault settings (indexed way to remote local)
+    strided_fault settings (strided_transfer way to remote local len levels)
+shape_fault settings way to (shapes.Indexed remote local) =
+    indexed_fault settings (indexed_transfer way to remote local)
 
 -- and the plan, where there is one
 abbrev pub shape_plan : Parameters → Way → (to : ℕ) → VisShape → PlanState
 shape_plan settings way to (shapes.Strided remote local len levels) =
-    strided_plan settings (strided way to remote local len levels)
-shape_plan settings way to (shapes.Indexed remote local) = indexed_plan settings (indexed way to remote local)
+    strided_plan settings (strided_transfer way to remote local len levels)
+shape_plan settings way to (shapes.Indexed remote local) = indexed_plan settings (indexed_transfer way to remote local)
 
 abbrev pub vis_plan : Parameters → VisWords → PlanState
 vis_plan settings words = shape_plan settings words.way words.to words.shape

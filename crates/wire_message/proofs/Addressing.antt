@@ -1,7 +1,7 @@
 -- Which contents are messages, wherever they go.
 use Rattle.std.proofs.Common.{◌≡◌, ◌≤◌, true, false, true≢false, length, refl, sym, ◌∙◌, arith}
 use Rattle.std.proofs.Common.{ne_eqb}
-use Rattle.wire_message.specs.Content.{Content, IsWellFormed, IsWellAddressed, addressed, ack, code, is_kind}
+use Rattle.wire_message.specs.Content.{Content, IsWellFormed, IsWellAddressed, message_at_address, ack, code, is_kind}
 use Rattle.wire_message.specs.Content.{is_ack}
 use Rattle.wire_message.specs.Content.{is_long, is_bare}
 use Rattle.wire_message.specs.declared.content.Address.{Address}
@@ -17,7 +17,7 @@ pub record IsForHandler (content : Content) : Type 0 where
   pub bare_payload : is_bare (code content.kind) ≡ true → length content.payload ≡ 0
 
 pub for_handler : (address : Address) (content : Content) → IsWellAddressed address → IsForHandler content
-    → IsWellFormed (addressed address content)
+    → IsWellFormed (message_at_address address content)
 for_handler address content at is = record {
   version = at.version;
   kind = is.kind;
@@ -31,7 +31,7 @@ for_handler address content at is = record {
   bare_payload = is.bare_payload;
 }
 
-pub ack_formed : (address : Address) → IsWellAddressed address → IsWellFormed (addressed address ack)
+pub ack_formed : (address : Address) → IsWellAddressed address → IsWellFormed (message_at_address address ack)
 ack_formed address at = record {
   version = at.version;
   kind = refl;

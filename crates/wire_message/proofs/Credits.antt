@@ -17,7 +17,7 @@ use Rattle.wire_message.specs.Parameters.{credits_in_all, with_pair}
 abbrev is_that : PairCredits → (from to : ℕ) → Bool
 is_that pair from to = eqb pair.from from && eqb pair.to to
 
--- a pair that is found at the front isn't what stands behind it
+-- a pair that is found at the prefix isn't what stands behind it
 -- the test, where one of the nodes is another
 no_that : (pair : PairCredits) (from to : ℕ) → (pair.from ≢ from) ⊎ (pair.to ≢ to) → is_that pair from to ≡ false
 no_that pair from to other = elim other [
@@ -40,9 +40,9 @@ that_back pair other e = elim (cases_eq pair.from other.from) [
   | inr h ↦ no_that other pair.from pair.to (inl (λ q. h (sym q)))
 ]
 
-front : (pair : PairCredits) (pairs : List PairCredits) (from to : ℕ) → own_credits (pair ∷ pairs) from to ≡ None
+prefix : (pair : PairCredits) (pairs : List PairCredits) (from to : ℕ) → own_credits (pair ∷ pairs) from to ≡ None
     → (is_that pair from to ≡ false) × (own_credits pairs from to ≡ None)
-front pair pairs from to e = go (is_that pair from to) e
+prefix pair pairs from to e = go (is_that pair from to) e
   where
     go : (test : Bool) → (if test then Some pair.credits else own_credits pairs from to) ≡ None
         → (test ≡ false) × (own_credits pairs from to ≡ None)
@@ -54,7 +54,7 @@ pub own_added : (pairs : List PairCredits) (pair : PairCredits) (from to : ℕ) 
     → own_credits (pairs ++ pair ∷ []) from to ≡ own_credits (pair ∷ []) from to
 own_added [] pair from to none = refl
 own_added (first ∷ pairs) pair from to none =
-    let parts = front first pairs from to none in
+    let parts = prefix first pairs from to none in
     rw parts.0 (own_added pairs pair from to parts.1)
 
 -- one more pair at the end: of another one
@@ -70,7 +70,7 @@ pub pairs_added : (nodes : ℕ) (pairs : List PairCredits) (pair : PairCredits) 
     → own_credits pairs pair.from pair.to ≡ None → ArePairs nodes (pairs ++ pair ∷ [])
 pairs_added nodes [] pair are is none = (is, refl, tt)
 pairs_added nodes (first ∷ pairs) pair are is none =
-    let parts = front first pairs pair.from pair.to none in (
+    let parts = prefix first pairs pair.from pair.to none in (
       are.0,
       own_others pairs pair first.from first.to (that_back first pair parts.0) ∙ are.1,
       pairs_added nodes pairs pair are.2 is parts.1,
@@ -79,9 +79,9 @@ pairs_added nodes (first ∷ pairs) pair are is none =
 -- a pair isn't the last one where it isn't found
 not_last : (pairs : List PairCredits) (pair : PairCredits) (from to : ℕ)
     → own_credits (pairs ++ pair ∷ []) from to ≡ None → is_that pair from to ≡ false
-not_last [] pair from to none = (front pair [] from to none).0
+not_last [] pair from to none = (prefix pair [] from to none).0
 not_last (first ∷ pairs) pair from to none =
-    not_last pairs pair from to (front first (pairs ++ pair ∷ []) from to none).1
+    not_last pairs pair from to (prefix first (pairs ++ pair ∷ []) from to none).1
 
 -- what is known of the last pair
 pub record IsLast (nodes : ℕ) (pairs : List PairCredits) (pair : PairCredits) : Type 0 where

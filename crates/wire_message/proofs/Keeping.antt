@@ -6,7 +6,7 @@ use Rattle.std.proofs.lemmas.List.{length-append, length-set, length-take-le}
 use Rattle.wire_message.specs.declared.pairs.PairCredits.{PairCredits}
 use Rattle.wire_message.specs.declared.settings.Settings.TheInside.{Inside}
 use Rattle.wire_message.specs.Parameters.{Parameters, AreInRange, IsPair, own_credits, credits_in_all, with_pair}
-use Rattle.wire_message.specs.Parameters.{credits_of, upgraded}
+use Rattle.wire_message.specs.Parameters.{credits_of, as_version_2}
 use Rattle.wire_message.specs.Stored.{no_pair, parameters_of, IsStored}
 use Rattle.wire_message.proofs.Credits.{pairs_added, last_pair, sum_with_pair}
 
@@ -103,12 +103,12 @@ stored_added inside pair sum is room takes total =
 -- ---- another version
 
 -- the credits of all pairs are no matter of the version
-upgraded_credits : (settings : Parameters) → credits_in_all (upgraded settings) ≡ credits_in_all settings
+upgraded_credits : (settings : Parameters) → credits_in_all (as_version_2 settings) ≡ credits_in_all settings
 unfolding credits_in_all credits_of
 upgraded_credits settings = refl
 
 -- settings within their limits are so in version 2
-pub upgraded_range : (settings : Parameters) → AreInRange settings → AreInRange (upgraded settings)
+pub upgraded_range : (settings : Parameters) → AreInRange settings → AreInRange (as_version_2 settings)
 upgraded_range settings range = record {
   version = refl;
   some_node = range.some_node;

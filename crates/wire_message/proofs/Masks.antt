@@ -4,7 +4,7 @@ use Rattle.std.proofs.Common.{List, [], ◌∷◌, length, get_or, refl, sym, ap
 use Rattle.std.proofs.lemmas.Bool.{cases_lt, lt-ltb, le-ltb}
 use Rattle.std.proofs.lemmas.Nat.{pow_pos, pow-add}
 use Rattle.std.proofs.Math.Pow.{pow-lt}
-use Rattle.wire_message.specs.Notes.{mask_number, word_fits, mask_fits}
+use Rattle.wire_message.specs.Notifications.{mask_number, word_fits, mask_fits}
 
 -- ---- tests
 

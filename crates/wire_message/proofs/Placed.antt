@@ -15,16 +15,16 @@ placed old at bytes n = take at old ++ bytes ++ drop (at + n) old
 pub placed_more : (old : List ℕ) (at : ℕ) (first second : List ℕ) (n more : ℕ) → length first ≡ n → at + n ≤ length old
     → placed (placed old at first n) (at + n) second more ≡ placed old at (first ++ second) (n + more)
 placed_more old at first second n more e h =
-    let front : List ℕ = take at old ++ first in
-    let len : length front ≡ at + n = omega (arith, length-append (take at old) first, length-take at old) in
-    let before : take (at + n) (placed old at first n) ≡ front = take_at front (drop (at + n) old) (at + n) len in
+    let prefix : List ℕ = take at old ++ first in
+    let len : length prefix ≡ at + n = omega (arith, length-append (take at old) first, length-take at old) in
+    let before : take (at + n) (placed old at first n) ≡ prefix = take_at prefix (drop (at + n) old) (at + n) len in
     let behind : drop (at + n + more) (placed old at first n) ≡ drop (at + (n + more)) old =
     sym (drop-drop more (at + n) (placed old at first n))
-    ∙ ap (drop more) (drop_at front (drop (at + n) old) (at + n) len)
+    ∙ ap (drop more) (drop_at prefix (drop (at + n) old) (at + n) len)
     ∙ drop-drop more (at + n) old
     ∙ ap (λ (k : ℕ). drop k old) (omega arith) in
     ap (λ (z : List ℕ). z ++ second ++ drop (at + n + more) (placed old at first n)) before
-    ∙ ap (λ (z : List ℕ). front ++ second ++ z) behind
+    ∙ ap (λ (z : List ℕ). prefix ++ second ++ z) behind
     ∙ ap (λ (z : List ℕ). z ++ drop (at + (n + more)) old) (append_assoc (take at old) first second)
 
 -- one argument more

@@ -121,8 +121,8 @@ pub record IsWellAddressed (address : Address) : Type 0 where
   pub numbered : 1 ≤ address.number
 
 -- the message that says this, at this address
-abbrev pub addressed : Address → Content → Message
-addressed address content = record {
+abbrev pub message_at_address : Address → Content → Message
+message_at_address address content = record {
   version = address.version;
   kind = content.kind;
   job = address.job;

@@ -46,8 +46,8 @@ abbrev pub with_pair : Parameters → PairCredits → Parameters
 with_pair settings pair = record settings { pairs = settings.pairs ++ pair ∷ [] }
 
 -- the settings with datagrams of version 2
-abbrev pub upgraded : Parameters → Parameters
-upgraded settings = record settings { version = 2 }
+abbrev pub as_version_2 : Parameters → Parameters
+as_version_2 settings = record settings { version = 2 }
 
 -- ---- limits
 

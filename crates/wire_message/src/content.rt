@@ -3,7 +3,7 @@
 ghost use Rattle.std.specs.Prelude.{◌≡◌, ◌+◌, ◌≤◌, [], ◌++◌, length, drop};
 ghost use Rattle.wire_message.specs.Content.{IsMessage, IsWellFormed, spelling};
 ghost use Rattle.wire_message.specs.Reading.{outgoing_message};
-ghost use Rattle.wire_message.specs.Content.{Content, IsWellAddressed, addressed};
+ghost use Rattle.wire_message.specs.Content.{Content, IsWellAddressed, message_at_address};
 ghost use Rattle.wire_message.specs.Content.{short_request, medium_request, long_request};
 ghost use Rattle.wire_message.specs.Content.{short_reply, medium_reply, long_reply, ack};
 ghost use Rattle.wire_message.specs.declared.limits.TheConstants.{MAX_DATAGRAM, MAX_PAYLOAD};
@@ -33,7 +33,7 @@ pub struct Address {
 fn bare<'a>(address: Address, kind: Kind, handler: u8, args: &'a [i32]) -> Outgoing<'a>
     ensures { let content : Content =
         record { kind = kind; handler = handler; args = args.now; offset = 0; payload = [] } in
-        outgoing_message result ≡ addressed address content }
+        outgoing_message result ≡ message_at_address address content }
 {
     Outgoing {
         version: address.version,
@@ -55,7 +55,7 @@ pub fn short_request<'a>(address: Address, handler: u8, args: &'a [i32]) -> Outg
     requires address { IsWellAddressed address }
     requires handler { 1 ≤ handler }
     requires count { length args.now ≤ 16 }
-    ensures value { outgoing_message result ≡ addressed address (short_request handler args.now) }
+    ensures value { outgoing_message result ≡ message_at_address address (short_request handler args.now) }
     ensures formed { IsWellFormed (outgoing_message result) }
 {
     bare(address, Kind::ShortRequest, handler, args)
@@ -74,7 +74,7 @@ pub fn medium_request<'a>(
     requires count { length args.now ≤ 16 }
     requires payload { length payload.now ≤ MAX_PAYLOAD }
     ensures value { let content = medium_request handler args.now payload.now in
-        outgoing_message result ≡ addressed address content }
+        outgoing_message result ≡ message_at_address address content }
     ensures formed { IsWellFormed (outgoing_message result) }
 {
     Outgoing {
@@ -97,7 +97,7 @@ pub fn long_request<'a>(
     requires count { length args.now ≤ 16 }
     requires payload { length payload.now ≤ MAX_PAYLOAD }
     ensures value { let content = long_request handler args.now offset payload.now in
-        outgoing_message result ≡ addressed address content }
+        outgoing_message result ≡ message_at_address address content }
     ensures formed { IsWellFormed (outgoing_message result) }
 {
     Outgoing {
@@ -112,7 +112,7 @@ pub fn short_reply<'a>(address: Address, handler: u8, args: &'a [i32]) -> Outgoi
     requires address { IsWellAddressed address }
     requires handler { 1 ≤ handler }
     requires count { length args.now ≤ 16 }
-    ensures value { outgoing_message result ≡ addressed address (short_reply handler args.now) }
+    ensures value { outgoing_message result ≡ message_at_address address (short_reply handler args.now) }
     ensures formed { IsWellFormed (outgoing_message result) }
 {
     bare(address, Kind::ShortReply, handler, args)
@@ -131,7 +131,7 @@ pub fn medium_reply<'a>(
     requires count { length args.now ≤ 16 }
     requires payload { length payload.now ≤ MAX_PAYLOAD }
     ensures value { let content = medium_reply handler args.now payload.now in
-        outgoing_message result ≡ addressed address content }
+        outgoing_message result ≡ message_at_address address content }
     ensures formed { IsWellFormed (outgoing_message result) }
 {
     Outgoing {
@@ -154,7 +154,7 @@ pub fn long_reply<'a>(
     requires count { length args.now ≤ 16 }
     requires payload { length payload.now ≤ MAX_PAYLOAD }
     ensures value { let content = long_reply handler args.now offset payload.now in
-        outgoing_message result ≡ addressed address content }
+        outgoing_message result ≡ message_at_address address content }
     ensures formed { IsWellFormed (outgoing_message result) }
 {
     Outgoing {
@@ -167,13 +167,13 @@ pub fn long_reply<'a>(
 /// The parts of an Ack, the empty reply.
 pub fn ack<'a>(address: Address) -> Outgoing<'a>
     requires { IsWellAddressed address }
-    ensures value { outgoing_message result ≡ addressed address ack }
+    ensures value { outgoing_message result ≡ message_at_address address ack }
     ensures formed { IsWellFormed (outgoing_message result) }
 {
     bare(address, Kind::Ack, 0, &[])
 }
 
-/// Writes the message's one spelling at the front of a buffer of 8,296 bytes, which has room for each, and answers
+/// Writes the message's one spelling at the prefix of a buffer of 8,296 bytes, which has room for each, and answers
 /// its length.
 ///
 /// The parts must be well formed, as they are where they were made here. The rest of the buffer is unchanged.

@@ -2,10 +2,10 @@
 
 ghost use Rattle.std.specs.Prelude.{◌≡◌, ◌<◌, ◌≤◌, true, length, Some, MatchOption};
 ghost use Rattle.wire_message.specs.Content.{IsWellFormed, is_version, spelling};
-ghost use Rattle.wire_message.specs.Notes.{IsNote, most_nodes};
+ghost use Rattle.wire_message.specs.Notifications.{IsNotification, most_nodes};
 ghost use Rattle.wire_message.specs.Reading.{viewed_message, outgoing_message};
 
-use crate::note::{BarrierNote, args_note, note_args};
+use crate::notification::{BarrierNotification, args_notification, notification_args};
 use crate::outgoing::Outgoing;
 use crate::reading::view;
 use crate::viewed::View;
@@ -24,14 +24,18 @@ pub fn written_again<'a>(parts: &Outgoing<'_>, buf: &'a mut [u8]) -> Option<View
     view(&buf[..len], parts.version).ok()
 }
 
-/// Writes a note as arguments and reads them again in its version: it is the same note.
-pub fn noted_again(note: &BarrierNote, nodes: u16, version: u8) -> Option<BarrierNote>
+/// Writes a notification as arguments and reads them again in its version: it is the same notification.
+pub fn noted_again(
+    notification: &BarrierNotification,
+    nodes: u16,
+    version: u8,
+) -> Option<BarrierNotification>
     requires version { is_version version ≡ true }
     requires nodes { nodes ≤ most_nodes version }
-    requires note { IsNote nodes note.now }
-    ensures { result ≡ Some note.now }
+    requires notification { IsNotification nodes notification.now }
+    ensures { result ≡ Some notification.now }
 {
     let mut args = [0; 12];
-    let count = note_args(note, version, &mut args);
-    args_note(&args[..count], nodes, version)
+    let count = notification_args(notification, version, &mut args);
+    args_notification(&args[..count], nodes, version)
 }

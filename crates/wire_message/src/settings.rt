@@ -1,7 +1,7 @@
 //! The settings of a job.
 
 ghost use Rattle.std.specs.Prelude.{◌≡◌, ◌≢◌, true, MatchOption, [], replicate};
-ghost use Rattle.wire_message.specs.Parameters.{Parameters, AreInRange, credits_of, upgraded, with_pair};
+ghost use Rattle.wire_message.specs.Parameters.{Parameters, AreInRange, credits_of, as_version_2, with_pair};
 ghost use Rattle.wire_message.specs.Stored.{no_pair};
 ghost use Rattle.wire_message.specs.declared.pairs.PairCredits.{PairCredits};
 ghost use Rattle.wire_message.specs.Content.{is_version};
@@ -256,7 +256,7 @@ impl Settings {
 
     /// The same settings for datagrams of version 2, in whose limits they are too.
     pub fn upgraded(&self) -> Settings
-        ensures { result ≡ upgraded self.now }
+        ensures { result ≡ as_version_2 self.now }
     {
         Settings {
             version: 2,

@@ -8,13 +8,13 @@ use Rattle.base_text.specs.HexBytes.{hex_byte}
 use Rattle.base_text.proofs.digit_writer.write_digits.Goals as goal
 
 -- the digits of bytes that were cut in two
-cut_digits : (rest front back : List ℕ) (n : ℕ) → front ≡ take n rest → back ≡ drop n rest
-    → flat_map hex_byte rest ≡ flat_map hex_byte front ++ flat_map hex_byte back
-cut_digits rest front back n before after =
+cut_digits : (rest prefix back : List ℕ) (n : ℕ) → prefix ≡ take n rest → back ≡ drop n rest
+    → flat_map hex_byte rest ≡ flat_map hex_byte prefix ++ flat_map hex_byte back
+cut_digits rest prefix back n before after =
     ap (λ (z : List ℕ). flat_map hex_byte z) (sym (take-append-drop n rest))
     ∙ flat_map-append hex_byte (take n rest) (drop n rest)
     ∙ ap (λ (z : List ℕ). flat_map hex_byte z ++ flat_map hex_byte (drop n rest)) (sym before)
-    ∙ ap (λ (z : List ℕ). flat_map hex_byte front ++ flat_map hex_byte z) (sym after)
+    ∙ ap (λ (z : List ℕ). flat_map hex_byte prefix ++ flat_map hex_byte z) (sym after)
 
 no_digits : (rest : List ℕ) → length rest ≡ 0 → flat_map hex_byte rest ≡ []
 no_digits [] none = refl
@@ -23,12 +23,12 @@ no_digits (byte ∷ rest) none = absurd (omega arith)
 pub returns-in-Fault : goal.returns-in-Fault
 returns-in-Fault g c =
     past_fault _ _ _ _ _ _ _ (cut_digits c.loop-rest.rest.now c.split_at.result.0.now c.split_at.result.1.now
-    c.min.result c.split_at.ensures.front c.split_at.ensures.back) c.loop-rest.invariant c.in-Fault.ensures
+    c.min.result c.split_at.ensures.prefix c.split_at.ensures.back) c.loop-rest.invariant c.in-Fault.ensures
 
 pub loop-rest-preserved : goal.loop-rest-preserved
 loop-rest-preserved g c =
     past_done _ _ _ _ _ _ _ (cut_digits c.loop-rest.rest.now c.split_at.result.0.now c.split_at.result.1.now
-    c.min.result c.split_at.ensures.front c.split_at.ensures.back) c.loop-rest.invariant c.in_default.ensures
+    c.min.result c.split_at.ensures.prefix c.split_at.ensures.back) c.loop-rest.invariant c.in_default.ensures
 
 pub returns : goal.returns
 returns g c = all_gathered _ _ _ _ (no_digits c.loop-rest.rest.now (eqb-true (length c.loop-rest.rest.now) 0

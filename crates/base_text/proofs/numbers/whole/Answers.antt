@@ -1,6 +1,6 @@
 use Rattle.std.proofs.Common.{◌∙◌, sym, arith, ap, ◌<◌, ◌≤◌, Some, ℕ}
 use Rattle.base_text.proofs.Decimals.{no_digits, zero_first, no_digit, number_is}
-use Rattle.base_text.proofs.Fronts.{stops_from}
+use Rattle.base_text.proofs.Prefixes.{stops_from}
 use Rattle.base_text.proofs.numbers.whole.Goals as goal
 
 pub returns-then-count-eq0 : goal.returns-then-count-eq0

@@ -1,5 +1,5 @@
 use Rattle.std.proofs.Common.{sym, arith}
-use Rattle.base_text.proofs.Fronts.{stops_from}
+use Rattle.base_text.proofs.Prefixes.{stops_from}
 use Rattle.base_text.proofs.Names.{name_found, name_longer, name_other, name_short, ends_by}
 use Rattle.base_text.proofs.words.begins.Goals as goal
 

@@ -6,12 +6,12 @@ use Rattle.text_trace.specs.declared.trace.Trace.{Trace}
 use Rattle.cli_check.specs.CheckInputs.{IsTraceOf}
 use Rattle.cli_check.specs.Merging.{AreFirstRecorders, ClosesAll, IsMerged, MergesTraces}
 use Rattle.cli_check.specs.Recording.{RecorderKept}
-use Rattle.cli_check.proofs.Merged.{Fronts, HasNoRun, first_threads, merged_err, merged_run, recorders, refilled_all}
-use Rattle.cli_check.proofs.Struck.{length-struck, traces_of_job}
+use Rattle.cli_check.proofs.Merged.{Prefixes, HasNoRun, first_threads, merged_err, merged_run, recorders, refilled_all}
+use Rattle.cli_check.proofs.Rejected.{length-rejected, traces_of_job}
 use Rattle.cli_check.proofs.machines.merge_traces.Goals as goal
 
-pub struck_traces-requires : goal.struck_traces-requires
-struck_traces-requires g c =
+pub rejected_traces-requires : goal.rejected_traces-requires
+rejected_traces-requires g c =
     let count = ap length c.deref.ensures.value in
     let nodes = c.requires.job.settings.nodes in
     record {
@@ -23,9 +23,9 @@ pub merge-requires : goal.merge-requires
 merge-requires g c =
     let job = c.args.job.now in
     let judged = c.deref-2.result.now in
-    let same = c.deref-2.ensures.value ∙ c.in-Ok-struck_traces.ensures job
+    let same = c.deref-2.ensures.value ∙ c.in-Ok-rejected_traces.ensures job
     (subst (λ (all : List RecorderKept). AreFirstRecorders job all) (sym c.deref.ensures.value) c.in-Ok.ensures) in
-    let as_read = ap length same ∙ length-struck job 0 c.args.traces.items ∙ c.requires.count in
+    let as_read = ap length same ∙ length-rejected job 0 c.args.traces.items ∙ c.requires.count in
     let count = ap length c.as_mut_slice.ensures.value in
     let nodes = c.requires.job.settings.nodes in
     let traces : All (IsTraceOf job) judged =
@@ -44,31 +44,31 @@ pub returns-in-Err : goal.returns-in-Err
 returns-in-Err g c =
     let job = c.args.job.now in
     let judged = c.deref-2.result.now in
-    let same = c.deref-2.ensures.value ∙ c.in-Ok-struck_traces.ensures job
+    let same = c.deref-2.ensures.value ∙ c.in-Ok-rejected_traces.ensures job
     (subst (λ (all : List RecorderKept). AreFirstRecorders job all) (sym c.deref.ensures.value) c.in-Ok.ensures) in
-    let as_read = ap length same ∙ length-struck job 0 c.args.traces.items ∙ c.requires.count in
-    let Recorders : List RecorderKept → Type 0 = λ all. Fronts all judged c.merge.new.machines (Err c.in-Err.fault) in
+    let as_read = ap length same ∙ length-rejected job 0 c.args.traces.items ∙ c.requires.count in
+    let Recorders : List RecorderKept → Type 0 = λ all. Prefixes all judged c.merge.new.machines (Err c.in-Err.fault) in
     let No_run : List RecorderKept → Type 0 = λ all. HasNoRun all judged (Err c.in-Err.fault) in
     subst (λ (all : List Trace). MergesTraces job all (Err c.in-Err.fault)) same
     (merged_err job judged c.in-Ok.recorders.items c.merge.new.machines c.in-Err.fault
-    as_read c.in-Ok.ensures (subst Recorders c.as_mut_slice.ensures.value c.in-Err.ensures.front)
+    as_read c.in-Ok.ensures (subst Recorders c.as_mut_slice.ensures.value c.in-Err.ensures.prefix)
     (subst No_run c.as_mut_slice.ensures.value c.in-Err.ensures.no_run))
 
 pub returns-in-Ok-close_all : goal.returns-in-Ok-close_all
 returns-in-Ok-close_all g c =
     let job = c.args.job.now in
     let judged = c.deref-2.result.now in
-    let same = c.deref-2.ensures.value ∙ c.in-Ok-struck_traces.ensures job
+    let same = c.deref-2.ensures.value ∙ c.in-Ok-rejected_traces.ensures job
     (subst (λ (all : List RecorderKept). AreFirstRecorders job all) (sym c.deref.ensures.value) c.in-Ok.ensures) in
-    let as_read = ap length same ∙ length-struck job 0 c.args.traces.items ∙ c.requires.count in
+    let as_read = ap length same ∙ length-rejected job 0 c.args.traces.items ∙ c.requires.count in
     let first = c.in-Ok.recorders in
     let then_ = c.merge.new.machines in
     let kept = c.as_mut_slice.ensures.value in
     let as_many : length then_ ≡ length first.items = c.merge.auto.machines ∙ ap length kept in
     let filled = refilled_all first.len first.items then_ first.ok.0 as_many in
-    let Recorders : List RecorderKept → Type 0 = λ all. Fronts all judged then_ (Ok c.in-Ok-merge.field-0) in
+    let Recorders : List RecorderKept → Type 0 = λ all. Prefixes all judged then_ (Ok c.in-Ok-merge.field-0) in
     let Closes : List RecorderKept → Type 0 = λ all. ClosesAll all c.in-Ok-close_all.report in
     subst (λ (all : List Trace). IsMerged job all c.in-Ok-close_all.report) same
     (merged_run c.traces_law.ensures.run job judged first.items then_ c.in-Ok-merge.field-0
     c.in-Ok-close_all.report c.requires.job as_read c.in-Ok.ensures
-    (subst Recorders kept c.in-Ok-merge.ensures.front) as_many (subst Closes filled c.in-Ok-close_all.ensures))
+    (subst Recorders kept c.in-Ok-merge.ensures.prefix) as_many (subst Closes filled c.in-Ok-close_all.ensures))

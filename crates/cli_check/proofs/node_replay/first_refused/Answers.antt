@@ -2,7 +2,7 @@
 use Rattle.std.proofs.Common.{◌≡◌, true, length, refl, sym, ap, subst, ◌∙◌}
 use Rattle.std.specs.Prelude.{IsSomeAnd, is_some}
 use Rattle.std.proofs.lemmas.Option.{slice_get_read}
-use Rattle.cli_check.specs.Struck.{refuses_got}
+use Rattle.cli_check.specs.Rejected.{refuses_got}
 use Rattle.cli_check.proofs.node_replay.first_refused.Goals as goal
 
 pub returns-in-Some : goal.returns-in-Some

@@ -1,6 +1,6 @@
 -- Whether a delivery of the bytes is refused.
 use Rattle.std.proofs.Common.{◌∙◌, arith}
-use Rattle.cli_check.proofs.Struck.{refuses_told}
+use Rattle.cli_check.proofs.Rejected.{refuses_told}
 use Rattle.cli_check.proofs.node_replay.why_refused.Goals as goal
 
 pub returns : goal.returns

@@ -1,8 +1,8 @@
 -- The nodes that the merge leaves, or why there are none.
 use Rattle.std.proofs.Common.{refl, sym, ◌∙◌, arith, inl}
-use Rattle.cli_check.specs.Struck.{struck_traces}
+use Rattle.cli_check.specs.Rejected.{rejected_traces}
 use Rattle.cli_check.proofs.Ends.{nodes_ranked}
-use Rattle.cli_check.proofs.Struck.{length-struck}
+use Rattle.cli_check.proofs.Rejected.{length-rejected}
 use Rattle.cli_check.proofs.run.run_traces.Goals as goal
 
 pub merge_traces-requires : goal.merge_traces-requires
@@ -11,12 +11,12 @@ merge_traces-requires g c = record { job = c.requires.job; count = c.requires.co
 pub tell_run-requires : goal.tell_run-requires
 tell_run-requires g c =
     let merged = c.in-Ok.ensures in
-    let judged = struck_traces c.args.job.now c.args.traces.items in
+    let judged = rejected_traces c.args.job.now c.args.traces.items in
     record {
       few = omega (
         arith,
         merged.nodes_after.count,
-        length-struck c.args.job.now 0 c.args.traces.items,
+        length-rejected c.args.job.now 0 c.args.traces.items,
         c.requires.count,
         c.requires.job.settings.nodes,
       );

@@ -1,6 +1,6 @@
 -- The rank, a space, and the line of the thread and the answer.
 use Rattle.std.proofs.Common.{ℕ, List, ◌∷◌, decimal, subst, ◌∙◌}
-use Rattle.base_io.specs.Buffered.{Gathers, GathersAll, GathersFront, outbox}
+use Rattle.base_io.specs.Buffered.{Gathers, GathersAll, GathersPrefix, outbox}
 use Rattle.text_script.specs.AnswersTold.{sight_at}
 use Rattle.base_text.specs.LineTexts.{line_text}
 use Rattle.cli_check.specs.StepLines.{script_words}
@@ -12,7 +12,7 @@ returns-in-Fault g c = λ node stands.
     rank_cut (decimal c.args.at.rank) (decimal c.args.at.thread)
     (script_words (sight_at c.args.endpoint.now node) c.args.answer.now)
     (outbox g.K.Sink.taken g.K.Sink.faults c.args.sink.now) (outbox g.K.Sink.taken g.K.Sink.faults c.write_all.new.self)
-    (subst (λ (bytes : List ℕ). GathersFront (outbox g.K.Sink.taken g.K.Sink.faults c.args.sink.now)
+    (subst (λ (bytes : List ℕ). GathersPrefix (outbox g.K.Sink.taken g.K.Sink.faults c.args.sink.now)
     (outbox g.K.Sink.taken g.K.Sink.faults c.write_all.new.self) bytes)
     (c.as_bytes.ensures.value ∙ c.format.ensures.text) c.in-Fault.ensures)
 

@@ -3,5 +3,5 @@ use Rattle.law_traces.proofs.Carrying.{goes_back}
 use Rattle.law_traces.proofs.laws.carrying_law.Goals as goal
 
 pub returns : goal.returns
-returns g c = λ become first second carries nodes list front to go.
-    goes_back become first second carries nodes list front to go
+returns g c = λ become first second carries nodes list prefix to go.
+    goes_back become first second carries nodes list prefix to go

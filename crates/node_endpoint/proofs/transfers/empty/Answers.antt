@@ -3,11 +3,11 @@ use Rattle.std.specs.Prelude.{slice_set}
 use Rattle.std.proofs.Math.Seq.{take-suc}
 use Rattle.part_transfers.specs.declared.operation.Handle.{Handle}
 use Rattle.node_rules.specs.EndpointLocal.{invalid}
-use Rattle.node_rules.specs.TransferCalls.{emptied}
+use Rattle.node_rules.specs.TransferCalls.{with_invalid}
 use Rattle.node_endpoint.proofs.transfers.empty.Goals as goal
 
 emptied-last : (first : List ℕ) (register : ℕ) (registers : List Handle)
-    → emptied (first ++ register ∷ []) registers ≡ slice_set (emptied first registers) register invalid
+    → with_invalid (first ++ register ∷ []) registers ≡ slice_set (with_invalid first registers) register invalid
 emptied-last [] register registers = refl
 emptied-last (one ∷ first) register registers = emptied-last first register (slice_set registers one invalid)
 

@@ -1,6 +1,6 @@
 use Rattle.std.proofs.Common.{◌≡◌, take}
-use Rattle.node_rules.specs.TransferCalls.{emptied}
+use Rattle.node_rules.specs.TransferCalls.{with_invalid}
 use Rattle.node_endpoint.proofs.transfers.empty.Given as goal
 
 abbrev pub invariant-loop-reg : goal.invariant-loop-reg
-invariant-loop-reg l = l.registers ≡ emptied (take l.reg-index l.regs) l.fn.registers
+invariant-loop-reg l = l.registers ≡ with_invalid (take l.reg-index l.regs) l.fn.registers

@@ -3,7 +3,7 @@ use Rattle.std.proofs.Common.{nat_lt, slice_index_or, bit_and, ◌∙◌}
 use Rattle.std.specs.Int.{bit_at, w64}
 use Rattle.std.proofs.lemmas.Bool.{cases_Bool, ltb-true, ltb-false}
 use Rattle.std.proofs.lemmas.Nat.Bits.{bit_at-trailing_zeros, bit_at-zero}
-use Rattle.wire_message.specs.Notes.{mask_number}
+use Rattle.wire_message.specs.Notifications.{mask_number}
 use Rattle.part_barrier.specs.Masks.{has}
 use Rattle.part_barrier.proofs.Words.{covered}
 use Rattle.part_barrier.proofs.mask.first_without.Goals as goal

@@ -1,5 +1,5 @@
 use Rattle.std.proofs.Common.{sym, arith}
-use Rattle.wire_message.specs.Notes.{mask_number}
+use Rattle.wire_message.specs.Notifications.{mask_number}
 use Rattle.part_barrier.proofs.RoundLaws.{has_all-false}
 use Rattle.part_barrier.proofs.mask.has_all.Goals as goal
 

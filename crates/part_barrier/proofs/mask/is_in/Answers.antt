@@ -1,7 +1,7 @@
 use Rattle.std.proofs.Common.{◌≡◌, ℕ, ◌<◌, ◌/◌, ◌%◌, ◌^◌, length, sym, ap, ◌∙◌, arith, rules, nat_eq, slice_index_or}
 use Rattle.std.specs.Int.{bit_at}
 use Rattle.std.proofs.lemmas.Nat.Bits.{shr_and_one}
-use Rattle.wire_message.specs.Notes.{mask_number}
+use Rattle.wire_message.specs.Notifications.{mask_number}
 use Rattle.part_barrier.proofs.Words.{bit_of}
 use Rattle.part_barrier.proofs.mask.is_in.Goals as goal
 

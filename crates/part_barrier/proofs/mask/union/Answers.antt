@@ -1,6 +1,6 @@
 use Rattle.std.proofs.Common.{ℕ, ◌<◌, ◌^◌, ap₂, ◌∙◌, arith, rules, slice_index_or}
 use Rattle.std.specs.Prelude.{bit_or}
-use Rattle.wire_message.specs.Notes.{mask_number}
+use Rattle.wire_message.specs.Notifications.{mask_number}
 use Rattle.wire_message.proofs.Masks.{four}
 use Rattle.part_barrier.proofs.Words.{union_is}
 use Rattle.part_barrier.proofs.mask.union.Goals as goal

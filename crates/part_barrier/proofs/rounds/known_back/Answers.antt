@@ -1,5 +1,5 @@
 use Rattle.std.proofs.Common.{◌∙◌, ap, sym, arith}
-use Rattle.wire_message.specs.Notes.{mask_number}
+use Rattle.wire_message.specs.Notifications.{mask_number}
 use Rattle.part_barrier.specs.Masks.{has}
 use Rattle.part_barrier.proofs.RoundLaws.{known_to, known_all}
 use Rattle.part_barrier.proofs.rounds.known_back.Goals as goal

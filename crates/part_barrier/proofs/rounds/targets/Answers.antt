@@ -2,7 +2,7 @@ use Rattle.std.proofs.Common.{◌≡◌, suc, ◌+◌, ◌*◌, ◌^◌, ◌%◌
 use Rattle.std.specs.Prelude.{nat_lt}
 use Rattle.std.proofs.lemmas.Bool.Decides.{nat_tests}
 use Rattle.part_barrier.specs.Masks.{has}
-use Rattle.wire_message.specs.Notes.{mask_number}
+use Rattle.wire_message.specs.Notifications.{mask_number}
 use Rattle.part_barrier.specs.Route.{has_back, any_round, goes_to}
 use Rattle.part_barrier.proofs.RoundLaws.{rounds_are, shift_is, round_more, round_less}
 use Rattle.part_barrier.proofs.rounds.targets.Goals as goal

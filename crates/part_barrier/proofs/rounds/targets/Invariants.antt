@@ -1,5 +1,5 @@
 use Rattle.std.proofs.Common.{◌≡◌, ℕ}
-use Rattle.wire_message.specs.Notes.{mask_number}
+use Rattle.wire_message.specs.Notifications.{mask_number}
 use Rattle.part_barrier.specs.Masks.{has}
 use Rattle.part_barrier.specs.Route.{any_round}
 use Rattle.part_barrier.proofs.rounds.targets.Given as goal

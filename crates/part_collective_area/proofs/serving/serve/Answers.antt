@@ -2,18 +2,18 @@
 use Rattle.std.proofs.Common.{◌≡◌, ℕ, ℤ, ◌%◌, true, List, length, Some, sym, ap, ap₂, ◌∙◌}
 use Rattle.std.specs.Prelude.{◌==◌, ◌&&◌, nat_le}
 use Rattle.part_segment.specs.Image.{written_by}
-use Rattle.part_handlers.specs.Desks.{arrival_at}
+use Rattle.part_handlers.specs.Tokens.{arrival_at}
 use Rattle.part_collective_area.specs.Served.{header_at, number_at}
 use Rattle.part_collective_area.proofs.Stamping.{header_told, stamped_at}
 use Rattle.part_collective_area.proofs.serving.serve.Goals as goal
 
 pub returns-clause-served : goal.returns-clause-served
 returns-clause-served c = λ cells opening outcome at.
-    let desk = c.args.desk.now in
+    let token = c.args.token.now in
     let segment = c.args.segment.now in
-    let args : List ℤ = (arrival_at desk).args in
+    let args : List ℤ = (arrival_at token).args in
     let offset = c.in-Some.offset in
-    let place : (arrival_at desk).place ≡ Some (offset, c.in-Some.field-0-1) =
+    let place : (arrival_at token).place ≡ Some (offset, c.in-Some.field-0-1) =
     sym c.place.ensures ∙ c.in-Some.is in
     let good : ((length args == 4) && (nat_le 16 offset && ((offset % 8 == 0) && nat_le offset (length segment))))
     ≡ true =
@@ -25,9 +25,9 @@ returns-clause-served c = λ cells opening outcome at.
     c.number_at-stamp.ensures ∙ ap (λ (words : List ℤ). number_at words 0) c.args-3.ensures in
     let shape : c.number_at-shape.result ≡ number_at args 2 =
     c.number_at-shape.ensures ∙ ap (λ (words : List ℤ). number_at words 2) c.args-4.ensures in
-    stamped_at opening outcome segment c.write_header.new.segment cells desk at
+    stamped_at opening outcome segment c.write_header.new.segment cells token at
     (c.write_header.ensures.written
     ∙ (ap₂ (λ (one word : ℕ). written_by segment (header_at offset one word)) stamp shape
     ∙ ap (written_by segment)
-    (sym (header_told (length segment) args (arrival_at desk).place offset c.in-Some.field-0-1 place good))))
+    (sym (header_told (length segment) args (arrival_at token).place offset c.in-Some.field-0-1 place good))))
     c.write_header.ensures.same_length

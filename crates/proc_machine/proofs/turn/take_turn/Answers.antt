@@ -7,7 +7,7 @@ use Rattle.proc_machine.specs.Cursors.{progress_of}
 use Rattle.proc_machine.specs.Kept.{CanBeSaid}
 use Rattle.proc_machine.specs.Turns.{TurnTaken, TakesTurn}
 use Rattle.proc_machine.specs.declared.turn.Done.{Done}
-use Rattle.proc_steps.specs.Tries.{Found}
+use Rattle.proc_steps.specs.Tries.{FoundNode}
 use Rattle.proc_machine.proofs.Turning.{still_there, turn_goes}
 use Rattle.proc_machine.proofs.turn.take_turn.Goals as goal
 

@@ -1,5 +1,5 @@
 use Rattle.std.proofs.Common.{◌∙◌, sym, ap, subst, refl, not, ◌==◌}
-use Rattle.part_handlers.specs.LogState.{Logged}
+use Rattle.part_handlers.specs.LogState.{LogRecord}
 use Rattle.node_endpoint.specs.EndpointState.{EndpointState, EndpointStands}
 use Rattle.proc_node.specs.NodeEnds.{node_for}
 use Rattle.proc_node.proofs.calling.ended_node.Goals as goal
@@ -7,7 +7,7 @@ use Rattle.proc_node.proofs.calling.ended_node.Goals as goal
 pub returns : goal.returns
 returns g c = record {
   violated_is = λ node stands. ap (λ n. not (n == 0))
-      (c.count-violated.ensures ∙ ap (λ (log : Logged). log.count)
+      (c.count-violated.ensures ∙ ap (λ (log : LogRecord). log.count)
       (c.log.ensures node
       (subst (λ (any : EndpointState). EndpointStands any node) (sym c.into_endpoint-endpoint.ensures.is)
       stands)));

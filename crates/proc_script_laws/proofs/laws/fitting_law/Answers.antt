@@ -2,7 +2,7 @@
 use Rattle.law_atomics.proofs.Laws.{atomics_hold}
 use Rattle.text_script.specs.Bodies.{script_meaning}
 use Rattle.text_script.specs.LawfulBodies.{lawful-script}
-use Rattle.text_script.specs.Registration.{registered}
+use Rattle.text_script.specs.Registration.{registry_of}
 use Rattle.text_script.proofs.Batches.{has_batches, serves_batches}
 use Rattle.text_script.proofs.Collectives.{has_collectives, serves_collectives}
 use Rattle.proc_script_laws.proofs.Bodies.{handlers_fit, job_fits}
@@ -15,7 +15,7 @@ returns c = record {
   jobs = job_fits;
   calls = calls_fit;
   batches = λ handlers has. (has_batches handlers has, serves_batches handlers has);
-  atomics = λ settings handlers range has. atomics_hold settings (registered handlers).table (script_meaning handlers)
+  atomics = λ settings handlers range has. atomics_hold settings (registry_of handlers).table (script_meaning handlers)
       range (lawful-script handlers) (has_batches handlers has) (serves_batches handlers has);
   collectives = λ handlers has. (has_collectives handlers has, serves_collectives handlers has);
 }

@@ -4,6 +4,6 @@ use Rattle.proc_seal.proofs.hmac.filled.Goals as goal
 
 pub returns : goal.returns
 returns c =
-    ap (λ zs. zs ++ c.split_at_mut-front.result.1.now) c.copy_from_slice.ensures.after
+    ap (λ zs. zs ++ c.split_at_mut-prefix.result.1.now) c.copy_from_slice.ensures.after
     ∙ ap (λ zs. c.args.short.now ++ zs)
-    (c.split_at_mut-front.ensures.back ∙ drop-replicate (length c.args.short.now) 64 0)
+    (c.split_at_mut-prefix.ensures.back ∙ drop-replicate (length c.args.short.now) 64 0)

@@ -1,5 +1,5 @@
 use Rattle.std.proofs.Common.{ℕ, [], refl, sym, subst, inl, inr}
-use Rattle.base_io.specs.Buffered.{Gathers, GathersFront, outbox}
+use Rattle.base_io.specs.Buffered.{Gathers, GathersPrefix, outbox}
 use Rattle.text_trace.specs.TraceText.{head_text}
 use Rattle.proc_station.specs.NodeRuns.{whole_text}
 use Rattle.proc_station.proofs.Texts.{head_cut, runs_open}
@@ -13,11 +13,11 @@ returns-in-Fault g c =
     let rank = c.args.node.address.rank in
     let old = outbox k.taken k.faults c.args.sink in
     let new = outbox k.taken k.faults c.print_head.new.sink in
-    let headed = subst (λ (v : ℕ). GathersFront old new (head_text v settings.job rank)) c.version.ensures.version
-    (subst (λ (j : ℕ). GathersFront old new (head_text c.version.result j rank)) c.job.ensures c.in-Fault.ensures) in
+    let headed = subst (λ (v : ℕ). GathersPrefix old new (head_text v settings.job rank)) c.version.ensures.version
+    (subst (λ (j : ℕ). GathersPrefix old new (head_text c.version.result j rank)) c.job.ensures c.in-Fault.ensures) in
     inr (record {
       after_is = refl;
-      written = subst (λ s. GathersFront old (outbox k.taken k.faults s) (whole_text settings rank []))
+      written = subst (λ s. GathersPrefix old (outbox k.taken k.faults s) (whole_text settings rank []))
           (sym c.over-in-Fault.ensures) (head_cut k settings rank old new headed);
     })
 

@@ -1,5 +1,5 @@
 use Rattle.std.proofs.Common.{◌≡◌, ◌-◌, ◌<◌, sym, ap, ◌∙◌, arith}
-use Rattle.part_handlers.specs.LogState.{Logged}
+use Rattle.part_handlers.specs.LogState.{LogRecord}
 use Rattle.sim_run.specs.RunText.{any_violation}
 use Rattle.sim_run.proofs.EndText.{any_passed, any_found}
 use Rattle.sim_run.proofs.output.any_violation.Goals as goal
@@ -13,7 +13,7 @@ pub returns-then-count-ne0 : goal.returns-then-count-ne0
 returns-then-count-ne0 c = λ w most h.
     let node = c.loop-node.node in
     let count =
-    c.count.ensures ∙ ap (λ (l : Logged). l.count) (c.log.ensures (w node) (c.endpoint.ensures.stands w most h)) in
+    c.count.ensures ∙ ap (λ (l : LogRecord). l.count) (c.log.ensures (w node) (c.endpoint.ensures.stands w most h)) in
     let inside : node < c.args.world.now.settings.nodes =
     (let low = c.loop-node-test.true in let all = c.nodes-node-end.ensures in omega arith) in
     sym (c.loop-node.invariant.so_far w most h
@@ -25,7 +25,7 @@ loop-node-preserved c = record {
       let node = c.loop-node.node in
       let count =
       c.count.ensures
-      ∙ ap (λ (l : Logged). l.count) (c.log.ensures (w node) (c.endpoint.ensures.stands w most h)) in
+      ∙ ap (λ (l : LogRecord). l.count) (c.log.ensures (w node) (c.endpoint.ensures.stands w most h)) in
       let inside : node < c.args.world.now.settings.nodes =
       (let low = c.loop-node-test.true in let all = c.nodes-node-end.ensures in omega arith) in
       c.loop-node.invariant.so_far w most h

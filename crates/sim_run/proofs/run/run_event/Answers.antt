@@ -1,6 +1,6 @@
 use Rattle.base_io.specs.Buffered.{outbox}
 use Rattle.std.proofs.Common.{subst}
-use Rattle.node_rules.specs.EndpointRules.{timed, transition}
+use Rattle.node_rules.specs.EndpointRules.{timed_event, transition}
 use Rattle.sim_world.specs.Events.{StepsInWorld, event_of, job_in}
 use Rattle.text_script.specs.Bodies.{script_meaning}
 use Rattle.text_script.specs.Registration.{JobHandlers, handlers_of}
@@ -21,7 +21,7 @@ write_event_answer-requires-clause-told g c =
 pub returns-in-NoMemory-clause-runs : goal.returns-in-NoMemory-clause-runs
 returns-in-NoMemory-clause-runs g c =
     let old = c.args.world.now in
-    let plan = event_plan c.args.at.number (timed c.args.at.now (event_of c.args.event.now)) in
+    let plan = event_plan c.args.at.number (timed_event c.args.at.now (event_of c.args.event.now)) in
     nothing_told (job_in (script_meaning (handlers_of c.args.script.now)) old) plan old c.step.new.self
     (outbox g.K.Sink.taken g.K.Sink.faults c.args.sink.now)
 

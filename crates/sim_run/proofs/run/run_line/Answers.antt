@@ -2,7 +2,7 @@ use Rattle.std.proofs.Common.{◌+◌, ◌<◌, refl, sym, subst}
 use Rattle.std.specs.List.{slice_get}
 use Rattle.wire_message.specs.Parameters.{Parameters}
 use Rattle.spec_network.specs.World.{IsAmong}
-use Rattle.node_rules.specs.EndpointRules.{timed}
+use Rattle.node_rules.specs.EndpointRules.{timed_event}
 use Rattle.base_io.specs.Buffered.{outbox}
 use Rattle.sim_world.specs.Aims.{MayFall}
 use Rattle.sim_world.specs.Events.{event_of, job_in}
@@ -60,7 +60,7 @@ returns-in-Some-Event-clause-runs g c = λ line at.
     let number = c.args.place + 1 in
     let now = c.in-Some-Event.now in
     let event = event_of c.in-Some-Event.event in
-    plan_runs job (event_plan number (timed now event)) number line
+    plan_runs job (event_plan number (timed_event now event)) number line
     (nodes_stage g.K.Sink.taken g.K.Sink.faults c.args.nodes.now c.args.sink.now)
     (record {
       nodes = record { world = c.run_event.new.world; nodes = c.args.nodes.now.collectives.items };

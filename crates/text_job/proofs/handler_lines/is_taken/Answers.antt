@@ -1,7 +1,7 @@
 use Rattle.std.proofs.Common.{rules, tests, sym, ◌∙◌, ◌==◌}
 use Rattle.std.proofs.lemmas.Iterator.{YieldsList-from_slice}
 use Rattle.std.proofs.lemmas.Iterator.Search.{any_from_yields_List}
-use Rattle.base_text.proofs.Fronts.{list_any_map}
+use Rattle.base_text.proofs.Prefixes.{list_any_map}
 use Rattle.text_job.proofs.handler_lines.is_taken.Goals as goal
 
 pub returns : goal.returns

@@ -4,7 +4,7 @@ use Rattle.std.proofs.Common.{arith}
 use Rattle.std.proofs.lemmas.List.{length-take-le}
 use Rattle.std.proofs.lemmas.Option.{same_Some, slice_get_past, slice_get_read}
 use Rattle.base_turns.proofs.Replays.{stands_push}
-use Rattle.base_turns.specs.Replay.{StandsFor, given_by, replayed, steps_of}
+use Rattle.base_turns.specs.Replay.{StandsFor, given_by, replay_state, steps_of}
 use Rattle.base_turns.specs.declared.entry.Entry.{Entry}
 use Rattle.text_replay.proofs.Searching.{untrue}
 use Rattle.text_replay.proofs.Turns.{sent_from-push, taken_next}
@@ -30,10 +30,10 @@ loop-turns-preserved g c =
           let after = c.take_turn-sends.ensures.after _ before in
           c.in_ok-keep_sent.ensures _ after
           ∙ ap (λ (n : ℕ). c.loop-turns.sent.items ++ numbered_sends (at + 1) (take n (g.M.Machine.sent
-          (g.M.Machine.after (replayed (steps_of g.M.Machine) state (take at entries)) entry.thread entry.now entry.got))))
+          (g.M.Machine.after (replay_state (steps_of g.M.Machine) state (take at entries)) entry.thread entry.now entry.got))))
           (c.take_turn-sends.ensures.sends _ before)
           ∙ ap (λ (all : List Sent). all ++ numbered_sends (at + 1)
-          (given_by (steps_of g.M.Machine) (replayed (steps_of g.M.Machine) state (take at entries)) entry))
+          (given_by (steps_of g.M.Machine) (replay_state (steps_of g.M.Machine) state (take at entries)) entry))
           (c.loop-turns.invariant.sent state stands)
           ∙ sym (ap (sent_from (steps_of g.M.Machine) state 1) more
           ∙ sent_from-push (steps_of g.M.Machine) state 1 (take at entries) entry (at + 1) (omega (arith, count)));

@@ -1,9 +1,9 @@
 -- One more action.
 use Rattle.std.proofs.Common.{◌≡◌, ◌∙◌, ap, refl, sym, subst, length, take, ◌+◌, ◌<◌, ℕ, List, get_or}
 use Rattle.std.proofs.lemmas.List.Sums.{fold_more}
-use Rattle.part_handlers.specs.declared.desk.Desk.{Desk}
-use Rattle.part_handlers.specs.Desks.{At, Stage, arrival_at, frame_of, stage, start_of}
-use Rattle.part_handlers.specs.Runs.{Frame, IsPlaced, Outcome, Start, untouched}
+use Rattle.part_handlers.specs.declared.token.Token.{Token}
+use Rattle.part_handlers.specs.Tokens.{At, Stage, arrival_at, frame_of, stage, start_of}
+use Rattle.part_handlers.specs.Runs.{Frame, IsPlaced, Outcome, Start, nothing_done}
 use Rattle.part_handlers.proofs.Laws.{leaving-untouched}
 use Rattle.text_steps.specs.declared.steps.Action.{Action}
 use Rattle.text_script.specs.Bodies.{act, acts}
@@ -21,21 +21,21 @@ acts_more opening now frame start i actions action outcome low is at =
 
 -- the place of a Long's payload stays inside the segment
 placed_at : (opening now : Stage) (outcome : Outcome) → At opening outcome now
-    → IsPlaced (length opening.segment) (arrival_at opening.desk).place
-    → IsPlaced (length now.segment) (arrival_at now.desk).place
+    → IsPlaced (length opening.segment) (arrival_at opening.token).place
+    → IsPlaced (length now.segment) (arrival_at now.token).place
 placed_at opening now outcome at placed =
-    subst (λ (desk : Desk). IsPlaced (length now.segment) (arrival_at desk).place) (sym at.desk_is)
-    (subst (λ (len : ℕ). IsPlaced len (arrival_at opening.desk).place) (sym at.same_length) placed)
+    subst (λ (token : Token). IsPlaced (length now.segment) (arrival_at token).place) (sym at.token_is)
+    (subst (λ (len : ℕ). IsPlaced len (arrival_at opening.token).place) (sym at.same_length) placed)
 
 pub loop-action-init : goal.loop-action-init
 loop-action-init c =
-    let opening = stage c.args.segment.now c.args.cells.now c.args.desk.now in
+    let opening = stage c.args.segment.now c.args.cells.now c.args.token.now in
     record {
       at = record {
         segment_is = refl;
         same_length = refl;
         cells_are = refl;
-        desk_is = leaving-untouched opening c.requires.fresh.unreplied;
+        token_is = leaving-untouched opening c.requires.fresh.unreplied;
         spelled = tt;
       };
       placed = c.requires.segment.placed;
@@ -44,12 +44,12 @@ loop-action-init c =
 
 pub loop-action-preserved : goal.loop-action-preserved
 loop-action-preserved c =
-    let opening = stage c.args.segment.now c.args.cells.now c.args.desk.now in
-    let now = stage c.do_action.new.segment c.do_action.new.cells c.do_action.new.desk in
+    let opening = stage c.args.segment.now c.args.cells.now c.args.token.now in
+    let now = stage c.do_action.new.segment c.do_action.new.cells c.do_action.new.token in
     let done = c.do_action.ensures.at opening _ c.loop-action.invariant.at in
     record {
-      at = acts_more opening now (frame_of c.args.desk.now) (start_of opening) c.loop-action.action-index
-          c.args.actions.now c.action-item.result (untouched (start_of opening)) c.loop-action-test.true
+      at = acts_more opening now (frame_of c.args.token.now) (start_of opening) c.loop-action.action-index
+          c.args.actions.now c.action-item.result (nothing_done (start_of opening)) c.loop-action-test.true
           c.action-item.is done;
       placed = placed_at opening now _ done c.requires.segment.placed;
       ready = c.do_action.ensures.ready;

@@ -10,6 +10,6 @@ returns-clause-asks c =
     let are = c.values_of-values.ensures
     ∙ ap (λ (args : List ℤ). map (operand_value c.args.cells.now args) c.args.operands.now) c.args-2.ensures in
     subst (λ (values : List ℤ). AsksReply (long_reply c.args.aim.handler values c.args.aim.offset c.args.payload.now)
-    c.args.desk.now c.reply_long.new.self) are
-    (reply_asked c.args.desk.now c.reply_long.new.self _ c.reply_long.result c.reply_long.ensures.answer
+    c.args.token.now c.reply_long.new.self) are
+    (reply_asked c.args.token.now c.reply_long.new.self _ c.reply_long.result c.reply_long.ensures.answer
     c.reply_long.ensures.answered c.reply_long.ensures.spelled)

@@ -9,7 +9,7 @@ pub returns-clause-asks : goal.returns-clause-asks
 returns-clause-asks c =
     let are = c.values_of-values.ensures
     ∙ ap (λ (args : List ℤ). map (operand_value c.args.cells.now args) c.args.operands.now) c.args-2.ensures in
-    subst (λ (values : List ℤ). AsksReply (short_reply c.args.handler values) c.args.desk.now c.reply_short.new.self)
+    subst (λ (values : List ℤ). AsksReply (short_reply c.args.handler values) c.args.token.now c.reply_short.new.self)
     are
-    (reply_asked c.args.desk.now c.reply_short.new.self _ c.reply_short.result c.reply_short.ensures.answer
+    (reply_asked c.args.token.now c.reply_short.new.self _ c.reply_short.result c.reply_short.ensures.answer
     c.reply_short.ensures.answered c.reply_short.ensures.spelled)

@@ -6,7 +6,7 @@ pub returns-in_default : goal.returns-in_default
 returns-in_default c =
     rw (
       read_events c.args.scope.now c.args.bytes.now,
-      sym c.at_front.ensures.form,
+      sym c.at_prefix.ensures.form,
       c.in_default.is,
     ) refl
 
@@ -14,7 +14,7 @@ pub returns : goal.returns
 returns c =
     rw (
       read_events c.args.scope.now c.args.bytes.now,
-      sym c.at_front.ensures.form,
+      sym c.at_prefix.ensures.form,
       c.in-Some.is,
       sym c.in-Some.ensures.rest,
     ) c.words_at.ensures

@@ -1,7 +1,7 @@
 use Rattle.std.proofs.Common.{◌≡◌, Bor, List, Option, refl, ap}
 use Rattle.wire_message.specs.Parameters.{Parameters}
 use Rattle.part_handlers.specs.declared.table.Entry.{Entry}
-use Rattle.part_handlers.specs.Desks.{arrival_of}
+use Rattle.part_handlers.specs.Tokens.{arrival_of}
 use Rattle.node_core.specs.HandlerContextRuns.{context_run}
 use Rattle.node_core.proofs.OwnRuns.{can_run_own, replied_ran, unreplied_ran}
 use Rattle.node_core.proofs.context.HandlerContext.run_own.Goals as goal

@@ -1,7 +1,7 @@
 use Rattle.std.proofs.Common.{◌≡◌, ◌≤◌, ◌∙◌, ◌+◌, ap₂, subst, sym, ℕ}
 use Rattle.spec_node.specs.Credits.{greatest_holding}
 use Rattle.spec_node.specs.Record.{Node}
-use Rattle.spec_node.specs.Held.{held}
+use Rattle.spec_node.specs.Held.{held_buffers}
 use Rattle.node_core.specs.Kept.{Local}
 use Rattle.node_core.specs.CoreState.{CoreState}
 use Rattle.node_core.specs.Stands.{CoreStands}
@@ -13,7 +13,7 @@ pub returns : goal.returns
 returns c =
     let is =
     subst (λ (e : CoreState). (node : Node Local) → CoreStands e node
-    → c.held.result + c.held-2.result ≡ held e.settings e.me node) c.self.view_is
+    → c.held.result + c.held-2.result ≡ held_buffers e.settings e.me node) c.self.view_is
     (λ node stands. ap₂ (λ (m n : ℕ). m + n) c.held.ensures.count c.held-2.ensures.count
     ∙ held_is _ node stands c.self.invariant.0)
     in

@@ -4,7 +4,7 @@ use Rattle.node_core.proofs.node.Core.lock.Goals as goal
 
 pub returns-in-Refused-clause-steps : goal.returns-in-Refused-clause-steps
 returns-in-Refused-clause-steps c = λ meaning now.
-    lock_step meaning c.args.self.now now c.args.thread c.args.lock _ c.note.new.self (search rules) (search rules)
+    lock_step meaning c.args.self.now now c.args.thread c.args.lock _ c.log_violation.new.self (search rules) (search rules)
 
 pub returns-in_default : goal.returns-in_default
 returns-in_default c = record {

@@ -6,7 +6,7 @@ use Rattle.node_core.specs.AskedFor.{asking_of}
 use Rattle.node_core.specs.ClientRules.{IsFine, busy_lock, said_in}
 use Rattle.node_core.specs.CoreState.{CoreState}
 use Rattle.node_core.specs.CoreStep.{with_own_run}
-use Rattle.node_core.specs.HandlerContextRuns.{HandlerContextRun, RunsOwn, Touched}
+use Rattle.node_core.specs.HandlerContextRuns.{HandlerContextRun, RunsOwn, HandlerState}
 use Rattle.node_core.proofs.OwnRuns.{asked_inside, fine_client, own_found, own_run_is, with_touched}
 use Rattle.node_core.proofs.OwnBuffers.{sole_written}
 use Rattle.node_core.proofs.node.Core.run_here.Goals as goal

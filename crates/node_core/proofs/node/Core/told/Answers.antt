@@ -12,9 +12,9 @@ returns c =
     let content = content_of (viewed_message c.args.message.now) in
     let settings = c.self.inside.settings in
     let found = c.in-Some.ensures.found in
-    subst (λ (core : CoreState). delivered.Noted c.args.at c.in-Some.note ≡ run_answer core.settings.version content
+    subst (λ (core : CoreState). delivered.Notified c.args.at c.in-Some.notification ≡ run_answer core.settings.version content
     c.args.at)
     c.self.view_is
-    (noted_answer settings content c.args.at c.in-Some.note c.nodes-nodes.ensures.range c.if-message-ne-NOTE.false
+    (noted_answer settings content c.args.at c.in-Some.notification c.nodes-nodes.ensures.range c.if-message-ne-NOTE.false
     (rw c.nodes-nodes.ensures.nodes at found.0)
     (sym c.arguments-count.ensures.args ∙ rw c.version-version.ensures.version at found.1))

@@ -7,7 +7,7 @@ use Rattle.node_core.proofs.node.Core.unlock.Goals as goal
 
 pub returns-in-Refused-clause-steps : goal.returns-in-Refused-clause-steps
 returns-in-Refused-clause-steps c = λ meaning now.
-    unlock_step meaning c.args.self.now now c.args.thread c.args.lock _ c.note.new.self (search rules) (search rules)
+    unlock_step meaning c.args.self.now now c.args.thread c.args.lock _ c.log_violation.new.self (search rules) (search rules)
 
 pub returns-in_default-clause-steps : goal.returns-in_default-clause-steps
 returns-in_default-clause-steps c = λ meaning now.

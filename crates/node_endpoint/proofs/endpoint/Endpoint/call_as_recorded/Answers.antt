@@ -2,7 +2,7 @@ use Rattle.std.proofs.Common.{sym, subst}
 use Rattle.spec_node.specs.NodeStep.{Asks}
 use Rattle.node_core.specs.AskedFor.{ask_of}
 use Rattle.node_rules.specs.EndpointRules.{RecordEvent, transition, asked_answer}
-use Rattle.node_rules.specs.Called.{called}
+use Rattle.node_rules.specs.Called.{event_of_call}
 use Rattle.node_rules.specs.declared.answer.Answer.{Answer}
 use Rattle.node_endpoint.specs.EndpointState.{EndpointState, NodeSteps}
 use Rattle.node_endpoint.specs.Parts.{endpoint_of}
@@ -39,7 +39,7 @@ returns-in-Some g c =
     let steps = subst (λ (a : Answer). NodeSteps meaning (endpoint_of core extended)
     (transition c.args.now (Asks (ask_of asking)) a) new) (sym c.of_request.ensures) N in
     subst (λ (e : EndpointState). NodeSteps meaning e
-    (transition c.args.now (called c.args.thread c.args.call.now) c.of_request.result) new) c.self.view_is
+    (transition c.args.now (event_of_call c.args.thread c.args.call.now) c.of_request.result) new) c.self.view_is
     (subst (λ (event : RecordEvent). NodeSteps meaning (endpoint_of core extended)
     (transition c.args.now event c.of_request.result) new)
     (sym (asked_event c.args.call.now c.args.thread asking c.in-Some.ensures)) steps)

@@ -16,8 +16,8 @@ unreachable-requires c =
     c.ask.ensures)
     (λ other slot number e. c.in_default.not-Accepted other slot number e)
 
-pub note-requires-clause-slot_in : goal.note-requires-clause-slot_in
-note-requires-clause-slot_in c =
+pub notification-requires-clause-slot_in : goal.notification-requires-clause-slot_in
+notification-requires-clause-slot_in c =
     slot_within c.args.core.now c.ask.new.self c.args.self.now c.args.now (target c.args.next.now.transfer)
     c.in-Accepted.slot c.in-Accepted.number (chunk_work c.args.next.now) c.requires.whole c.requires.can
     (accepted_own c.args.core.now c.ask.new.self c.args.self.now c.args.now (target c.args.next.now.transfer)
@@ -31,14 +31,14 @@ returns c =
     let to = target c.args.next.now.transfer in
     subst (λ (t : Ticked). PartSends (record { core = c.args.core.now; extended = c.args.self.now })
     (record { now = c.args.now; to = to; work = chunk_work c.args.next.now }) t
-    (record { core = c.ask.new.self; extended = record c.args.self.now { transfers = c.note.new.self } }))
+    (record { core = c.ask.new.self; extended = record c.args.self.now { transfers = c.mark_sent.new.self } }))
     (ap (λ at. ticked.Chunk at)
     (sym (c.request_slot.ensures ∙ ap (λ t. request_slot t c.in-Accepted.slot) c.target-to.ensures)))
-    (chunk_sends c.args.core.now c.ask.new.self c.args.self.now c.note.new.self c.args.now c.in-Accepted.slot
+    (chunk_sends c.args.core.now c.ask.new.self c.args.self.now c.mark_sent.new.self c.args.now c.in-Accepted.slot
     c.in-Accepted.number c.args.next.now c.requires.can c.requires.next
     (accepted_own c.args.core.now c.ask.new.self c.args.self.now c.args.now to (chunk_work c.args.next.now)
     c.ask.result c.in-Accepted.to c.in-Accepted.slot c.in-Accepted.number c.requires.whole c.requires.can
     c.in-Accepted.is
     (asked_of c.args.core.now c.ask.new.self c.args.now _ _ _ _ c.ask.result c.target-to.ensures c.chunk_work.ensures
     c.ask.ensures))
-    c.note.ensures.stands c.note.ensures.room)
+    c.mark_sent.ensures.stands c.mark_sent.ensures.room)

@@ -1,14 +1,14 @@
 use Rattle.std.proofs.Common.{◌<◌, ◌+◌, Some, None, refl, sym, ap, ◌∙◌, arith, set, subst}
 use Rattle.std.specs.List.{slice_get}
 use Rattle.part_transfers.specs.Queue.{Changes}
-use Rattle.part_transfers.specs.Table.{taken, waits_by, stands_by}
+use Rattle.part_transfers.specs.Table.{taken_count, waits_by, stands_by}
 use Rattle.part_transfers.proofs.Places.{place_at, places_set, places_full, listed_here, region_one, few, indexed_set}
 use Rattle.part_transfers.proofs.table.Table.insert.Goals as goal
 use Rattle.part_transfers.proofs.table.Table.insert.Goals.{After-waits_by}
 
 pub returns-then-len-capacity-clause-full : goal.returns-then-len-capacity-clause-full
 returns-then-len-capacity-clause-full c = (
-  ap taken (sym c.self.view_is)
+  ap taken_count (sym c.self.view_is)
       ∙ places_full c.self.inside.records (sym c.len.ensures ∙ c.if-len-capacity.true ∙ c.capacity.ensures.value)
       (omega (arith, c.capacity.ensures.slots, c.capacity.ensures.value))
       ∙ c.self.invariant.room,

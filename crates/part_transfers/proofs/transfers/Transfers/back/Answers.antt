@@ -1,7 +1,7 @@
 use Rattle.std.proofs.Common.{◌+◌, Some, set, sym, ap, ◌∙◌, subst, arith}
 use Rattle.part_transfers.specs.Operation.{has_out, come_back}
 use Rattle.part_transfers.specs.Stands.{Stands}
-use Rattle.part_transfers.proofs.Backs.{not_out, other_out, this_out, stands_unless, place_within, unreturned}
+use Rattle.part_transfers.proofs.Backs.{not_out, other_out, this_out, stands_unless, place_within, outstanding}
 use Rattle.part_transfers.proofs.Changed.{stands_returned}
 use Rattle.part_transfers.proofs.transfers.Transfers.back.Goals as goal
 
@@ -32,7 +32,7 @@ at-requires-2 c =
 
 pub overflow_add-operation : goal.overflow_add-operation
 overflow_add-operation c =
-    let less = unreturned c.args.self.now c.requires.0 c.args.to c.args.slot c.in-Some.waiting c.in-Some-at.operation
+    let less = outstanding c.args.self.now c.requires.0 c.args.to c.args.slot c.in-Some.waiting c.in-Some-at.operation
     c.requires.1 (sym c.at.ensures ∙ c.in-Some.is) c.in-Some-at.ensures in
     omega (arith, less)
 

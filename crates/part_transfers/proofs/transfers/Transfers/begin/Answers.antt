@@ -1,7 +1,7 @@
 use Rattle.std.proofs.Common.{◌≡◌, ◌+◌, Some, Ok, set, refl, sym, ap, ◌∙◌, subst, arith}
 use Rattle.part_transfers.specs.declared.table.OperationRecord.{OperationRecord}
 use Rattle.part_transfers.specs.Operation.{after_begin, fresh}
-use Rattle.part_transfers.specs.Stands.{Stands, kept}
+use Rattle.part_transfers.specs.Stands.{Stands, record_of}
 use Rattle.part_transfers.proofs.Began.{taken_less, not_full, stands_begun}
 use Rattle.part_transfers.proofs.transfers.Transfers.begin.Goals as goal
 
@@ -28,7 +28,7 @@ returns-clause-stands c operations S =
       region = c.region_of.result;
       issued = 0;
       returned = 0;
-    } ≡ kept (c.args.self.now.given + 1) (fresh c.args.thread c.args.transfer c.args.mode (c.args.self.now.given + 1))
+    } ≡ record_of (c.args.self.now.given + 1) (fresh c.args.thread c.args.transfer c.args.mode (c.args.self.now.given + 1))
     = rw (c.is_implicit.ensures, c.region_of.ensures, is) refl in
     subst (λ t. Stands (record c.args.self.now {
       given = c.in-Some.number;
@@ -39,7 +39,7 @@ returns-clause-stands c operations S =
     (subst (λ n. Stands (record c.args.self.now {
       given = n;
       table = set c.args.self.now.table c.in-Some-insert._place
-          (Some (kept (c.args.self.now.given + 1)
+          (Some (record_of (c.args.self.now.given + 1)
           (fresh c.args.thread c.args.transfer c.args.mode (c.args.self.now.given + 1))));
     }) (after_begin c.args.thread c.args.transfer c.args.mode operations)) (sym is)
     (stands_begun c.args.self.now operations c.in-Some-insert._place c.args.thread c.args.transfer c.args.mode S

@@ -2,7 +2,7 @@ use Rattle.std.proofs.Common.{true≢false, sym, ap, ◌∙◌, arith, inl, inr}
 use Rattle.std.proofs.lemmas.Bool.{cases_eq}
 use Rattle.part_transfers.specs.Syncs.{flag_at}
 use Rattle.part_transfers.specs.declared.table.Check.TheVariants.{UnissuedTo}
-use Rattle.part_transfers.specs.Table.{has_passing, picked}
+use Rattle.part_transfers.specs.Table.{has_passing, fits_pick}
 use Rattle.part_transfers.proofs.Marks.{flag_within}
 use Rattle.part_transfers.proofs.transfers.Transfers.first_exhausted_of.Goals as goal
 use Rattle.part_transfers.proofs.transfers.Transfers.first_exhausted_of.Goals.{else-flag_at-via-then-flag_at+else-any_passes}
@@ -19,7 +19,7 @@ pub loop-node-preserved : goal.loop-node-preserved
 loop-node-preserved c other less is = elim (cases_eq other c.loop-node.node) [
   | inl same ↦ elim c.else-flag_at.branch [
     | else-flag_at-via-then-flag_at+else-any_passes w ↦ ap
-        (λ node. has_passing (picked c.args.pick) (UnissuedTo node) c.args.self.now.table) same
+        (λ node. has_passing (fits_pick c.args.pick) (UnissuedTo node) c.args.self.now.table) same
         ∙ (sym (w.any_passes.ensures) ∙ w.if-any_passes.false)
     | else-flag_at-via-else-flag_at w ↦
         absurd (true≢false

@@ -1,7 +1,7 @@
 use Rattle.std.proofs.Common.{not, sym, ap, ◌∙◌, refl, Some, ne_eqb}
 use Rattle.std.proofs.lemmas.Bool.{not-true, not-false}
 use Rattle.part_transfers.specs.Syncs.{chosen, members, is_empty}
-use Rattle.part_transfers.specs.Table.{picked}
+use Rattle.part_transfers.specs.Table.{fits_pick}
 use Rattle.part_transfers.specs.Stands.{member_in}
 use Rattle.part_transfers.proofs.Members.{members_agree, agrees_by, any_there, unissued_is}
 use Rattle.part_transfers.proofs.transfers.Transfers.issued.Goals as goal
@@ -10,7 +10,7 @@ pub returns-then-not-any_passes : goal.returns-then-not-any_passes
 returns-then-not-any_passes c operations S =
     let table = c.args.self.now.table in
     let handle = c.args.handle.serial in
-    let test = picked c.members-pick.result in
+    let test = fits_pick c.members-pick.result in
     let A = agrees_by (members handle operations) (member_in table handle) test c.members-pick.ensures
     (members_agree table operations handle S.keeps) in
     let there = any_there table operations (members handle operations) test S.keeps A in
@@ -24,7 +24,7 @@ pub returns : goal.returns
 returns c operations S =
     let table = c.args.self.now.table in
     let handle = c.args.handle.serial in
-    let test = picked c.members-pick.result in
+    let test = fits_pick c.members-pick.result in
     let A = agrees_by (members handle operations) (member_in table handle) test c.members-pick.ensures
     (members_agree table operations handle S.keeps) in
     let there = any_there table operations (members handle operations) test S.keeps A in

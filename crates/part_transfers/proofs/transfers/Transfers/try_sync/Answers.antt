@@ -1,7 +1,7 @@
 use Rattle.std.proofs.Common.{sym, ap, ◌∙◌, ne_eqb}
 use Rattle.part_transfers.specs.Syncs.{members, flag_at, sync_answer, chosen, unless_fault}
 use Rattle.part_transfers.specs.Stands.{member_in}
-use Rattle.part_transfers.specs.Table.{picked}
+use Rattle.part_transfers.specs.Table.{fits_pick}
 use Rattle.part_transfers.proofs.Members.{members_agree, agrees_by, settled_answer, settled_complete}
 use Rattle.part_transfers.proofs.Gone.{stands_gone}
 use Rattle.part_transfers.proofs.Lists.{here_stays}
@@ -11,7 +11,7 @@ pub returns-then-is_settled-clause-answer : goal.returns-then-is_settled-clause-
 returns-then-is_settled-clause-answer c operations S =
     let table = c.args.self.now.table in
     let handle = c.args.handle.serial in
-    let test = picked c.members-pick.result in
+    let test = fits_pick c.members-pick.result in
     let A = agrees_by (members handle operations) (member_in table handle) test c.members-pick.ensures
     (members_agree table operations handle S.keeps) in
     rw (ne_eqb handle 0 c.if-handle-eq0.false)
@@ -22,7 +22,7 @@ pub returns-then-is_settled-clause-stands : goal.returns-then-is_settled-clause-
 returns-then-is_settled-clause-stands c operations S =
     let table = c.args.self.now.table in
     let handle = c.args.handle.serial in
-    let test = picked c.members-pick.result in
+    let test = fits_pick c.members-pick.result in
     let A = agrees_by (members handle operations) (member_in table handle) test c.members-pick.ensures
     (members_agree table operations handle S.keeps) in
     rw (ne_eqb handle 0 c.if-handle-eq0.false)
@@ -35,7 +35,7 @@ pub returns-in-Some-clause-answer : goal.returns-in-Some-clause-answer
 returns-in-Some-clause-answer c operations S =
     let table = c.args.self.now.table in
     let handle = c.args.handle.serial in
-    let A = agrees_by (members handle operations) (member_in table handle) (picked c.members-pick.result)
+    let A = agrees_by (members handle operations) (member_in table handle) (fits_pick c.members-pick.result)
     c.members-pick.ensures (members_agree table operations handle S.keeps) in
     rw (ne_eqb handle 0 c.if-handle-eq0.false)
     (ap (λ found. unless_fault found
@@ -46,7 +46,7 @@ pub returns-in-Some-clause-stands : goal.returns-in-Some-clause-stands
 returns-in-Some-clause-stands c operations S =
     let table = c.args.self.now.table in
     let handle = c.args.handle.serial in
-    let A = agrees_by (members handle operations) (member_in table handle) (picked c.members-pick.result)
+    let A = agrees_by (members handle operations) (member_in table handle) (fits_pick c.members-pick.result)
     c.members-pick.ensures (members_agree table operations handle S.keeps) in
     rw (ne_eqb handle 0 c.if-handle-eq0.false)
     (here_stays c.args.self.now operations c.args.thread (chosen (members handle operations) 1 operations)
@@ -57,7 +57,7 @@ pub returns-in-None-clause-answer : goal.returns-in-None-clause-answer
 returns-in-None-clause-answer c operations S =
     let table = c.args.self.now.table in
     let handle = c.args.handle.serial in
-    let A = agrees_by (members handle operations) (member_in table handle) (picked c.members-pick.result)
+    let A = agrees_by (members handle operations) (member_in table handle) (fits_pick c.members-pick.result)
     c.members-pick.ensures (members_agree table operations handle S.keeps) in
     rw (ne_eqb handle 0 c.if-handle-eq0.false)
     (c.sync_picked.ensures.answer operations S (members handle operations) A
@@ -69,7 +69,7 @@ pub returns-in-None-clause-stands : goal.returns-in-None-clause-stands
 returns-in-None-clause-stands c operations S =
     let table = c.args.self.now.table in
     let handle = c.args.handle.serial in
-    let A = agrees_by (members handle operations) (member_in table handle) (picked c.members-pick.result)
+    let A = agrees_by (members handle operations) (member_in table handle) (fits_pick c.members-pick.result)
     c.members-pick.ensures (members_agree table operations handle S.keeps) in
     rw (ne_eqb handle 0 c.if-handle-eq0.false)
     (c.sync_picked.ensures.stands operations S (members handle operations) A)

@@ -1,7 +1,7 @@
 use Rattle.std.proofs.Common.{ap, sym, ◌∙◌}
 use Rattle.std.specs.Prelude.{option_and_then}
 use Rattle.part_window.specs.SlotsState.{SlotsState}
-use Rattle.part_window.specs.SlotsState.{message_of, sealed_message_at}
+use Rattle.part_window.specs.SlotsState.{message_of, committed_message_at}
 use Rattle.part_window.proofs.CreditsViewed.{slot-is}
 use Rattle.part_window.proofs.CreditsViewed.{in-range}
 use Rattle.part_window.proofs.credits.CreditSlots.bytes.Goals as goal
@@ -20,4 +20,4 @@ returns c =
     let inside = in-range to slot c.self.invariant c.self.view_is c.requires in
     c.message.ensures
     ∙ (ap (option_and_then message_of) (sym (slot-is fields.last given table to slot c.self.invariant.nodes inside))
-    ∙ ap (λ (u : SlotsState). sealed_message_at u to slot) c.self.view_is)
+    ∙ ap (λ (u : SlotsState). committed_message_at u to slot) c.self.view_is)

@@ -3,10 +3,10 @@ use Rattle.std.proofs.Common.{length, ap, sym, ◌∙◌, subst, refl, arith, le
 use Rattle.std.specs.Prelude.{slice_get, slice_set}
 use Rattle.base_lists.specs.Cut.{total_of}
 use Rattle.part_window.specs.TableState.{TableState, slot_in, place_of, with_change}
-use Rattle.part_window.specs.SlotsState.{Sealed, SlotsState}
+use Rattle.part_window.specs.SlotsState.{Committed, SlotsState}
 use Rattle.part_window.specs.SlotsState.{slot_count}
 use Rattle.part_window.specs.SlotsState.{with_slot_changed}
-use Rattle.part_window.specs.SlotsState.{sent_again}
+use Rattle.part_window.specs.SlotsState.{as_retransmitted}
 use Rattle.part_window.specs.declared.order.Due.{Due}
 use Rattle.part_window.specs.CreditViews.{credits_view, IsCredits}
 use Rattle.part_window.proofs.CreditsViewed.{count-is, changed-is}
@@ -68,7 +68,7 @@ invariant_of-self c =
     let place = c.in-Some.place in
     let first = c.in-Some.ensures in
     let written = listed-slot given table fields.order place due c.self.invariant first.listed first.inside in
-    let at : slot_in table due.node due.slot ≡ Some (Sealed written.0 due.time written.1) =
+    let at : slot_in table due.node due.slot ≡ Some (Committed written.0 due.time written.1) =
     ap (slice_get table.slots) written.4 ∙ written.2 in
     let q : ℕ = place_of table due.node due.slot in
     let new : Due = record { time = c.args.now; node = due.node; slot = due.slot } in
@@ -79,10 +79,10 @@ invariant_of-self c =
     ∙ ap (λ (number : ℕ). slice_set fields.order number (Some new)) (sym written.4))) in
     let within : q < length fields.order = omega (arith, written.4, first.inside) in
     subst (λ (u : TableState). IsCredits given u c.insert.new.self) (sym c.send_again.ensures)
-    (subst (λ (o : List (Option Due)). IsCredits given (with_change table due.node due.slot (sent_again c.args.now)) o)
+    (subst (λ (o : List (Option Due)). IsCredits given (with_change table due.node due.slot (as_retransmitted c.args.now)) o)
     (sym order)
-    (credits-after given (slice_set fields.order q (Some new)) due.node due.slot (Sealed written.0 due.time written.1)
-    (sent_again c.args.now) c.self.invariant refl at (length-set fields.order q (Some new))
+    (credits-after given (slice_set fields.order q (Some new)) due.node due.slot (Committed written.0 due.time written.1)
+    (as_retransmitted c.args.now) c.self.invariant refl at (length-set fields.order q (Some new))
     (λ number ne. get-set_other fields.order q (Some new) number ne)
     (new, get-set_same fields.order q (Some new) within, refl, written.3, refl)))
 
@@ -104,9 +104,9 @@ returns-clause-in_range c =
     let due = c.in-Some.due in
     let first = c.in-Some.ensures in
     let written = listed-slot given table fields.order c.in-Some.place due kept first.listed first.inside in
-    let new : TableState = with_change table due.node due.slot (sent_again c.args.now) in
+    let new : TableState = with_change table due.node due.slot (as_retransmitted c.args.now) in
     let long : total_of table.counts ≡ length new.slots =
-    kept.whole ∙ sym (length-update table.slots (place_of table due.node due.slot) (sent_again c.args.now)) in
+    kept.whole ∙ sym (length-update table.slots (place_of table due.node due.slot) (as_retransmitted c.args.now)) in
     subst (λ (u : TableState). due.slot < slot_count (credits_view fields.last given u) due.node)
     (sym c.send_again.ensures) (omega (arith, written.3, count-is fields.last given new due.node kept.nodes long))
 
@@ -119,5 +119,5 @@ returns-clause-sent c =
     let first = c.in-Some.ensures in
     let written = listed-slot given table fields.order c.in-Some.place due c.self.invariant first.listed first.inside in
     ap (credits_view fields.last given) c.send_again.ensures
-    ∙ (changed-is fields.last given table due.node due.slot (sent_again c.args.now) written.3
-    ∙ ap (λ (u : SlotsState). with_slot_changed u due.node due.slot (sent_again c.args.now)) c.self.view_is)
+    ∙ (changed-is fields.last given table due.node due.slot (as_retransmitted c.args.now) written.3
+    ∙ ap (λ (u : SlotsState). with_slot_changed u due.node due.slot (as_retransmitted c.args.now)) c.self.view_is)

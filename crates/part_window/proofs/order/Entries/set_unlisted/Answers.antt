@@ -1,6 +1,6 @@
 use Rattle.std.proofs.Common.{false, ◌≢◌, ◌≤◌, [], ◌∷◌, List, length, ap, inr, arith, length-append}
 use Rattle.part_window.specs.declared.order.DueEntry.{DueEntry}
-use Rattle.part_window.specs.PaddedLists.{padded}
+use Rattle.part_window.specs.PaddedLists.{with_padding}
 use Rattle.part_window.specs.Order.{blank_entry}
 use Rattle.part_window.proofs.Blanks.{length-padded}
 use Rattle.part_window.proofs.Entries.{entry-changed}
@@ -16,7 +16,7 @@ returns c =
     λ same. c.requires.no_head (omega (
       arith,
       same,
-      length-append (padded written blank_entry places) (head ∷ []),
+      length-append (with_padding written blank_entry places) (head ∷ []),
       length-padded written blank_entry places inside,
       ap (λ (list : List DueEntry). length list) c.self.view_is,
     )) in

@@ -2,7 +2,7 @@ use Rattle.std.proofs.Common.{List, ap, sym}
 use Rattle.std.proofs.Common.{◌∙◌, subst}
 use Rattle.part_window.specs.declared.table.Contents.{Contents}
 use Rattle.part_window.specs.declared.table.Contents.TheVariants.{Message}
-use Rattle.part_window.specs.TableState.{sent_again}
+use Rattle.part_window.specs.TableState.{as_retransmitted}
 use Rattle.part_window.specs.TableViews.{slot_view, FitsBuffer, IsBuffered}
 use Rattle.part_window.proofs.TableViewed.{here, view-changed, change-is, change-none, buffered-after}
 use Rattle.part_window.proofs.TableViewed.{not-message}
@@ -32,8 +32,8 @@ returns-in-Message c =
     c.put.ensures.changed in
     changed
     ∙ change-is c.args.self.now c.args.to c.args.slot (slot_view c.get.result found.buffer) _
-    (sent_again c.args.now) found.is
-    (ap (λ (x : Contents). sent_again c.args.now (slot_view x found.buffer)) c.in-Message.is)
+    (as_retransmitted c.args.now) found.is
+    (ap (λ (x : Contents). as_retransmitted c.args.now (slot_view x found.buffer)) c.in-Message.is)
 
 pub returns-in_default : goal.returns-in_default
 returns-in_default c =
@@ -41,5 +41,5 @@ returns-in_default c =
     here c.args.to c.args.slot c.place_in-place.result c.self.invariant.0 c.self.invariant.1 c.self.view_is c.requires
     c.place_in-place.ensures.place c.get.ensures in
     change-none c.args.self.now c.args.to c.args.slot (slot_view c.get.result found.buffer)
-    (sent_again c.args.now) found.is
+    (as_retransmitted c.args.now) found.is
     (not-message c.get.result found.buffer c.args.now c.in_default.not-Message).1

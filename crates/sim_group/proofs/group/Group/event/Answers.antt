@@ -1,7 +1,7 @@
 use Rattle.std.proofs.Common.{refl, sym, ap, subst, ◌∙◌}
 use Rattle.wire_message.specs.Parameters.{Parameters}
 use Rattle.part_handlers.specs.Runs.{Meaning}
-use Rattle.node_rules.specs.EndpointRules.{timed, transition}
+use Rattle.node_rules.specs.EndpointRules.{timed_event, transition}
 use Rattle.spec_network.specs.World.{IsAmong}
 use Rattle.sim_world.specs.Aims.{MayFall}
 use Rattle.sim_world.specs.Events.{StepsInWorld, event_of}
@@ -46,7 +46,7 @@ returns-clause-history g c =
     let meaning : Meaning = g.H.Handlers.meaning c.args.handlers.now in
     let old : GroupState = record { world = c.self.inside.nodes.world; nodes = c.self.inside.nodes.collectives.items } in
     let new : GroupState = record { world = c.step.new.self; nodes = c.self.inside.nodes.collectives.items } in
-    subst (λ (one : GroupState). GrowsBeside meaning one (timed c.args.now (event_of c.args.event.now)) c.step.result
+    subst (λ (one : GroupState). GrowsBeside meaning one (timed_event c.args.now (event_of c.args.event.now)) c.step.result
     new) c.self.view_is
-    (beside_grows meaning old new (timed c.args.now (event_of c.args.event.now)) c.step.result
+    (beside_grows meaning old new (timed_event c.args.now (event_of c.args.event.now)) c.step.result
     (record { settings = c.step.ensures.settings; table = c.step.ensures.table }) refl c.step.ensures.steps)

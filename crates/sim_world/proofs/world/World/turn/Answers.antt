@@ -1,8 +1,8 @@
 use Rattle.std.proofs.Common.{◌≡◌, ℕ, ◌+◌, ◌<◌, ◌≤◌, List, [], ◌∷◌, ◌++◌, length, refl, ◌∙◌, subst}
 use Rattle.part_handlers.specs.Runs.{Meaning}
 use Rattle.spec_network.specs.Plain.{plain_of}
-use Rattle.spec_network.specs.World.{RequestComes, ReplyComes, Timed}
-use Rattle.node_rules.specs.EndpointRules.{OtherCall, Records, timed}
+use Rattle.spec_network.specs.World.{RequestComes, ReplyComes, EventAt}
+use Rattle.node_rules.specs.EndpointRules.{OtherCall, Records, timed_event}
 use Rattle.sim_world.specs.Events.{job_in}
 use Rattle.sim_world.specs.Settling.{Moves}
 use Rattle.sim_world.specs.WorldState.{WorldState}
@@ -62,10 +62,10 @@ loop-place-preserved g c =
     let mid = c.happens.new.self in
     let last = c.happens-in-loop-place.new.self in
     let number = c.loop-place.place + 1 in
-    let request : Records → List (Timed OtherCall) =
-    λ world. timed c.args.now (RequestComes c.args.from c.args.to number) ∷ [] in
-    let reply : Records → List (Timed OtherCall) =
-    λ world. timed c.args.now (ReplyComes c.args.from c.args.to number) ∷ [] in
+    let request : Records → List (EventAt OtherCall) =
+    λ world. timed_event c.args.now (RequestComes c.args.from c.args.to number) ∷ [] in
+    let reply : Records → List (EventAt OtherCall) =
+    λ world. timed_event c.args.now (ReplyComes c.args.from c.args.to number) ∷ [] in
     let second = same_job (λ j. Moves j reply mid last) meaning first mid c.happens.ensures.settings
     c.happens.ensures.table c.in_ok-happens-2.ensures.moves in
     let both = moves_then (job_in meaning first) request reply first mid last c.in_ok-happens.ensures.moves second in

@@ -1,6 +1,6 @@
 use Rattle.std.proofs.Common.{subst, List}
 use Rattle.text_job.specs.declared.job.HandlerText.{HandlerText}
-use Rattle.text_script.specs.Registration.{JobHandlers, registered}
+use Rattle.text_script.specs.Registration.{JobHandlers, registry_of}
 use Rattle.text_script.specs.Places.{ArePlaced}
 use Rattle.text_script.proofs.Placing.{bodies_placed}
 use Rattle.text_script.proofs.handlers.ScriptHandlers.new.Goals as goal
@@ -13,6 +13,6 @@ invariant_of-result c =
     rw c.in_ok-places.ensures.items
     (bodies_placed handlers c.register_all.new.table c.register_all.new.places
     (subst (λ (texts : List HandlerText).
-    ArePlaced texts (registered (record { atomics = services.atomics; collect = services.collect; texts = texts }))
+    ArePlaced texts (registry_of (record { atomics = services.atomics; collect = services.collect; texts = texts }))
     c.register_all.new.table c.register_all.new.places) c.texts-2.ensures
     c.register_all.ensures))
