@@ -90,7 +90,7 @@ int main(int argc, char **argv) {
     start(NULL, 0, 2 * MIB);
     gex_AD_Create(&domain, NULL, GEX_DT_U64, GEX_OP_FADD, 0);
     barrier();
-    barrier(); /* all have attached, so no note of this one came too early */
+    barrier(); /* all have attached, so no notification of this one came too early */
     if (me != 1)
         wait_for_flag();
     if (me == 1)

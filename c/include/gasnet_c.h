@@ -205,7 +205,7 @@ enum {
     GASNET_C_MISMATCH =
         11, /* the barrier is complete, and its notifies don't match; a collective is ended, and its shapes differ */
     GASNET_C_RAN = 12,      /* a request's handler ran (a client's, or a transfer's at its target); its reply is sent */
-    GASNET_C_NOTIFIED = 13, /* a note of the barrier came; its reply is sent */
+    GASNET_C_NOTIFIED = 13, /* a notification of the barrier came; its reply is sent */
     GASNET_C_DUPLICATE = 14, /* a request came again; its reply is sent again */
     GASNET_C_STALE = 15,
     GASNET_C_RETURNED = 16, /* a reply came: the credit of its request is back */
@@ -216,7 +216,7 @@ enum {
     GASNET_C_RETRANSMISSION = 21, /* a tick sends a request again */
     GASNET_C_FORBIDDEN = 22,
     GASNET_C_OTHER = 23,
-    GASNET_C_NOTIFICATION = 24, /* a tick sends a note of the barrier */
+    GASNET_C_NOTIFICATION = 24, /* a tick sends a notification of the barrier */
     GASNET_C_CHUNK = 25,        /* a tick sends the next chunk of the oldest transfer whose target has a credit */
     GASNET_C_DEAD = 99          /* the handle is dead */
 };
@@ -285,7 +285,7 @@ gasnet_c_told gasnet_c_begin(gasnet_c_node *node, uint64_t now, const gasnet_c_m
 gasnet_c_told gasnet_c_sync(gasnet_c_node *node, uint64_t now, uint64_t handle);
 
 /* Notifies the barrier: flags are 0 for a named one, 1 for an anonymous one, 2 for a mismatch, 3 for both. OK; BAD out
- * of turn, for other flags, and where the last phase was reached. Its notes are sent by ticks. */
+ * of turn, for other flags, and where the last phase was reached. Its notifications are sent by ticks. */
 gasnet_c_told gasnet_c_notify(gasnet_c_node *node, uint64_t now, int32_t id, uint8_t flags);
 
 /* Tries the barrier. OK, NOT_READY, MISMATCH, WORN_OUT; BAD out of turn. */

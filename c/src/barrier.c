@@ -16,8 +16,8 @@ void gasnet_barrier_notify(int id, int flags) {
     gasnet_c_told told = gasnet_c_notify(&job->node, job->progress.time, id, (uint8_t)flags);
     if (told.code != GASNET_C_OK)
         gasnetl_stop(GASNETL_MISUSE, "gasnet_barrier_notify: the node notified already, and didn't wait since");
-    job->progress.has_notes = job->nodes > 1;
-    if (job->progress.has_notes)
+    job->progress.has_notifications = job->nodes > 1;
+    if (job->progress.has_notifications)
         gasnetl_tick(job);
     gasnetl_leave(job);
 }

@@ -110,21 +110,21 @@ static void request_came_back(struct gasnetl_job *job, const gasnet_c_told *told
     gasnetl_chunk_back(job, told->to, told->slot);
     gasnetl_atomic_back(job, told->to, told->slot);
     gasnetl_pack_back(job, told->to, told->slot);
-    if (progress->has_notes)
+    if (progress->has_notifications)
         tick_once(job);
     feed(job, told->to);
 }
 
-/* Nothing is due. A note that is due had no credit, or there is none. */
+/* Nothing is due. A notification that is due had no credit, or there is none. */
 static void nothing_due(struct gasnetl_progress *progress) {
     if (progress->out < progress->credits)
-        progress->has_notes = false;
+        progress->has_notifications = false;
 }
 
 void gasnetl_told(struct gasnetl_job *job, const gasnet_c_told *told) {
     switch (told->code) {
     case GASNET_C_NOTIFIED:
-        job->progress.has_notes = true;
+        job->progress.has_notifications = true;
         send_told(job, told);
         break;
     case GASNET_C_RETRANSMISSION:
@@ -179,9 +179,9 @@ static void last_resort(struct gasnetl_job *job) {
     progress->next_tick = 0;
 }
 
-/* Sends the notes of the barrier that are due, and, where what came is taken, what is to go again. */
+/* Sends the notifications of the barrier that are due, and, where what came is taken, what is to go again. */
 static void send_due(struct gasnetl_job *job, bool may_look) {
-    if (job->progress.has_notes)
+    if (job->progress.has_notifications)
         gasnetl_tick(job);
     if (!may_look || !job->progress.out)
         return;

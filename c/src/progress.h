@@ -14,21 +14,21 @@ struct gasnetl_job;
 struct gasnetl_peer;
 
 struct gasnetl_progress {
-    uint64_t now;         /* the time of this round, in microseconds */
-    uint64_t elapsed;     /* the time in which this node looked for datagrams, in microseconds */
-    uint64_t time;        /* the endpoint's, in milliseconds: what of it elapsed */
-    uint64_t last_empty;  /* what had elapsed when nothing more had come */
-    uint64_t next_tick;   /* when a request is due that the endpoint sends again by itself, by its time; 0 where it
-                             has to be asked */
-    unsigned out;         /* the requests to all peers that aren't back */
-    uint64_t resent;      /* how often a request was sent again */
-    unsigned credits;     /* how many may be out to one peer */
-    bool has_notes;       /* a note of the barrier may be due */
-    unsigned since_poll;  /* requests since the last poll */
-    unsigned idle;        /* polls in which nothing came */
-    bool keeps;           /* no handler of the client's may run: what runs one is kept for the next poll */
-    atomic_int wait_mode; /* a client's thread sets it without a turn */
-    unsigned spin;        /* the empty looks of a call that waits, before it sleeps */
+    uint64_t now;           /* the time of this round, in microseconds */
+    uint64_t elapsed;       /* the time in which this node looked for datagrams, in microseconds */
+    uint64_t time;          /* the endpoint's, in milliseconds: what of it elapsed */
+    uint64_t last_empty;    /* what had elapsed when nothing more had come */
+    uint64_t next_tick;     /* when a request is due that the endpoint sends again by itself, by its time; 0 where it
+                               has to be asked */
+    unsigned out;           /* the requests to all peers that aren't back */
+    uint64_t resent;        /* how often a request was sent again */
+    unsigned credits;       /* how many may be out to one peer */
+    bool has_notifications; /* a notification of the barrier may be due */
+    unsigned since_poll;    /* requests since the last poll */
+    unsigned idle;          /* polls in which nothing came */
+    bool keeps;             /* no handler of the client's may run: what runs one is kept for the next poll */
+    atomic_int wait_mode;   /* a client's thread sets it without a turn */
+    unsigned spin;          /* the empty looks of a call that waits, before it sleeps */
 };
 
 /* The time, in microseconds. */

@@ -69,7 +69,7 @@ static bool take_turn(struct gasnetl_job *job) {
 static uint64_t time_to_due(const struct gasnetl_job *job) {
     const struct gasnetl_progress *progress = &job->progress;
     uint64_t due = job->recovery.next_look;
-    if (progress->has_notes || job->collectives.first || job->transfers.asks_again != GASNETL_NONE)
+    if (progress->has_notifications || job->collectives.first || job->transfers.asks_again != GASNETL_NONE)
         return LEAST_NAP;
     if (!progress->out || due > progress->now + MOST_SLEEP)
         return MOST_SLEEP;

@@ -55,7 +55,7 @@ REQUEST = Machine(
             Step("call", "accepted", "a credit is free", "open"),
             Step("tick", "chunk", "of a transfer", "open"),
             Step("tick", "note", "of the barrier", "open"),
-            Step("call", "not-yet", "all credits of the pair are unreturned"),
+            Step("call", "not-yet", "all credits of the pair are outstanding"),
             Step("request", "unsent", "there is no such message"),
             Step("reply", "unsent", "there is no such message"),
         ]),

@@ -39,10 +39,10 @@ pub run_here : (job : EndpointJob) (node now : ℕ) (events : List RecordEvent) 
 run_here job node now [] [] world are = refl
 run_here job node now [] (event ∷ happened) world are = absurd are
 run_here job node now (event ∷ events) [] world are = absurd are
-run_here job node now (event ∷ events) (timed_event ∷ happened) world are =
-    run_here job node now events happened (world_after job world timed_event) are.2
+run_here job node now (event ∷ events) (timed ∷ happened) world are =
+    run_here job node now events happened (world_after job world timed) are.2
     ∙ ap (node_run job node now events)
-    (fallen_here job world node event timed_event are.1 ∙ ap (λ k. node_after job node (world node) k event) are.0)
+    (fallen_here job world node event timed are.1 ∙ ap (λ k. node_after job node (world node) k event) are.0)
 
 -- and another one
 pub run_other : (job : EndpointJob) (node now other : ℕ) (events : List RecordEvent)
@@ -51,9 +51,9 @@ pub run_other : (job : EndpointJob) (node now other : ℕ) (events : List Record
 run_other job node now other [] [] world apart are = refl
 run_other job node now other [] (event ∷ happened) world apart are = absurd are
 run_other job node now other (event ∷ events) [] world apart are = absurd are
-run_other job node now other (event ∷ events) (timed_event ∷ happened) world apart are =
-    run_other job node now other events happened (world_after job world timed_event) apart are.2
-    ∙ fallen_other job world node event timed_event are.1 other apart
+run_other job node now other (event ∷ events) (timed ∷ happened) world apart are =
+    run_other job node now other events happened (world_after job world timed) apart are.2
+    ∙ fallen_other job world node event timed are.1 other apart
 
 -- ---- an event of a turn
 
@@ -63,9 +63,9 @@ pub record HappensAt (job : EndpointJob) (world : Records) (node now : ℕ) (eve
   pub before : List (EventAt OtherCall)
   pub timed : EventAt OtherCall
   pub later : List (EventAt OtherCall)
-  pub happened_is : happened ≡ before ++ timed_event ∷ later
-  pub now_is : timed_event.now ≡ now
-  pub falls_so : falls job.settings (run job before world) timed_event.event ≡ Some (record { node = node; event = event })
+  pub happened_is : happened ≡ before ++ timed ∷ later
+  pub now_is : timed.now ≡ now
+  pub falls_so : falls job.settings (run job before world) timed.event ≡ Some (record { node = node; event = event })
   pub node_is : run job before world node ≡ node_run job node now first (world node)
 
 pub happens_at : (job : EndpointJob) (world : Records) (node now : ℕ) (first : List RecordEvent) (event : RecordEvent)
@@ -73,7 +73,7 @@ pub happens_at : (job : EndpointJob) (world : Records) (node now : ℕ) (first :
     → AreEvents job world node now (first ++ event ∷ rest) happened
     → HappensAt job world node now (first ++ event ∷ rest) happened first event
 happens_at job world node now [] event rest [] are = absurd are
-happens_at job world node now [] event rest (timed_event ∷ happened) are = record {
+happens_at job world node now [] event rest (timed ∷ happened) are = record {
   before = [];
   timed = timed_event;
   later = happened;
@@ -83,17 +83,17 @@ happens_at job world node now [] event rest (timed_event ∷ happened) are = rec
   node_is = refl;
 }
 happens_at job world node now (one ∷ first) event rest [] are = absurd are
-happens_at job world node now (one ∷ first) event rest (timed_event ∷ happened) are =
-    let it = happens_at job (world_after job world timed_event) node now first event rest happened are.2 in
+happens_at job world node now (one ∷ first) event rest (timed ∷ happened) are =
+    let it = happens_at job (world_after job world timed) node now first event rest happened are.2 in
     record {
-      before = timed_event ∷ it.before;
+      before = timed ∷ it.before;
       timed = it.timed;
       later = it.later;
-      happened_is = ap (λ (events : List (EventAt OtherCall)). timed_event ∷ events) it.happened_is;
+      happened_is = ap (λ (events : List (EventAt OtherCall)). timed ∷ events) it.happened_is;
       now_is = it.now_is;
       falls_so = it.falls_so;
       node_is = it.node_is ∙ ap (node_run job node now first)
-          (fallen_here job world node one timed_event are.1 ∙ ap (λ k. node_after job node (world node) k one) are.0);
+          (fallen_here job world node one timed are.1 ∙ ap (λ k. node_after job node (world node) k one) are.0);
     }
 
 -- ---- a call

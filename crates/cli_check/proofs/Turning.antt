@@ -176,7 +176,7 @@ no_more a b less = omega arith
 -- ---- a turn of a recorder
 
 -- what the turn of an entry does to it
-pub record Records (entry : Entry) (old new : RecorderKept) (turned : Turned) : Type 0 where
+pub record Records (entry : Entry) (old new : RecorderKept) (turn_result : Turned) : Type 0 where
   pub turns : Turns entry old.node new.node turn_result
   pub own : IsOfItsJob new.node
   pub rank_is : new.rank ≡ old.rank
@@ -204,7 +204,7 @@ own_held kept endpoint value same holds =
     subst (λ (one : EndpointState). ForItsRecord one (λ node. value ≡ held_buffers one.core.settings one.core.me node)) same
     holds
 
-module _ (entry : Entry) (old new : RecorderKept) (turned : Turned) (records : Records entry old new turn_result)
+module _ (entry : Entry) (old new : RecorderKept) (turn_result : Turned) (records : Records entry old new turn_result)
     (state : RecordedState) (stands : RecorderStands old state) where
   -- it is that of the state after the turn
   pub recorded : RecorderStands new (record_after state entry.thread entry.now entry.got)

@@ -36,7 +36,7 @@ records_after settings table meaning events = run (job_of settings table meaning
 
 -- each event is one of the nodes that are there: a call or a tick of one, or a delivery between two
 abbrev pub AreAmong : Parameters → List (EventAt OtherCall) → Type 0
-AreAmong settings events = AllByRecursion (λ (timed : EventAt OtherCall). IsAmong settings timed_event.event) events
+AreAmong settings events = AllByRecursion (λ (timed : EventAt OtherCall). IsAmong settings timed.event) events
 
 -- ---- calls on the barrier
 
@@ -65,14 +65,14 @@ ended_by node event answer = 0
 
 -- the notifies of a node among these events with their answers, in order
 abbrev pub notifies_in : (node : ℕ) → List (EventAt OtherCall) → List (WorldAnswer Answer) → List Notify
-notifies_in node (timed_event ∷ events) (answer ∷ given) =
-    notified_by node timed_event.event answer ++ notifies_in node events given
+notifies_in node (timed ∷ events) (answer ∷ given) =
+    notified_by node timed.event answer ++ notifies_in node events given
 notifies_in node events given = []
 
 -- how many phases of a node they ended
 abbrev pub ended_in : (node : ℕ) → List (EventAt OtherCall) → List (WorldAnswer Answer) → ℕ
-ended_in node (timed_event ∷ events) (answer ∷ given) =
-    ended_by node timed_event.event answer + ended_in node events given
+ended_in node (timed ∷ events) (answer ∷ given) =
+    ended_by node timed.event answer + ended_in node events given
 ended_in node events given = 0
 
 -- ---- a try

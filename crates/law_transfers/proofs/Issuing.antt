@@ -134,7 +134,7 @@ change_chunk operations chunk can slot request bytes number index k transfer fir
         request_is = C.request_is;
       })
       | inr here ↦ (
-          let new : Sent = record { slot = slot; number = request; bytes = bytes; back = false } in
+          let new : SentChunk = record { slot = slot; number = request; bytes = bytes; back = false } in
           let same : was.0 ≡ first.operation = same_Some _ _
           (sym was.1 ∙ (ap (element_at operations) here.0 ∙ first.here)) in
           elim (slice_get_push was.0.sent new index C.sent

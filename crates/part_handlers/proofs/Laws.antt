@@ -70,7 +70,7 @@ attempted-leaving token old new outcome kind result is judge note =
     let same : result ≡ judgement (frame_of token) kind outcome = judge ∙ ap (λ (at : Token). judged_at at kind) is
     ∙ judged_at-leaving token outcome kind in
     note ∙ ap (λ (at : Token). noting at (refusal result)) is
-    ∙ ap (λ (judged : Result (Unit {0}) Forbidden). noting (leaving outcome token) (refusal judgement)) same
+    ∙ ap (λ (judgement : Result (Unit {0}) Forbidden). noting (leaving outcome token) (refusal judgement)) same
     ∙ noting-leaving outcome token (refusal (judgement (frame_of token) kind outcome))
 
 -- ---- locks
@@ -115,7 +115,7 @@ pub judged_answer : (token old : Token) (outcome : Outcome) (content : Content) 
     → old ≡ leaving outcome token → result ≡ answer_with_token old content → result ≡ answer (frame_of token) content outcome
 judged_answer token old outcome content result is judge =
     judge ∙ ap (λ (at : Token). answer_with_token at content) is
-    ∙ ap (λ (judged : Result (Unit {0}) Forbidden).
+    ∙ ap (λ (judgement : Result (Unit {0}) Forbidden).
     answer_by judgement (reply_faults token.settings.now token.table.now content))
     (judged_at-leaving token outcome call.Reply)
 
@@ -184,7 +184,7 @@ pub closed-leaving : (token old : Token) (outcome : Outcome) → old ≡ leaving
     (map (violation token.message.role) (after_return (frame_of token) outcome).refused)
 closed-leaving token old outcome is =
     ap (λ (at : Token). (noting at (refusal (judged_at at call.Return))).log.now) is
-    ∙ ap (λ (judged : Result (Unit {0}) Forbidden). (noting (leaving outcome token) (refusal judgement)).log.now)
+    ∙ ap (λ (judgement : Result (Unit {0}) Forbidden). (noting (leaving outcome token) (refusal judgement)).log.now)
     (judged_at-leaving token outcome call.Return)
     ∙ notes-faults token.message.role token.log.now outcome.refused
     (refusal (judgement (frame_of token) call.Return outcome))

@@ -167,7 +167,7 @@ kept_noted : (number slot request : ℕ) (bytes : List ℕ) (operation : Operati
     → record_of number (with_sent slot request bytes operation)
     ≡ record (record_of number operation) { issued = length operation.sent + 1 }
 kept_noted number slot request bytes operation =
-    let new : Sent = record { slot = slot; number = request; bytes = bytes; back = false } in
+    let new : SentChunk = record { slot = slot; number = request; bytes = bytes; back = false } in
     ap₂ (λ issued returned. record (record_of number operation) {
       issued = issued;
       returned = returned;

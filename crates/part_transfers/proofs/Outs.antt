@@ -276,7 +276,7 @@ pub issued_here : (to slot request : ℕ) (bytes : List ℕ) (operation : Operat
     → requests_of to slot (with_sent slot request bytes operation) ≡ request ∷ []
 issued_here to slot request bytes operation is none =
     let here : (target operation.transfer == to) ≡ true = eq-eqb (target operation.transfer) to is in
-    let new : Sent = record { slot = slot; number = request; bytes = bytes; back = false } in
+    let new : SentChunk = record { slot = slot; number = request; bytes = bytes; back = false } in
     rw here (sents_push slot operation.sent new refl
     ∙ ap₂ (λ rest mine. rest ++ (if mine then request ∷ [] else [])) (rw here at none) (eq-eqb slot slot refl))
 
@@ -291,7 +291,7 @@ issued_elsewhere to slot request bytes node other operation is apart =
     elim (cases_Bool (target operation.transfer == node)) [
       | inr isnt ↦ rw isnt refl
       | inl here ↦ (
-          let new : Sent = record { slot = slot; number = request; bytes = bytes; back = false } in
+          let new : SentChunk = record { slot = slot; number = request; bytes = bytes; back = false } in
           let same = sym (eqb-true (target operation.transfer) node here) ∙ is in
           rw here (sents_push other operation.sent new refl
           ∙ (ap (λ mine. requests_in other operation.sent ++ (if mine then request ∷ [] else []))

@@ -156,7 +156,7 @@ same_me me other same = grind (arith, same)
 
 whole_is : (meaning : Meaning) (endpoint : EndpointState) (it : CollectivesState) (trial : Trial) (shape : Shape)
     (from dest : ℕ) (node : Node EndpointLocal) → AreOf endpoint.core it
-    → let found : Found = record { endpoint = endpoint; collectives = Some it } in
+    → let found : FoundNode = record { endpoint = endpoint; collectives = Some it } in
     let at = context_here meaning endpoint trial.thread trial.time in
     whole_form shape from dest (step_here meaning found trial.thread trial.time) node
     ≡ Several (first_part at shape from node it) (later_part at dest node it)

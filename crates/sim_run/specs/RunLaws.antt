@@ -148,7 +148,7 @@ ResultsHold j =
 -- the nodes' notifies, where the job has atomics, batches of operations act at one moment, in one history, and where it
 -- has collectives, a line that is told that it ended one tells that the node has its result
 pub record RunLaws (job : JobState) : Type 0 where
-  pub among : AllByRecursion (λ (timed : EventAt OtherCall). IsAmong job.settings timed_event.event) (run_events job)
+  pub among : AllByRecursion (λ (timed : EventAt OtherCall). IsAmong job.settings timed.event) (run_events job)
   pub headline : Headline (world_job job) (λ node. nothing_begun job.settings) (run_events job)
   pub told : LinesTell job
   pub rise : PlacesRise job

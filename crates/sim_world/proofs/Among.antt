@@ -9,7 +9,7 @@ use Rattle.sim_world.specs.Settling.{tick_events, round_events, settle_events}
 
 -- each event of the list is one of the world
 abbrev pub AreAmong : Parameters → List (EventAt OtherCall) → Type 0
-AreAmong settings events = AllByRecursion (λ (timed : EventAt OtherCall). IsAmong settings timed_event.event) events
+AreAmong settings events = AllByRecursion (λ (timed : EventAt OtherCall). IsAmong settings timed.event) events
 
 -- of two lists, one after the other
 pub both_among : (s : Parameters) (xs ys : List (EventAt OtherCall)) → AreAmong s xs → AreAmong s ys

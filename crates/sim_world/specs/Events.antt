@@ -40,7 +40,7 @@ job_in meaning world = job_of world.settings world.table meaning
 abbrev pub RunsHaveTheHeadline : WorldState → Type 0
 RunsHaveTheHeadline world =
     (meaning : Meaning) (events : List (EventAt OtherCall)) → IsLawfulMeaning meaning
-    → AllByRecursion (λ (timed : EventAt OtherCall). IsAmong world.settings timed_event.event) events
+    → AllByRecursion (λ (timed : EventAt OtherCall). IsAmong world.settings timed.event) events
     → Headline (job_in meaning world) (λ node. nothing_begun world.settings) events
 
 -- by any lawful handlers, the laws of transfers and those of the barrier hold in each run from the opening

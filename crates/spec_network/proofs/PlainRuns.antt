@@ -130,7 +130,7 @@ run_makes {Local = Local} job name = record {
     go p q (delivered.Deferred lock) g h = absurd g.1
     go p q b g h =
         let out = job.behaviour.messages.run (at_target name h.request) h.request.content (p.local name.to) in
-        let new : Replied = record { number = name.number; reply = out.1 } in
+        let new : RunReply = record { number = name.number; reply = out.1 } in
         (h.fresh.new, subst (IsRan name) (sym h.leaves) (in_replied p name.from name.to new out.0))
 
 -- a request is run at most once

@@ -23,12 +23,12 @@ no_digits (byte ∷ rest) none = absurd (omega arith)
 pub returns-in-Fault : goal.returns-in-Fault
 returns-in-Fault g c =
     past_fault _ _ _ _ _ _ _ (cut_digits c.loop-rest.rest.now c.split_at.result.0.now c.split_at.result.1.now
-    c.min.result c.split_at.ensures.prefix c.split_at.ensures.back) c.loop-rest.invariant c.in-Fault.ensures
+    c.min.result c.split_at.ensures.front c.split_at.ensures.back) c.loop-rest.invariant c.in-Fault.ensures
 
 pub loop-rest-preserved : goal.loop-rest-preserved
 loop-rest-preserved g c =
     past_done _ _ _ _ _ _ _ (cut_digits c.loop-rest.rest.now c.split_at.result.0.now c.split_at.result.1.now
-    c.min.result c.split_at.ensures.prefix c.split_at.ensures.back) c.loop-rest.invariant c.in_default.ensures
+    c.min.result c.split_at.ensures.front c.split_at.ensures.back) c.loop-rest.invariant c.in_default.ensures
 
 pub returns : goal.returns
 returns g c = all_gathered _ _ _ _ (no_digits c.loop-rest.rest.now (eqb-true (length c.loop-rest.rest.now) 0

@@ -29,7 +29,7 @@ returns-in_err-outputs c =
 pub returns-then-end-bytes : goal.returns-then-end-bytes
 returns-then-end-bytes c =
     subst (λ (line : ℕ). IsBadInput c.args.bytes.now line why.After)
-    (sym (ap (λ (count : ℕ). count + 1) (c.lines_in.ensures.is ∙ ap lines_in c.split_at.ensures.prefix)))
+    (sym (ap (λ (count : ℕ). count + 1) (c.lines_in.ensures.is ∙ ap lines_in c.split_at.ensures.front)))
     (bad_behind_all c.in-Ok.prefix.0 c.in-Ok.prefix.1 c.args.bytes.now c.in_ok-outputs.outputs.items
     c.in_ok-outputs.end c.in-Ok.ensures.found c.in-Ok.ensures.one c.requires c.in_ok-outputs.ensures
     c.if-end-bytes.true c.in-Ok.ensures.told)

@@ -19,7 +19,7 @@ read_output-requires c = omega (arith, c.split_at.ensures.back_len, c.requires.f
 
 pub fault_behind-requires : goal.fault_behind-requires
 fault_behind-requires c = record {
-  few = omega (arith, c.split_at.ensures.prefix_len, c.split_at.ensures.back_len, c.requires.few);
+  few = omega (arith, c.split_at.ensures.front_len, c.split_at.ensures.back_len, c.requires.few);
   near = near_more _ 67108864 c.in-Err.fault (omega (arith, c.split_at.ensures.back_len, c.requires.few))
       c.in-Err.ensures.near;
 }
@@ -28,7 +28,7 @@ pub returns-in-Err : goal.returns-in-Err
 returns-in-Err c =
     none_more (place_of c.args.job.now c.args.bytes.now c.args.from) c.loop-rank.outputs.items c.loop-rank.rank
     c.loop-rank.at c.wanted_of.result c.split_at.result.0.now c.split_at.result.1.now c.in-Err.fault
-    c.fault_behind.result c.fault_behind.ensures c.split_at.ensures.prefix c.wanted_of.ensures c.split_at.ensures.back
+    c.fault_behind.result c.fault_behind.ensures c.split_at.ensures.front c.wanted_of.ensures c.split_at.ensures.back
     (omega arith) c.loop-rank.invariant.so_far
     (record { gives = c.in-Err.ensures.only; reads = c.in-Err.ensures.exact; meant = c.in-Err.ensures.meant })
 

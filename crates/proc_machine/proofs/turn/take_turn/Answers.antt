@@ -29,8 +29,8 @@ try_next-tried-requires-clause-there g c =
 pub returns : goal.returns
 returns g c =
     let meaning = g.H.Handlers.meaning c.args.handlers.now in
-    let old : Found = record { endpoint = c.args.endpoint.now; collectives = c.args.collectives.now } in
-    let new : Found = record {
+    let old : FoundNode = record { endpoint = c.args.endpoint.now; collectives = c.args.collectives.now } in
+    let new : FoundNode = record {
       endpoint = c.try_next-tried.new.endpoint;
       collectives = c.try_next-tried.new.collectives;
     } in

@@ -16,7 +16,7 @@ returns-then-sender-receiver g c =
     let way = way_goes (length all) c.args.context.now.event.now c.way_of-sender.result c.way_of-sender.ensures
     c.requires.delivers c.requires.between in
     let before : from < to = omega (arith, c.if-sender-receiver.true) in
-    let long : to ≡ length xs + 0 = omega (arith, split.ensures.prefix_len) in
+    let long : to ≡ length xs + 0 = omega (arith, split.ensures.front_len) in
     let low : from < length xs = omega (arith, before, long) in
     let some : 0 < length ys = omega (arith, split.ensures.back_len, way.receiver) in
     let receiver : EndpointState = get_or ys 0 c.index-back-0.result in
@@ -48,7 +48,7 @@ returns-else-sender-receiver g c =
     let way = way_goes (length all) c.args.context.now.event.now c.way_of-sender.result c.way_of-sender.ensures
     c.requires.delivers c.requires.between in
     let before : to < from = omega (arith, c.if-sender-receiver.false, way.apart) in
-    let long : from ≡ length xs + 0 = omega (arith, split.ensures.prefix_len) in
+    let long : from ≡ length xs + 0 = omega (arith, split.ensures.front_len) in
     let low : to < length xs = omega (arith, before, long) in
     let some : 0 < length ys = omega (arith, split.ensures.back_len, way.sender) in
     let receiver : EndpointState = get_or xs to c.index-prefix-receiver.result in

@@ -8,5 +8,5 @@ returns-in_default-clause-none c =
     (sym c.far_place_of.ensures.value ∙ c.in_default.is)
 
 pub returns-clause-whole : goal.returns-clause-whole
-returns-clause-whole c = rw (c.split_at.ensures.prefix, c.split_at-2.ensures.back)
+returns-clause-whole c = rw (c.split_at.ensures.front, c.split_at-2.ensures.back)
     (cut_at c.args.bytes.now c.in-Some.end (sym c.far_place_of.ensures.value ∙ c.in-Some.is))

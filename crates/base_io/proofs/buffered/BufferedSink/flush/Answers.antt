@@ -10,7 +10,7 @@ returns-then-self-clause-flushes g c =
     let faults = g.K.Sink.faults in
     let sink = c.write_prefix-taken.new.sink in
     let waits : c.split_at-2.result.1.now ≡ drop i.start (take i.end i.buffer) =
-    c.split_at-2.ensures.back ∙ ap (drop i.start) c.split_at.ensures.prefix in
+    c.split_at-2.ensures.back ∙ ap (drop i.start) c.split_at.ensures.front in
     let given = rw waits at c.write_prefix-taken.ensures.bytes in
     let lens = simp (length-drop, length-take) at (ap length waits) in
     let more : n < length c.split_at-2.result.1.now = omega arith in
@@ -20,7 +20,7 @@ returns-then-self-clause-flushes g c =
           (record { given = taken i.inner; pending = drop i.start (take i.end i.buffer); faults = faults i.inner })
           (record { given = taken sink; pending = drop (i.start + n) (take i.end i.buffer); faults = faults sink }) n
           (pending_after i.buffer c.split_at.result.0.now (drop i.start (take i.end i.buffer)) i.start i.end n
-          c.split_at.ensures.prefix (sym waits ∙ c.split_at-2.ensures.back))
+          c.split_at.ensures.front (sym waits ∙ c.split_at-2.ensures.back))
           c.write_prefix-taken.ensures.later given);
       rose = rw (← c.self.view_is) (c.write_prefix-taken.ensures.fault more);
     }

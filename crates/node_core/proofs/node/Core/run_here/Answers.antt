@@ -55,7 +55,7 @@ returns g c =
       cells = c.self.inside.cells;
       log = c.self.inside.log;
     } in
-    let after : Touched = record {
+    let after : HandlerState = record {
       cells = c.run_own.new.self.cells.now;
       segment = c.run_own.new.self.segment.now;
       locks = c.run_own.new.self.locks.now;
