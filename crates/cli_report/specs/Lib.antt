@@ -15,6 +15,4 @@ pub mod Facts
 pub mod Ran
 pub mod Seen
 pub mod Counted
-pub mod Settings
-pub mod Environment
 pub mod Progress

@@ -20,11 +20,6 @@
 //!   `WatchedWriter` tell what the reader or the writer behind tells, and `CountedSpawner` what the spawner behind
 //!   tells. It keeps what children gave [`KeepsOutput`].
 //! - `Command`: its words, and what is kept of its run. Its input is read again where it is needed [`IsReadAgain`].
-//! - `hosts_told` and `settings_told` [`told`: `AreHosts`; `secret`: `IsSecret`; `steps`: `IsSetOne`; `refused`:
-//!   `RefusesHosts`, `RefusesSettings`]: what the environment sets, or why it is refused, by what its variables and
-//!   files were found to hold, each under its name. `Refusal` has the text, the line and the exit status of what is
-//!   refused. A key is the 64 hexadecimal digits of a file that its owner alone may use. White space may stand around
-//!   them.
 //! - `message_of` [`IsMessageOf`, `AreNoMessage`]: the message that a datagram spells, or that it spells none.
 //!
 //! No clause says that the system told a person anything, nor the system's own texts of errors.
@@ -34,7 +29,6 @@ mod causes;
 mod command;
 mod counted;
 mod ends;
-mod environment;
 mod facts;
 mod findings;
 mod gathered;
@@ -45,7 +39,6 @@ mod ran;
 mod replays;
 mod report;
 mod seen;
-mod settings;
 mod standard_error;
 mod status;
 mod telling;
@@ -54,7 +47,6 @@ mod unsent;
 
 pub use command::{Command, ReadsAgain, is_node, with_port};
 pub use counted::{CountedSpawner, KeptOutput};
-pub use environment::{Environment, KeyFile, SettingsTold, hosts_told, settings_told};
 pub use facts::{ChildSeen, Children, Facts, LinkSeen};
 pub use findings::{NodeFinding, refused_line};
 pub use message::message_of;
@@ -63,7 +55,6 @@ pub use progress::{Counter, is_shown_at, progress_line};
 pub use ran::{Outcome, tell_after};
 pub use replays::Replays;
 pub use seen::{Counts, Seen, WatchedReader, WatchedWriter, counts_of};
-pub use settings::{Refusal, set_value};
 pub use standard_error::StandardError;
 pub use telling::{Tells, tell_fault, tell_help, tell_made};
 pub use texts::Texts;

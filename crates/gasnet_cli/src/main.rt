@@ -41,9 +41,10 @@ use crate::settings::SystemEnvironment;
 use crate::texts::UserTexts;
 use cli_commands::words_of;
 use cli_report::{
-    Command, CountedSpawner, Outcome, Refusal, SettingsTold, StandardError, hosts_told, is_node,
-    settings_told, tell_after, tell_fault, tell_help, with_port,
+    Command, CountedSpawner, Outcome, StandardError, is_node, tell_after, tell_fault, tell_help,
+    with_port,
 };
+use cli_settings::{Refusal, SettingsTold, hosts_told, settings_told};
 use proc_linux::{
     ChildEnds, Hosts, LinkSocket, ProcessSpawner, SocketWaiter, SystemClock, UdpLink,
 };

@@ -3,7 +3,7 @@
 ghost use Rattle.std.specs.Prelude.{◌≡◌, []};
 ghost use Rattle.proc_linux.specs.HostTexts.{NamesHosts};
 
-use cli_report::{Environment, KeyFile, Refusal, set_value};
+use cli_settings::{Environment, KeyFile, Refusal, set_value};
 use proc_linux::Hosts;
 use std::alloc::{AllocError, Global};
 use std::env;

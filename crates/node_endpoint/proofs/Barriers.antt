@@ -59,7 +59,7 @@ pub try_does : (core : CoreState) (extended : Extended) (barrier : BarrierState)
     → PartDoes (record { core = core; extended = extended }) thread
     (λ caller kept. with_barrier kept (barrier_does caller (TryBarrier id flags) kept.barrier)) (answers.Barrier says)
     (record { core = core; extended = record extended { barrier = barrier } })
-try_does core extended barrier thread id flags exhausted says exhausted answer stands = record {
+try_does core extended barrier thread id flags exhausted says said_by answer stands = record {
   same = same_core core;
   frame = record { nodes = refl; me_is = refl; threads = refl; room = refl };
   steps = λ node S.
@@ -67,7 +67,7 @@ try_does core extended barrier thread id flags exhausted says exhausted answer s
       let nodes = core.settings.nodes in
       let tried = λ (exhausted : Option ℕ). try_answer nodes core.me kept
       (record { id = identifier id; flags = flags; exhausted = exhausted }) in
-      let same : tried exhausted ≡ tried (exhausted_for (caller_in core node thread) kept) = ap tried (exhausted node S) in (
+      let same : tried exhausted ≡ tried (exhausted_for (caller_in core node thread) kept) = ap tried (said_by node S) in (
         ap (λ (s : BarrierAnswer). answers.Barrier s) (answer nodes core.me kept S.barrier ∙ same),
         record {
           core = S.core;

@@ -16,8 +16,8 @@ unreachable-requires c =
     c.ask.ensures)
     (λ other slot number e. c.in_default.not-Accepted other slot number e)
 
-pub notification-requires-clause-slot_in : goal.notification-requires-clause-slot_in
-notification-requires-clause-slot_in c =
+pub mark_sent-requires-clause-slot_in : goal.mark_sent-requires-clause-slot_in
+mark_sent-requires-clause-slot_in c =
     slot_within c.args.core.now c.ask.new.self c.args.self.now c.args.now (target c.args.next.now.transfer)
     c.in-Accepted.slot c.in-Accepted.number (chunk_work c.args.next.now) c.requires.whole c.requires.can
     (accepted_own c.args.core.now c.ask.new.self c.args.self.now c.args.now (target c.args.next.now.transfer)

@@ -5,8 +5,8 @@ use Rattle.std.specs.Global.{Global}
 use Rattle.std.specs.Str.{bytes_eq}
 use Rattle.std.specs.declared.env.VarError.{VarError}
 use Rattle.std.specs.declared.env.VarError.TheVariants as told
-use Rattle.cli_report.specs.declared.settings.Refusal.{Refusal}
-use Rattle.cli_report.specs.declared.settings.Refusal.TheVariants as refused
+use Rattle.cli_settings.specs.declared.settings.Refusal.{Refusal}
+use Rattle.cli_settings.specs.declared.settings.Refusal.TheVariants as refused
 
 -- what is told of a refusal
 unfoldable pub refusal_text : Refusal → List ℕ

@@ -4,11 +4,11 @@ use Rattle.std.specs.Prelude.{codes, is_ok, string_bytes}
 use Rattle.std.specs.Str.{trim}
 use Rattle.std.specs.Global.{Global}
 use Rattle.hex.specs.Hex.{decode_sized}
-use Rattle.cli_report.specs.Settings.{is_one}
-use Rattle.cli_report.specs.declared.environment.KeyFile.{KeyFile}
-use Rattle.cli_report.specs.declared.settings.Refusal.{Refusal}
-use Rattle.cli_report.specs.declared.settings.Refusal.TheVariants.{NoHosts, NoHostsFile, NoKey, NoKeyFile, NoMemory}
-use Rattle.cli_report.specs.declared.settings.Refusal.TheVariants.{OpenKeyFile}
+use Rattle.cli_settings.specs.Settings.{is_one}
+use Rattle.cli_settings.specs.declared.environment.KeyFile.{KeyFile}
+use Rattle.cli_settings.specs.declared.settings.Refusal.{Refusal}
+use Rattle.cli_settings.specs.declared.settings.Refusal.TheVariants.{NoHosts, NoHostsFile, NoKey, NoKeyFile, NoMemory}
+use Rattle.cli_settings.specs.declared.settings.Refusal.TheVariants.{OpenKeyFile}
 
 -- what variables were found to hold, by name
 abbrev pub Variables : Type 1

@@ -1,6 +1,6 @@
 use Rattle.std.proofs.Common.{inr}
 use Rattle.std.proofs.lemmas.Result.{err_from_is_err_and}
-use Rattle.cli_report.proofs.environment.secret_told.Goals as goal
+use Rattle.cli_settings.proofs.environment.secret_told.Goals as goal
 
 pub returns-in_err-secret_in-in-Some-clause-refused : goal.returns-in_err-secret_in-in-Some-clause-refused
 returns-in_err-secret_in-in-Some-clause-refused g c =

@@ -1,9 +1,9 @@
 //! What the environment sets, by what the system tells of it.
 
 ghost use Rattle.std.specs.Prelude.{◌≡◌, IfErr, IfOk, Ok, is_ok};
-ghost use Rattle.cli_report.specs.declared.settings.Refusal.TheVariants.{NoKey};
+ghost use Rattle.cli_settings.specs.declared.settings.Refusal.TheVariants.{NoKey};
 ghost use Rattle.hex.specs.Hex.{decode_sized};
-ghost use Rattle.cli_report.specs.Settings.{IsValue, is_one, refusal_code, refusal_line, refusal_text};
+ghost use Rattle.cli_settings.specs.Settings.{IsValue, is_one, refusal_code, refusal_line, refusal_text};
 
 use hex::FromHex;
 use std::alloc::AllocError;
@@ -30,7 +30,7 @@ pub enum Refusal {
 
 impl From<AllocError> for Refusal {
     ghost use Rattle.std.specs.Prelude.{◌≡◌};
-    ghost use Rattle.cli_report.specs.declared.settings.Refusal.TheVariants.{NoMemory};
+    ghost use Rattle.cli_settings.specs.declared.settings.Refusal.TheVariants.{NoMemory};
 
     ghost from_gives = { λ _ why. why ≡ NoMemory };
 

@@ -1,5 +1,5 @@
 use Rattle.std.proofs.Common.{refl, inr}
-use Rattle.cli_report.proofs.environment.hosts_by_file.Goals as goal
+use Rattle.cli_settings.proofs.environment.hosts_by_file.Goals as goal
 
 pub returns-clause-refused : goal.returns-clause-refused
 returns-clause-refused g c =

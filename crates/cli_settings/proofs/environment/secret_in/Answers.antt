@@ -1,6 +1,6 @@
 use Rattle.std.proofs.Common.{sym, inr}
 use Rattle.std.proofs.lemmas.Result.{err_from_is_err_and}
-use Rattle.cli_report.proofs.environment.secret_in.Goals as goal
+use Rattle.cli_settings.proofs.environment.secret_in.Goals as goal
 
 -- the key is that of the text which was read
 pub returns-clause-told : goal.returns-clause-told

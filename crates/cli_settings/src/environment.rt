@@ -3,11 +3,11 @@
 ghost use Rattle.std.specs.Prelude.{◌≡◌, Bool, IfErr, IfOk, List, ℕ, Ok, Option, Result, String, codes, string_bytes};
 ghost use Rattle.std.specs.Global.{Global};
 ghost use Rattle.std.specs.declared.alloc.AllocError.{AllocError};
-ghost use Rattle.cli_report.specs.Environment.{AreHosts, IsHosts, IsHostsFile, IsKey, IsKeyText, IsSecret, IsSetOne};
-ghost use Rattle.cli_report.specs.Environment.{RefusesHosts, RefusesHostsFile, RefusesHostsText, RefusesKey};
-ghost use Rattle.cli_report.specs.Environment.{RefusesKeyText, RefusesSecret, RefusesSettings};
-ghost use Rattle.cli_report.specs.declared.environment.KeyFile.{KeyFile};
-ghost use Rattle.cli_report.specs.declared.settings.Refusal.{Refusal};
+ghost use Rattle.cli_settings.specs.Environment.{AreHosts, IsHosts, IsHostsFile, IsKey, IsKeyText, IsSecret, IsSetOne};
+ghost use Rattle.cli_settings.specs.Environment.{RefusesHosts, RefusesHostsFile, RefusesHostsText, RefusesKey};
+ghost use Rattle.cli_settings.specs.Environment.{RefusesKeyText, RefusesSecret, RefusesSettings};
+ghost use Rattle.cli_settings.specs.declared.environment.KeyFile.{KeyFile};
+ghost use Rattle.cli_settings.specs.declared.settings.Refusal.{Refusal};
 
 use crate::settings::{Refusal, is_one, secret_of};
 use std::alloc::{AllocError, Global};

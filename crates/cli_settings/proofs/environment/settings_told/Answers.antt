@@ -1,6 +1,6 @@
 use Rattle.std.proofs.Common.{inl, inr}
 use Rattle.std.proofs.lemmas.Result.{err_from_is_err_and}
-use Rattle.cli_report.proofs.environment.settings_told.Goals as goal
+use Rattle.cli_settings.proofs.environment.settings_told.Goals as goal
 
 pub returns-in_err-agent-clause-refused : goal.returns-in_err-agent-clause-refused
 returns-in_err-agent-clause-refused g c =
