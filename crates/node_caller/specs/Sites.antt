@@ -6,7 +6,7 @@ use Rattle.part_handlers.specs.Runs.{Meaning}
 use Rattle.node_endpoint.specs.Record.{Node}
 use Rattle.node_endpoint.specs.NodeStep.{Job, node_answer, node_after}
 use Rattle.node_endpoint.specs.EndpointLocal.{EndpointLocal}
-use Rattle.node_endpoint.specs.EndpointRules.{OtherCall, RecordEvent, job_of, told}
+use Rattle.node_endpoint.specs.EndpointRules.{OtherCall, RecordEvent, job_of, answer_told}
 use Rattle.node_endpoint.specs.Called.{Meant, Requests, Performs, meant, node_event}
 use Rattle.node_endpoint.specs.Call.{Call}
 use Rattle.node_endpoint.specs.Answer.{Answer}
@@ -43,7 +43,7 @@ record_event_of call = node_event call.thread call.call
 
 -- how a node with this record answers it
 abbrev pub answer_at : Site → Node EndpointLocal → ThreadCall → Answer
-answer_at site node call = told (node_answer (job_at site) site.node node site.now (record_event_of call))
+answer_at site node call = answer_told (node_answer (job_at site) site.node node site.now (record_event_of call))
 
 -- the record that it leaves
 abbrev pub node_then : Site → Node EndpointLocal → ThreadCall → Node EndpointLocal

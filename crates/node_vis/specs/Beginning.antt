@@ -8,7 +8,7 @@ use Rattle.part_transfers.specs.declared.operation.Transfer.TheVariants as trans
 use Rattle.spec_node.specs.Record.{Node}
 use Rattle.spec_node.specs.NodeStep.{Job, node_answer, node_after}
 use Rattle.node_caller.specs.EndpointLocal.{EndpointLocal}
-use Rattle.node_caller.specs.EndpointRules.{OnTransfers, OtherCall, told}
+use Rattle.node_caller.specs.EndpointRules.{OnTransfers, OtherCall, answer_told}
 use Rattle.node_caller.specs.TransferCalls.{TransferCall, BeginImplicit, RegionBegin, RegionEnd}
 use Rattle.node_caller.specs.Called.{Performs}
 use Rattle.node_caller.specs.Answer.{Answer}
@@ -86,7 +86,7 @@ node_at site = record { job = job_at site; node = site.node; now = site.now }
 
 -- how it answers a call, where it has this record, and the record that the call leaves
 abbrev pub answer_of_call : NodeAt → Node EndpointLocal → ThreadCall → Answer
-answer_of_call at node call = told (node_answer at.job at.node node at.now (record_event_of call))
+answer_of_call at node call = answer_told (node_answer at.job at.node node at.now (record_event_of call))
 
 abbrev pub record_after_call : NodeAt → Node EndpointLocal → ThreadCall → Node EndpointLocal
 record_after_call at node call = node_after at.job at.node node at.now (record_event_of call)
