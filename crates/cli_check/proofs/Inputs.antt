@@ -531,7 +531,7 @@ bad_prefix bytes line reason short read means none only = record {
 -- ---- what the readers tell
 
 prefix_within : (prefix rest bytes : List ℕ) → bytes ≡ prefix ++ rest → length prefix ≤ length bytes
-prefix_within front rest bytes text = omega (arith, length-append prefix rest, ap length text)
+prefix_within prefix rest bytes text = omega (arith, length-append prefix rest, ap length text)
 
 -- the text at the prefix is within the bytes
 pub begins_within : (job : JobState) (size : ℕ) (bytes : List ℕ) → BeginsWith job size bytes → size ≤ length bytes

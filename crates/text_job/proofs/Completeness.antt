@@ -729,7 +729,7 @@ steps_reach script prefix [] job all few room = ap (λ (steps : List ScriptStep)
 }) (sym (append-nil prefix))
 steps_reach script prefix (s ∷ rest) job all few room =
     let many : length (prefix ++ s ∷ rest) ≡ length prefix + suc (length rest) = simp length-append in
-    let pieces = steps_join front (s ∷ rest) in
+    let pieces = steps_join prefix (s ∷ rest) in
     let same = sym (append_assoc prefix (s ∷ []) rest) in
     record {
       item = Some s;
@@ -803,7 +803,7 @@ pub script_opens : (job : Job) → job.settings.nodes ≤ 256 → job.settings.t
     → Reaches (behind_scripts_of job prefix) (script_line s ∷ map step_text s.steps)
     (record { place = AtSteps s; job = with_scripts job prefix })
 script_opens job nodes threads prefix s rest may =
-    let pieces = scripts_join front (s ∷ rest) in
+    let pieces = scripts_join prefix (s ∷ rest) in
     let room : scripts_pieces prefix + steps_pieces s.steps ≤ most_pieces = omega (arith, pieces, may.2) in
     script_begins s (with_scripts job prefix) may.0.0 nodes threads (threads_new prefix rest s may.1) room
 
@@ -849,7 +849,7 @@ behind_handlers job line lines end h = record {
 
 rounds_join : (prefix rest : List TimedEvent) → total_rounds (prefix ++ rest) ≡ total_rounds prefix + total_rounds rest
 rounds_join [] rest = omega arith
-rounds_join (t ∷ prefix) rest = let e = rounds_join front rest in omega arith
+rounds_join (t ∷ prefix) rest = let e = rounds_join prefix rest in omega arith
 
 abbrev pub with_schedule : Job → List TimedEvent → Job
 with_schedule job lines = record job { schedule = Some lines }
@@ -880,9 +880,9 @@ schedule_reach job prefix [] all a b c d = ap (λ (lines : List TimedEvent). rec
 }) (sym (append-nil prefix))
 schedule_reach job prefix (t ∷ rest) all a b c d =
     let many : length (prefix ++ t ∷ rest) ≡ length prefix + suc (length rest) = simp length-append in
-    let sum = rounds_join front (t ∷ rest) in
+    let sum = rounds_join prefix (t ∷ rest) in
     let less : total_rounds prefix + rounds_of t.event ≤ total_rounds (prefix ++ t ∷ rest) = omega (arith, sum) in
-    let pieces = schedule_join front (t ∷ rest) in
+    let pieces = schedule_join prefix (t ∷ rest) in
     let before = scripts_pieces job.scripts in
     let same = sym (append_assoc prefix (t ∷ []) rest) in
     record {

@@ -11,19 +11,19 @@ use Rattle.text_steps.specs.declared.steps.TimedEvent.{TimedEvent}
 pub schedule_join : (prefix rest : List TimedEvent) → schedule_pieces (prefix ++ rest)
     ≡ schedule_pieces prefix + schedule_pieces rest
 schedule_join [] rest = omega arith
-schedule_join (t ∷ prefix) rest = let e = schedule_join front rest in omega arith
+schedule_join (t ∷ prefix) rest = let e = schedule_join prefix rest in omega arith
 
 -- those of steps and others behind them
 pub steps_join : (prefix rest : List ScriptStep) → steps_pieces (prefix ++ rest)
     ≡ steps_pieces prefix + steps_pieces rest
 steps_join [] rest = omega arith
-steps_join (s ∷ prefix) rest = let e = steps_join front rest in omega arith
+steps_join (s ∷ prefix) rest = let e = steps_join prefix rest in omega arith
 
 -- those of scripts and others behind them
 pub scripts_join : (prefix rest : List NodeScript) → scripts_pieces (prefix ++ rest)
     ≡ scripts_pieces prefix + scripts_pieces rest
 scripts_join [] rest = omega arith
-scripts_join (s ∷ prefix) rest = let e = scripts_join front rest in omega arith
+scripts_join (s ∷ prefix) rest = let e = scripts_join prefix rest in omega arith
 
 -- and with one more
 pub schedule_more : (lines : List TimedEvent) (t : TimedEvent) → schedule_pieces (lines ++ t ∷ [])
