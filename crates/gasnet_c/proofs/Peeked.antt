@@ -68,8 +68,8 @@ no_some x e = cc
 -- of bytes that were read
 pub peeks_read : (endpoint : EndpointState) (bytes : List ℕ) (coming : Coming) (answer : Delivered) (view : View)
     → WouldDeliver endpoint bytes answer → IsAnsweredAlways endpoint bytes answer
-    → ((message : Message) → message.version ≡ 1 → Spells message bytes → Shows message (Ok view))
-    → None ≡ first_refusal 1 bytes → Spells (viewed_message view) bytes
+    → ((message : Message) → message.version ≡ endpoint.core.settings.version → Spells message bytes → Shows message (Ok view))
+    → None ≡ first_refusal endpoint.core.settings.version bytes → Spells (viewed_message view) bytes
     → view.words.now ++ view.payload.now ≡ drop 40 bytes → coming.runs ≡ runs_by answer view.handler
     → TellsView view coming → Peeks endpoint bytes coming
 peeks_read endpoint bytes coming answer view would agrees only fine spells parts runs told = record {
@@ -86,7 +86,7 @@ peeks_read endpoint bytes coming answer view would agrees only fine spells parts
 -- of others
 pub peeks_unread : (endpoint : EndpointState) (bytes : List ℕ) (coming : Coming) (answer : Delivered)
     → WouldDeliver endpoint bytes answer → IsAnsweredAlways endpoint bytes answer
-    → ((message : Message) → message.version ≡ 1 → Spells message bytes → ⊥) → coming.runs ≡ 0
+    → ((message : Message) → message.version ≡ endpoint.core.settings.version → Spells message bytes → ⊥) → coming.runs ≡ 0
     → Peeks endpoint bytes coming
 peeks_unread endpoint bytes coming answer would agrees never runs = record {
   answer = answer;

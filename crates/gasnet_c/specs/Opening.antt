@@ -1,5 +1,5 @@
 -- How a node opens.
-use Rattle.std.specs.Prelude.{ℕ, ◌≡◌, ◌<◌, ◌≤◌, ◌⊎◌, List, [], Option, Some, None}
+use Rattle.std.specs.Prelude.{ℕ, ◌≡◌, ◌<◌, ◌≤◌, ◌⊎◌, nat_le, if◌then◌else◌, List, [], Option, Some, None}
 use Rattle.wire_message.specs.Parameters.{Parameters, AreInRange}
 use Rattle.part_handlers.specs.Registered.{entry_at}
 use Rattle.part_handlers.specs.declared.serves.Serves.TheVariants as served
@@ -9,10 +9,14 @@ use Rattle.node_rules.specs.EndpointLocal.{nothing_begun}
 use Rattle.node_endpoint.specs.EndpointState.{EndpointState, EndpointStands}
 use Rattle.gasnet_c.specs.declared.opening.Setup.{Setup}
 
--- the settings of the job that C sets up: datagrams of version 1, one thread a node, and all numbers of requests
+-- the version of the datagrams of a job of so many nodes: the first one that has them
+abbrev pub version_for : (nodes : ℕ) → ℕ
+version_for nodes = if nat_le nodes 64 then 1 else 2
+
+-- the settings of the job that C sets up: one thread a node, and all numbers of requests
 abbrev pub settings_of : Setup → Parameters
 settings_of setup = record {
-  version = 1;
+  version = version_for setup.nodes;
   job = setup.job;
   nodes = setup.nodes;
   credits = setup.credits;

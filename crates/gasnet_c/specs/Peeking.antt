@@ -58,10 +58,11 @@ pub record Peeks (endpoint : EndpointState) (bytes : List ℕ) (coming : Coming)
   pub answer : Delivered
   pub would : WouldDeliver endpoint bytes answer
   pub agrees : IsAnsweredAlways endpoint bytes answer
-  pub runs : (message : Message) → message.version ≡ 1 → Spells message bytes
+  pub runs : (message : Message) → message.version ≡ endpoint.core.settings.version → Spells message bytes
       → coming.runs ≡ runs_by answer message.handler
-  pub shows : (message : Message) → message.version ≡ 1 → Spells message bytes → ShowsOf message bytes coming
-  pub unread : (reason : Refused) → first_refusal 1 bytes ≡ Some reason → coming.runs ≡ 0
+  pub shows : (message : Message) → message.version ≡ endpoint.core.settings.version → Spells message bytes
+      → ShowsOf message bytes coming
+  pub unread : (reason : Refused) → first_refusal endpoint.core.settings.version bytes ≡ Some reason → coming.runs ≡ 0
 
 -- so it is of a node that is held; nothing runs where none is
 abbrev pub PeeksIn : Option EndpointState → List ℕ → Coming → Type 0

@@ -1,6 +1,7 @@
 //! What a delivery would run.
 
-ghost use Rattle.std.specs.Prelude.{◌≡◌};
+ghost use Rattle.std.specs.Prelude.{◌≡◌, true};
+ghost use Rattle.wire_message.specs.Content.{is_version};
 ghost use Rattle.gasnet_c.specs.Peeking.{Peeks, TellsView, category_of, runs_by};
 
 use node_core::Delivered;
@@ -90,14 +91,15 @@ fn told_of(message: &View<'_>, runs: u32) -> Coming
     }
 }
 
-/// What a delivery of these bytes would run.
+/// What a delivery of these bytes would run at an endpoint whose datagrams are of this version.
 #[tactic(auto, using(crate::proofs::Peeked::peeks_read, crate::proofs::Peeked::peeks_unread))]
-pub fn peeked(endpoint: &Endpoint, bytes: &[u8]) -> Coming
-    requires { endpoint.now.core.settings.version ≡ 1 }
+pub fn peeked(endpoint: &Endpoint, version: u8, bytes: &[u8]) -> Coming
+    requires version { endpoint.now.core.settings.version ≡ version }
+    requires known { is_version version ≡ true }
     ensures { Peeks endpoint.now bytes.now result }
 {
     let answer = endpoint.would_deliver(bytes);
-    let Ok(message) = view(bytes, 1) else {
+    let Ok(message) = view(bytes, version) else {
         return nothing();
     };
     let runs = runs_by(&answer, message.handler);

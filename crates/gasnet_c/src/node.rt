@@ -36,7 +36,7 @@ pub struct EventAt<'a> {
     pub event: Event<'a>,
 }
 
-/// The endpoint of a node of a job whose nodes have one thread each, and datagrams of version 1.
+/// The endpoint of a node of a job whose nodes have one thread each.
 #[derive(Drop)]
 pub struct Node {
     pub(crate) endpoint: Endpoint,
@@ -52,7 +52,6 @@ impl Model for Node {
     ghost view = { λ node. node.endpoint };
 
     ghost invariant = { λ node. (node.endpoint.core.settings.threads ≡ 1)
-        × (node.endpoint.core.settings.version ≡ 1)
         × (node.settings ≡ node.endpoint.core.settings) };
 }
 
@@ -67,7 +66,6 @@ impl Node {
     ) -> Result<Node, AllocError>
         requires me { me < settings.now.nodes }
         requires threads { settings.now.threads ≡ 1 }
-        requires version { settings.now.version ≡ 1 }
         requires zeros { segment ≡ replicate settings.now.segment 0 }
         ensures node { IfOk result (IsNodeOf settings.now table.now me) }
         ensures stands { IfOk result (λ node.
@@ -140,7 +138,7 @@ impl Node {
     pub fn peek(&self, bytes: &[u8]) -> Coming
         ensures { Peeks self.now bytes.now result }
     {
-        peeked(&self.endpoint, bytes)
+        peeked(&self.endpoint, self.settings.version(), bytes)
     }
 
     /// The datagram of the open request to a node in that slot, copied into the buffer where it fits. The answer is how

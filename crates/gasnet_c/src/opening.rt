@@ -3,7 +3,7 @@
 ghost use Rattle.std.specs.Prelude.{◌≡◌, ◌<◌, None, IfOk, IfSome, MatchOption, replicate};
 ghost use Rattle.wire_message.specs.Parameters.{AreInRange};
 ghost use Rattle.gasnet_c.specs.Whole.{IsWhole};
-ghost use Rattle.gasnet_c.specs.Opening.{IsOpenedNode, Opens, ServesAll, settings_of};
+ghost use Rattle.gasnet_c.specs.Opening.{IsOpenedNode, Opens, ServesAll, settings_of, version_for};
 
 use crate::handle::{Handle, put, taken};
 use crate::memory::Memory;
@@ -23,12 +23,19 @@ pub struct Setup {
     pub segment: u64,
     /// After which time a request is sent again, in the unit of the calls' `now`: 1 to 1,000,000.
     pub resend: u64,
-    /// How many nodes there are: 1 to 64.
+    /// How many nodes there are: 1 to 256. More than 64 have datagrams of version 2.
     pub nodes: u16,
     /// Which of them this is, from 0.
     pub me: u16,
-    /// How many requests of each ordered pair of nodes may be out: 1 to 32, and at most 65,536 over all pairs.
+    /// How many requests of each ordered pair of nodes may be out: 1 to 32.
     pub credits: u16,
+}
+
+/// The version of the datagrams of a job of so many nodes.
+fn version_for(nodes: u16) -> u8
+    ensures { result ≡ version_for nodes }
+{
+    if nodes <= 64 { 1 } else { 2 }
 }
 
 /// The job's settings.
@@ -37,7 +44,7 @@ fn settings_of(setup: &Setup) -> Option<Settings>
         (λ settings. (settings ≡ settings_of setup.now) × AreInRange (settings_of setup.now)) }
 {
     Settings::new(
-        1,
+        version_for(setup.nodes),
         setup.job,
         setup.nodes,
         setup.credits,
@@ -73,7 +80,6 @@ fn made(
 ) -> Result<Box<Node, Global>, AllocError>
     requires me { me < settings.now.nodes }
     requires threads { settings.now.threads ≡ 1 }
-    requires version { settings.now.version ≡ 1 }
     requires zeros { memory.items ≡ replicate settings.now.segment 0 }
     ensures { IfOk result (λ node. IsOpenedNode settings.now me node.value) }
 {

@@ -16,7 +16,6 @@ use Rattle.sim_drill.specs.Rounds.{bare_job, drill_settings, request_handler, re
 
 -- its settings are in range
 pub settings_in_range : AreInRange drill_settings
-unfolding credits_in_all credits_of
 settings_in_range = record {
   version = refl;
   some_node = lit≤ tt;
@@ -26,7 +25,6 @@ settings_in_range = record {
   credits = lit≤ tt;
   pairs = tt;
   few_pairs = lit≤ tt;
-  credits_in_all = lit≤ tt;
   some_thread = lit≤ tt;
   threads = lit≤ tt;
   pages = refl;

@@ -34,7 +34,7 @@ use Rattle.text_job.proofs.HandlerRuns.{few_full, rounds_more}
 use Rattle.text_job.proofs.PlanPieces.{schedule_more as pieces_more, scripts_more}
 use Rattle.text_job.proofs.Threads.{threads_more}
 use Rattle.text_job.proofs.Ranges.{IsNumber, AreNumbers, settings_range, segments_few, fitting, is_pair}
-use Rattle.text_job.proofs.Ranges.{pair_range}
+use Rattle.text_job.proofs.Ranges.{pair_range, sum_behind, not_own}
 
 -- ---- the head
 
@@ -262,13 +262,15 @@ pair_sound job pair is fits low high new few uncollected unscripted none =
     let fit = fitting s pair fits in
     let one = is_pair s pair fit low high in
     let range = pair_range s pair is.settings fit one new few in
+    let sum : credits_in_all (with_pair s pair) ≤ 65536 = rw (sum_behind s pair fit one (not_own s.pairs pair new)) fit.sum
+    in
     record {
       settings = range;
       segment = is.segment;
       segments = is.segments;
       job_fits = is.job_fits;
       last_fits = is.last_fits;
-      sums = λ count. sums_by s pair count (leb count (length s.pairs)) refl is.sums range.credits_in_all;
+      sums = λ count. sums_by s pair count (leb count (length s.pairs)) refl is.sums sum;
       some_patience = is.some_patience;
       patience = is.patience;
       sieve = is.sieve;

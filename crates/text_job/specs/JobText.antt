@@ -26,8 +26,7 @@ use Rattle.text_job.specs.declared.job.NodeScript.{NodeScript}
 use Rattle.text_job.specs.declared.job.SieveRule.{SieveRule}
 use Rattle.text_steps.specs.declared.steps.TimedEvent.{TimedEvent}
 use Rattle.text_job.specs.declared.sections.Section.TheVariants as section
-use Rattle.wire_message.specs.declared.limits.TheConstants.{MAX_CREDITS}
-use Rattle.text_job.specs.declared.head.TheConstants.{MAX_SEGMENT}
+use Rattle.text_job.specs.declared.head.TheConstants.{MAX_CREDITS, MAX_SEGMENT}
 use Rattle.text_job.specs.declared.schedules.TheConstants.{LINES}
 use Rattle.text_job.specs.declared.reading.TheConstants.{MAX_JOB_BYTES}
 

@@ -31,8 +31,7 @@ use Rattle.text_steps.specs.declared.steps.TimedEvent.{TimedEvent}
 use Rattle.text_job.specs.declared.sections.HandlerHeader.{HandlerHeader}
 use Rattle.text_job.specs.declared.sections.Section.{Section}
 use Rattle.text_job.specs.declared.sections.Section.TheVariants as section
-use Rattle.text_job.specs.declared.head.TheConstants.{MAX_SEGMENT}
-use Rattle.wire_message.specs.declared.limits.TheConstants.{MAX_CREDITS}
+use Rattle.text_job.specs.declared.head.TheConstants.{MAX_CREDITS, MAX_SEGMENT}
 
 -- ---- places
 

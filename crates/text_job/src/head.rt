@@ -16,7 +16,10 @@ use crate::forms::{JobForm, Setting};
 use crate::job::{Head, SieveRule};
 use base_text::{LineWhy, Other, ended, name_of, reason_of, words_left};
 use text_calls::number_at;
-use wire_message::{MAX_CREDITS, Settings};
+use wire_message::Settings;
+
+/// The most credits of all ordered pairs of nodes together, which a world opens in one process (profile).
+pub const MAX_CREDITS: u32 = 65_536;
 
 /// The most bytes of a node's segment.
 pub const MAX_SEGMENT: u64 = 67_108_864;

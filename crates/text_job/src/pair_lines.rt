@@ -14,10 +14,11 @@ ghost use Rattle.text_calls.specs.declared.scope.Scope.{Scope as AnyScope};
 
 use crate::fault::JobFault;
 use crate::forms::JobForm;
+use crate::head::MAX_CREDITS;
 use crate::job::Head;
 use base_text::{LineWhy, Other, ended, name_of, reason_of, words_left};
 use text_calls::{number_at, short_at};
-use wire_message::{MAX_CREDITS, PairCredits, Settings};
+use wire_message::{PairCredits, Settings};
 
 /// The most pairs with credits of their own.
 const PAIRS: usize = 64;
@@ -38,8 +39,8 @@ fn pair_fits(settings: &Settings, sum: u32, pair: PairCredits) -> bool
     if pair.from == pair.to {
         return false;
     }
-    let own = u32::from(settings.credits(pair.from, pair.to));
-    sum + u32::from(pair.credits) <= MAX_CREDITS + own
+    let own = u64::from(settings.credits(pair.from, pair.to));
+    u64::from(sum) + u64::from(pair.credits) <= u64::from(MAX_CREDITS) + own
 }
 
 /// Credits behind a space.

@@ -1,26 +1,18 @@
 -- Settings as they are kept, with one more pair.
-use Rattle.std.proofs.Common.{◌≡◌, ℕ, ◌+◌, ◌-◌, ◌<◌, ◌≤◌, List, [], ◌∷◌, Option, Some, None, is_some, false, true≢false}
+use Rattle.std.proofs.Common.{◌≡◌, ℕ, ◌+◌, ◌-◌, ◌<◌, List, [], ◌∷◌, Option, Some, None, is_some, false, true≢false}
 use Rattle.std.proofs.Common.{length, take, drop, set, replicate, refl, sym, ap, subst, ◌∙◌, arith}
 use Rattle.std.proofs.lemmas.List.{take_more_set, drop-set-lt, drop-drop, drop-replicate}
 use Rattle.std.proofs.lemmas.List.{length-append, length-set, length-take-le}
 use Rattle.wire_message.specs.declared.pairs.PairCredits.{PairCredits}
 use Rattle.wire_message.specs.declared.settings.Settings.TheInside.{Inside}
-use Rattle.wire_message.specs.Parameters.{Parameters, AreInRange, IsPair, own_credits, credits_in_all, with_pair}
-use Rattle.wire_message.specs.Parameters.{credits_of, as_version_2}
+use Rattle.wire_message.specs.Parameters.{Parameters, AreInRange, IsPair, own_credits, with_pair, as_version_2}
 use Rattle.wire_message.specs.Stored.{no_pair, parameters_of, IsStored}
-use Rattle.wire_message.proofs.Credits.{pairs_added, last_pair, sum_with_pair}
+use Rattle.wire_message.proofs.Credits.{pairs_added, last_pair}
 
 -- what is none isn't some
 pub is_none_of : (own : Option ℕ) → is_some own ≡ false → own ≡ None
 is_none_of None e = refl
 is_none_of (Some n) e = absurd (true≢false e)
-
--- the sum with one more pair
-pub sum_added : (inside : Inside) (pair : PairCredits) → IsStored inside → IsPair inside.nodes pair
-    → own_credits (take inside.count inside.places) pair.from pair.to ≡ None
-    → credits_in_all (with_pair (parameters_of inside) pair) + inside.credits ≡ inside.sum + pair.credits
-sum_added inside pair is good none =
-    sum_with_pair (parameters_of inside) pair good none ∙ ap (λ n. n + pair.credits) (sym is.sum)
 
 -- there is room for one more
 pub few_places : (inside : Inside) → IsStored inside → inside.count < 64 → length (take inside.count inside.places) < 64
@@ -28,16 +20,15 @@ few_places inside is room =
     omega (arith, length-take-le inside.count inside.places (omega (arith, is.count, is.places)), room)
 
 -- one more pair, at the first empty place
-abbrev pub added : Inside → PairCredits → (sum : ℕ) → Inside
-added inside pair sum = record inside {
+abbrev pub added : Inside → PairCredits → Inside
+added inside pair = record inside {
   places = set inside.places inside.count pair;
   count = inside.count + 1;
-  sum = sum;
 }
 
-pub added_is : (inside : Inside) (pair : PairCredits) (sum : ℕ) → IsStored inside → inside.count < 64
-    → parameters_of (added inside pair sum) ≡ with_pair (parameters_of inside) pair
-added_is inside pair sum is room =
+pub added_is : (inside : Inside) (pair : PairCredits) → IsStored inside → inside.count < 64
+    → parameters_of (added inside pair) ≡ with_pair (parameters_of inside) pair
+added_is inside pair is room =
     ap (λ (pairs : List PairCredits). record (parameters_of inside) { pairs = pairs })
     (take_more_set inside.places inside.count pair (omega (arith, is.places)))
 
@@ -46,7 +37,6 @@ pub record TakesPair (settings : Parameters) (pair : PairCredits) : Type 0 where
   pub is : IsPair settings.nodes pair
   pub none : own_credits settings.pairs pair.from pair.to ≡ None
   pub few : length settings.pairs < 64
-  pub sum : credits_in_all (with_pair settings pair) ≤ 65536
 
 pub takes_of : (inside : Inside) (settings : Parameters) (pair : PairCredits) → parameters_of inside ≡ settings
     → AreInRange (with_pair settings pair) → TakesPair (parameters_of inside) pair
@@ -58,7 +48,6 @@ takes_of inside settings pair same range =
       is = last.is;
       none = last.none;
       few = omega (arith, length-append (parameters_of inside).pairs (pair ∷ []), more.few_pairs);
-      sum = more.credits_in_all;
     }
 
 pub range_added : (settings : Parameters) (pair : PairCredits) → AreInRange settings → TakesPair settings pair
@@ -72,7 +61,6 @@ range_added settings pair range takes = record {
   credits = range.credits;
   pairs = pairs_added settings.nodes settings.pairs pair range.pairs takes.is takes.none;
   few_pairs = omega (arith, length-append settings.pairs (pair ∷ []), takes.few);
-  credits_in_all = takes.sum;
   some_thread = range.some_thread;
   threads = range.threads;
   pages = range.pages;
@@ -83,11 +71,10 @@ range_added settings pair range takes = record {
   resend = range.resend;
 }
 
-pub stored_added : (inside : Inside) (pair : PairCredits) (sum : ℕ) → IsStored inside → inside.count < 64
-    → TakesPair (parameters_of inside) pair → sum ≡ credits_in_all (with_pair (parameters_of inside) pair)
-    → IsStored (added inside pair sum)
-stored_added inside pair sum is room takes total =
-    let same = added_is inside pair sum is room in
+pub stored_added : (inside : Inside) (pair : PairCredits) → IsStored inside → inside.count < 64
+    → TakesPair (parameters_of inside) pair → IsStored (added inside pair)
+stored_added inside pair is room takes =
+    let same = added_is inside pair is room in
     record {
       range = subst AreInRange (sym same) (range_added (parameters_of inside) pair is.range takes);
       places = omega (arith, length-set inside.places inside.count pair, is.places);
@@ -97,15 +84,9 @@ stored_added inside pair sum is room takes total =
           ∙ (sym (drop-drop 1 inside.count inside.places)
           ∙ (ap (drop 1) is.rest
           ∙ (drop-replicate 1 (64 - inside.count) no_pair ∙ ap (λ n. replicate n no_pair) (omega arith))));
-      sum = total ∙ ap credits_in_all (sym same);
     }
 
 -- ---- another version
-
--- the credits of all pairs are no matter of the version
-upgraded_credits : (settings : Parameters) → credits_in_all (as_version_2 settings) ≡ credits_in_all settings
-unfolding credits_in_all credits_of
-upgraded_credits settings = refl
 
 -- settings within their limits are so in version 2
 pub upgraded_range : (settings : Parameters) → AreInRange settings → AreInRange (as_version_2 settings)
@@ -118,7 +99,6 @@ upgraded_range settings range = record {
   credits = range.credits;
   pairs = range.pairs;
   few_pairs = range.few_pairs;
-  credits_in_all = rw (upgraded_credits settings) range.credits_in_all;
   some_thread = range.some_thread;
   threads = range.threads;
   pages = range.pages;
@@ -136,5 +116,4 @@ upgraded_stored inside is = record {
   places = is.places;
   count = is.count;
   rest = is.rest;
-  sum = is.sum ∙ sym (upgraded_credits (parameters_of inside));
 }

@@ -4,7 +4,6 @@ use Rattle.std.specs.Prelude.{length, Option, None, Some, unwrap_or}
 use Rattle.base_lists.specs.Sums.{sum_below}
 use Rattle.wire_message.specs.declared.pairs.PairCredits.{PairCredits}
 use Rattle.wire_message.specs.Content.{is_version}
-use Rattle.wire_message.specs.declared.limits.TheConstants.{MAX_CREDITS}
 
 -- the version of the datagrams, the job's number, its nodes, the credits of each ordered pair of nodes that has none of
 -- its own, the pairs that have, in the order in which they were set, the threads of each node, the bytes of each
@@ -65,7 +64,7 @@ ArePairs nodes [] = Unit {0}
 ArePairs nodes (pair ∷ pairs) =
     IsPair nodes pair × (own_credits pairs pair.from pair.to ≡ None) × ArePairs nodes pairs
 
--- each number is within its limits, and so are the credits of all nodes together
+-- each number is within its limits
 pub record AreInRange (asked : Parameters) : Type 0 where
   pub version : is_version asked.version ≡ true
   pub some_node : 1 ≤ asked.nodes
@@ -75,7 +74,6 @@ pub record AreInRange (asked : Parameters) : Type 0 where
   pub credits : asked.credits ≤ 32
   pub pairs : ArePairs asked.nodes asked.pairs
   pub few_pairs : length asked.pairs ≤ 64
-  pub credits_in_all : credits_in_all asked ≤ MAX_CREDITS
   pub some_thread : 1 ≤ asked.threads
   pub threads : asked.threads ≤ 16
   pub pages : asked.segment % 4096 ≡ 0

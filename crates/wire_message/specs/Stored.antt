@@ -1,7 +1,7 @@
 -- How the settings are kept.
 use Rattle.std.specs.Prelude.{◌≡◌, ◌-◌, ◌≤◌, List, ◌++◌, take, drop, length, replicate}
 use Rattle.std.proofs.Common.{ap, sym, ◌∙◌, arith, take-append-drop, length-take-le}
-use Rattle.wire_message.specs.Parameters.{Parameters, AreInRange, credits_in_all}
+use Rattle.wire_message.specs.Parameters.{Parameters, AreInRange}
 use Rattle.wire_message.specs.declared.pairs.PairCredits.{PairCredits}
 use Rattle.wire_message.specs.declared.settings.Settings.TheInside.{Inside}
 
@@ -23,13 +23,12 @@ parameters_of inside = record {
   resend = inside.resend;
 }
 
--- they are within their limits; the places behind the pairs are empty, and the sum is that of the settings
+-- they are within their limits, and the places behind the pairs are empty
 pub record IsStored (inside : Inside) : Type 0 where
   pub range : AreInRange (parameters_of inside)
   pub places : length inside.places ≡ 64
   pub count : inside.count ≤ 64
   pub rest : drop inside.count inside.places ≡ replicate (64 - inside.count) no_pair
-  pub sum : inside.sum ≡ credits_in_all (parameters_of inside)
 
 -- the places of these pairs
 abbrev pub places_of : List PairCredits → List PairCredits

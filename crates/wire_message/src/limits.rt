@@ -5,6 +5,3 @@ pub const MAX_PAYLOAD: usize = 8192;
 
 /// The most bytes of a datagram: a header of 40, 16 arguments of 4, and a payload (profile).
 pub const MAX_DATAGRAM: usize = 40 + 16 * 4 + MAX_PAYLOAD;
-
-/// The most credits of all ordered pairs of nodes together (profile).
-pub const MAX_CREDITS: u32 = 65_536;

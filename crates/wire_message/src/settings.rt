@@ -7,7 +7,6 @@ ghost use Rattle.wire_message.specs.declared.pairs.PairCredits.{PairCredits};
 ghost use Rattle.wire_message.specs.Content.{is_version};
 
 use crate::kind::is_version;
-use crate::limits::MAX_CREDITS;
 use crate::pairs::{PairCredits, own_credits};
 use std::marker::Model;
 
@@ -31,7 +30,7 @@ const NO_PAIR: PairCredits = PairCredits {
 /// | version of the datagrams | 1 or 2 |
 /// | job | any |
 /// | nodes | 1 to 64 in version 1, 1 to 256 in version 2 |
-/// | credits of each ordered pair of nodes | 1 to 32, and at most 65,536 over all pairs |
+/// | credits of each ordered pair of nodes | 1 to 32 |
 /// | pairs with credits of their own | at most 64 |
 /// | threads of each node | 1 to 16 |
 /// | bytes of each node's segment | a multiple of 4,096, from 4,096 to 2^40 |
@@ -46,8 +45,6 @@ pub struct Settings {
     // the pairs with credits of their own, and how many they are; the places behind them are empty
     places: [PairCredits; PLACES],
     count: usize,
-    // the credits of all pairs together
-    sum: u32,
     threads: u16,
     segment: u64,
     last: u64,
@@ -56,8 +53,8 @@ pub struct Settings {
 
 impl Model for Settings {
     ghost use Rattle.std.specs.Prelude.{◌++◌, ◌-◌, replicate, length};
-    ghost use Rattle.std.proofs.Common.{ap, ◌∙◌, sym, take-append-drop, length-take-le, arith};
-    ghost use Rattle.wire_message.specs.Parameters.{Parameters, credits_in_all};
+    ghost use Rattle.std.proofs.Common.{ap, ◌∙◌, take-append-drop, length-take-le, arith};
+    ghost use Rattle.wire_message.specs.Parameters.{Parameters};
 
     ghost Value = { Parameters };
 
@@ -73,7 +70,6 @@ impl Model for Settings {
       credits = p.credits;
       places = places_of p.pairs;
       count = length p.pairs;
-      sum = credits_in_all p;
       threads = p.threads;
       segment = p.segment;
       last = p.last;
@@ -87,7 +83,6 @@ impl Model for Settings {
       credits = s.credits;
       places = places_back s h i;
       count = length-take-le s.count s.places (omega (arith, h.count, h.places)) i;
-      sum = sym h.sum i;
       threads = s.threads;
       segment = s.segment;
       last = s.last;
@@ -143,10 +138,6 @@ impl Settings {
         if credits < 1 || credits > 32 {
             return None;
         }
-        let sum = u32::from(nodes) * u32::from(nodes - 1) * u32::from(credits);
-        if sum > MAX_CREDITS {
-            return None;
-        }
         if threads < 1 || threads > 16 {
             return None;
         }
@@ -169,7 +160,6 @@ impl Settings {
             credits,
             places: no_places(),
             count: 0,
-            sum,
             threads,
             segment,
             last,
@@ -180,7 +170,7 @@ impl Settings {
     /// The settings where `from` has so many credits towards `to`.
     ///
     /// None exactly where a limit is broken: one of the two is no node, or they are equal; the credits aren't 1 to 32;
-    /// the pair was set before, or 64 pairs were; or all pairs together have more than 65,536 credits.
+    /// the pair was set before, or 64 pairs were.
     pub fn with_pair(&self, from: u16, to: u16, credits: u16) -> Option<Settings>
         ensures { let pair : PairCredits = record { from = from; to = to; credits = credits } in
             let asked = with_pair self.now pair in
@@ -201,16 +191,11 @@ impl Settings {
         if own_credits(&self.places[..self.count], from, to).is_some() {
             return None;
         }
-        let sum = self.sum + u32::from(credits) - u32::from(self.credits);
-        if sum > MAX_CREDITS {
-            return None;
-        }
         let mut places = self.places;
         places[self.count] = PairCredits { from, to, credits };
         Some(Settings {
             places,
             count: self.count + 1,
-            sum,
             ..*self
         })
     }

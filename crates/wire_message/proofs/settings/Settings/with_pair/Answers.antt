@@ -1,10 +1,9 @@
-use Rattle.std.proofs.Common.{◌≡◌, ℕ, ◌+◌, ◌-◌, Option, None, is_some, true≢false}
+use Rattle.std.proofs.Common.{◌≡◌, ℕ, Option, None, is_some, true≢false}
 use Rattle.std.proofs.Common.{sym, ap, subst, ◌∙◌, arith}
 use Rattle.wire_message.specs.declared.pairs.PairCredits.{PairCredits}
-use Rattle.wire_message.specs.declared.settings.Settings.TheInside.{Inside}
-use Rattle.wire_message.specs.Parameters.{Parameters, AreInRange, IsPair, credits_in_all, with_pair}
+use Rattle.wire_message.specs.Parameters.{Parameters, AreInRange, with_pair}
 use Rattle.wire_message.specs.Stored.{parameters_of}
-use Rattle.wire_message.proofs.Keeping.{is_none_of, sum_added, few_places, added_is, takes_of, TakesPair}
+use Rattle.wire_message.proofs.Keeping.{is_none_of, few_places, added_is, takes_of, TakesPair}
 use Rattle.wire_message.proofs.Keeping.{range_added, stored_added}
 use Rattle.wire_message.proofs.settings.Settings.with_pair.Goals as goal
 use Rattle.wire_message.proofs.settings.Settings.with_pair.Goals.{then-from-self-via-then-from-self}
@@ -47,69 +46,34 @@ returns-then-is_some c = λ range.
     let none : c.own_credits.result ≡ None = c.own_credits.ensures ∙ takes.none in
     true≢false (sym c.if-is_some.true ∙ (c.is_some.ensures ∙ ap (λ (own : Option ℕ). is_some own) none))
 
-pub overflow_sub-sum : goal.overflow_sub-sum
-overflow_sub-sum c =
-    let pair = pair_of c.args.from c.args.to c.args.credits in
-    let none = sym c.own_credits.ensures
-    ∙ is_none_of c.own_credits.result (sym c.is_some.ensures ∙ c.if-is_some.false) in
-    let total = sum_added c.self.inside pair c.self.invariant (record {
-      from = c.if-from-self.false;
-      to = c.if-to-self.false;
-      apart = c.if-from-to.false;
-      some_credit = c.if-credits-lt1.false;
-      credits = c.if-credits-gt32.false;
-    }) none in
-    omega (arith, total, c.from.ensures, c.from-2.ensures)
-
-pub returns-then-sum-gt-MAX_CREDITS : goal.returns-then-sum-gt-MAX_CREDITS
-returns-then-sum-gt-MAX_CREDITS c = λ range.
-    let pair = pair_of c.args.from c.args.to c.args.credits in
-    let takes = takes_of c.self.inside c.args.self.now pair c.self.view_is range in
-    let total = sum_added c.self.inside pair c.self.invariant takes.is takes.none in
-    omega (arith, total, takes.sum, c.from.ensures, c.from-2.ensures, c.if-sum-gt-MAX_CREDITS.true)
-
--- what was asked is taken, and the sum is that of the settings then
-record Taken (inside : Inside) (pair : PairCredits) (sum : ℕ) : Type 0 where
-  pub takes : TakesPair (parameters_of inside) pair
-  pub total : sum ≡ credits_in_all (with_pair (parameters_of inside) pair)
-
+-- what was asked is taken
 taken : (c : goal.After-places-1)
-    → Taken c.self.inside (pair_of c.args.from c.args.to c.args.credits)
-    (c.self.inside.sum + c.from.result - c.from-2.result)
+    → TakesPair (parameters_of c.self.inside) (pair_of c.args.from c.args.to c.args.credits)
 taken c =
-    let pair = pair_of c.args.from c.args.to c.args.credits in
-    let good : IsPair c.self.inside.nodes pair = record {
-      from = c.if-from-self.false;
-      to = c.if-to-self.false;
-      apart = c.if-from-to.false;
-      some_credit = c.if-credits-lt1.false;
-      credits = c.if-credits-gt32.false;
-    } in
     let none = sym c.own_credits.ensures
     ∙ is_none_of c.own_credits.result (sym c.is_some.ensures ∙ c.if-is_some.false) in
-    let total = sum_added c.self.inside pair c.self.invariant good none in
     record {
-      takes = record {
-        is = good;
-        none = none;
-        few = few_places c.self.inside c.self.invariant c.if-self-ge-PLACES.false;
-        sum = omega (arith, total, c.from.ensures, c.from-2.ensures, c.if-sum-gt-MAX_CREDITS.false);
+      is = record {
+        from = c.if-from-self.false;
+        to = c.if-to-self.false;
+        apart = c.if-from-to.false;
+        some_credit = c.if-credits-lt1.false;
+        credits = c.if-credits-gt32.false;
       };
-      total = omega (arith, total, c.from.ensures, c.from-2.ensures);
+      none = none;
+      few = few_places c.self.inside c.self.invariant c.if-self-ge-PLACES.false;
     }
 
 pub invariant_of-result : goal.invariant_of-result
 invariant_of-result c =
     let pair = pair_of c.args.from c.args.to c.args.credits in
-    let sum = c.self.inside.sum + c.from.result - c.from-2.result in
-    stored_added c.self.inside pair sum c.self.invariant c.if-self-ge-PLACES.false (taken c).takes (taken c).total
+    stored_added c.self.inside pair c.self.invariant c.if-self-ge-PLACES.false (taken c)
 
 pub returns : goal.returns
 returns c =
-    let pair = pair_of c.args.from c.args.to c.args.credits in
-    let sum = c.self.inside.sum + c.from.result - c.from-2.result in (
-      added_is c.self.inside pair sum c.self.invariant c.if-self-ge-PLACES.false
+    let pair = pair_of c.args.from c.args.to c.args.credits in (
+      added_is c.self.inside pair c.self.invariant c.if-self-ge-PLACES.false
           ∙ ap (λ (all : Parameters). with_pair all pair) c.self.view_is,
       subst (λ (all : Parameters). AreInRange (with_pair all pair)) c.self.view_is
-          (range_added (parameters_of c.self.inside) pair c.self.invariant.range (taken c).takes),
+          (range_added (parameters_of c.self.inside) pair c.self.invariant.range (taken c)),
     )
