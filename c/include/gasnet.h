@@ -55,7 +55,7 @@ extern "C" {
 #define GASNET_SEGMENT_LARGE 1
 #define GASNET_ALIGNED_SEGMENTS 0
 #define GASNET_PAGESIZE 4096
-#define GASNET_MAXNODES 64
+#define GASNET_MAXNODES 256
 
 /* ---- Types of the core API. */
 

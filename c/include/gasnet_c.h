@@ -178,10 +178,9 @@ enum {
 enum {
     GASNET_C_ROOM = 8296,    /* the bytes that a datagram has at most: give this room */
     GASNET_C_PAYLOAD = 8192, /* the bytes of a payload, and of a chunk, at most */
-    GASNET_C_MAX_NODES = 64,
+    GASNET_C_MAX_NODES = 256,
     GASNET_C_MAX_CREDITS = 32,
-    GASNET_C_ALL_CREDITS = 65536, /* over all ordered pairs of nodes */
-    GASNET_C_OPERATIONS = 256,    /* how many transfers of a node may stand, from their beginning to their sync */
+    GASNET_C_OPERATIONS = 256, /* how many transfers of a node may stand, from their beginning to their sync */
     /* The handlers of operations on words: datagrams for them are delivered by gasnet_c_serve. */
     GASNET_C_BATCH_HANDLER = 252,
     GASNET_C_BLOCK_HANDLER = 253,

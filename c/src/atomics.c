@@ -13,13 +13,15 @@ enum { WORD = 8 };
 
 /* ---- Blocks. */
 
-void gasnetl_atomics_start(struct gasnetl_atomics *atomics, const struct gasnetl_messages *messages) {
-    memset(atomics, 0, sizeof *atomics);
+void gasnetl_atomics_start(struct gasnetl_atomics *atomics, const struct gasnetl_messages *messages,
+                           gasnet_node_t nodes) {
+    const unsigned blocks = nodes * (unsigned)GASNET_C_MAX_CREDITS;
+    *atomics = (struct gasnetl_atomics){ .blocks = atomics->blocks, .owner = atomics->owner };
     atomics->served = !messages->handlers[GASNET_C_BATCH_HANDLER] && !messages->handlers[GASNET_C_BLOCK_HANDLER];
-    for (uint16_t i = 0; i < GASNETL_BLOCKS; i++)
-        atomics->blocks[i].next = i + 1 < GASNETL_BLOCKS ? (uint16_t)(i + 1) : GASNETL_NONE;
+    for (uint16_t i = 0; i < blocks; i++)
+        atomics->blocks[i].next = i + 1u < blocks ? (uint16_t)(i + 1) : GASNETL_NONE;
     atomics->swapping = GASNETL_NONE;
-    memset(atomics->owner, 0xff, sizeof atomics->owner);
+    memset(atomics->owner, 0xff, nodes * sizeof *atomics->owner);
 }
 
 /* Where a block stands in the local segment. */

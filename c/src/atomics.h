@@ -51,16 +51,16 @@ struct gasnetl_known {
 struct gasnetl_atomics {
     bool served; /* the client has no handlers of its own at their indexes */
     uint64_t tag;
-    struct gasnetl_block blocks[GASNETL_BLOCKS];
+    struct gasnetl_block *blocks; /* GASNET_C_MAX_CREDITS for each node */
     uint16_t free;
     uint16_t swapping; /* the first ones of each word on which a compare-and-swap is out */
     struct gasnetl_known known;
-    uint16_t owner[GASNET_MAXNODES]
-                  [GASNET_C_MAX_CREDITS]; /* whose block waits for the request in a slot, or GASNETL_NONE */
+    uint16_t (*owner)[GASNET_C_MAX_CREDITS]; /* whose block waits for the request in a slot, or GASNETL_NONE */
 };
 
-/* Makes ready, where the client's handlers are registered. */
-void gasnetl_atomics_start(struct gasnetl_atomics *atomics, const struct gasnetl_messages *messages);
+/* Makes ready, where the client's handlers are registered, and the tables for so many nodes are made. */
+void gasnetl_atomics_start(struct gasnetl_atomics *atomics, const struct gasnetl_messages *messages,
+                           gasnet_node_t nodes);
 
 /* Whether a handler's index is one of theirs. */
 static inline bool gasnetl_is_atomic(int index) {

@@ -36,25 +36,26 @@ enum gasnetl_came {
 };
 
 struct gasnetl_control {
-    uint64_t run;                    /* this node's number, not 0 */
-    uint64_t runs[GASNET_MAXNODES];  /* the peers', each from its first fresh datagram; 0 before */
-    uint64_t heard[GASNET_MAXNODES]; /* what a peer's last datagram before that named */
-    uint8_t job[8];                  /* the number of the endpoint's job, as its messages have it; 0 before */
-    enum gasnetl_came came[GASNET_MAXNODES];
+    uint64_t run;            /* this node's number, not 0 */
+    uint8_t job[8];          /* the number of the endpoint's job, as its messages have it; 0 before */
     bool has_size, has_base; /* the local segment's size is fixed; it is placed */
-    bool knows_size[GASNET_MAXNODES], knows_base[GASNET_MAXNODES];
-    bool is_ready;                     /* this node knows the places of all, and takes the endpoint's datagrams */
-    bool is_meeting;                   /* it is in gasnet_attach still */
-    bool knows_ready[GASNET_MAXNODES]; /* the peer said that it is ready */
-    bool knows_we_are_ready[GASNET_MAXNODES]; /* it said that it heard that this node is */
-    bool has_left[GASNET_MAXNODES];           /* the peer said that it ends */
-    bool knows_we_left[GASNET_MAXNODES];      /* the peer said that it heard that we end */
-    atomic_int code;                          /* with which we end */
-    struct gasnetl_way ways[GASNET_MAXNODES]; /* complete where all sizes are known */
-    uint32_t mtu[GASNET_MAXNODES];            /* that this node found of the way to the peer */
-    uint64_t buffer;                          /* the bytes that each peer may have on the way to this node */
+    bool is_ready;           /* this node knows the places of all, and takes the endpoint's datagrams */
+    bool is_meeting;         /* it is in gasnet_attach still */
+    atomic_int code;         /* with which we end */
+    uint64_t buffer;         /* the bytes that each peer may have on the way to this node */
     _Atomic uint32_t
         message; /* the most bytes of a message to any peer whose datagram is one packet, as far as known */
+    /* Of each node: */
+    uint64_t *runs;  /* the peers', each from its first fresh datagram; 0 before */
+    uint64_t *heard; /* what a peer's last datagram before that named */
+    enum gasnetl_came *came;
+    bool *knows_size, *knows_base;
+    bool *knows_ready;        /* the peer said that it is ready */
+    bool *knows_we_are_ready; /* it said that it heard that this node is */
+    bool *has_left;           /* the peer said that it ends */
+    bool *knows_we_left;      /* the peer said that it heard that we end */
+    struct gasnetl_way *ways; /* complete where all sizes are known */
+    uint32_t *mtu;            /* that this node found of the way to the peer */
 };
 
 /* Draws this node's run, and finds what it can know of the ways to the others. False where the system has no random

@@ -37,7 +37,7 @@ static void write_addresses(char *at, const char *text, unsigned port) {
 static const char *take_hosts(struct gasnetl_hosts *hosts, const char *text, uint64_t port) {
     size_t count = count_of(text);
     if (!count || count > GASNET_C_MAX_NODES)
-        return "it has no host, or more than 64";
+        return "it has no host, or more than 256";
     hosts->addresses = malloc(strlen(text) + count * PORT_BYTES + 1);
     if (!hosts->addresses)
         return "there is no memory";

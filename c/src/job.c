@@ -50,11 +50,31 @@ static void tell_most(const struct gasnetl_job *job, uintptr_t segsize) {
                      (size_t)(segment->most / MEBIBYTE), (size_t)(segment->asked / MEBIBYTE));
 }
 
+/* Has a table with an entry of zeros for each node, in place of an earlier one. Whether there is memory for it. */
+#define MAKES(table) (free(table), ((table) = calloc(job->nodes, sizeof *(table))) != NULL)
+
+/* Makes what has an entry for each node: what a job of few nodes doesn't use costs it nothing. */
+static bool make_tables(struct gasnetl_job *job) {
+    struct gasnetl_control *control = &job->control;
+    struct gasnetl_atomics *atomics = &job->atomics;
+    free(atomics->blocks);
+    atomics->blocks = calloc((size_t)job->nodes * GASNET_C_MAX_CREDITS, sizeof *atomics->blocks);
+    return atomics->blocks && MAKES(atomics->owner) && MAKES(control->runs) && MAKES(control->heard) &&
+           MAKES(control->came) && MAKES(control->knows_size) && MAKES(control->knows_base) &&
+           MAKES(control->knows_ready) && MAKES(control->knows_we_are_ready) && MAKES(control->has_left) &&
+           MAKES(control->knows_we_left) && MAKES(control->ways) && MAKES(control->mtu) && MAKES(job->segment.bases) &&
+           MAKES(job->segment.sizes) && MAKES(job->transfers.lanes) && MAKES(job->recovery.paths) &&
+           MAKES(job->peers.of) && MAKES(job->packs.serves) && MAKES(job->packs.lanes) &&
+           MAKES(job->network.is_unsealed) && MAKES(job->network.single_from);
+}
+
 static int start(struct gasnetl_job *job, int threaded) {
     if (!gasnetl_config_read(&job->config) || !gasnetl_bootstrap(&job->start, &job->network.places))
         return GASNET_ERR_BAD_ARG;
     job->me = job->start.me;
     job->nodes = job->start.nodes;
+    if (!make_tables(job))
+        return gasnetl_refuse(GASNET_ERR_RESOURCE, "there is no memory for the tables of %u nodes", job->nodes);
     bool has_launcher = job->start.by_pmix || getenv("GASNET_RUNNER");
     if (!job->me || !has_launcher) /* what a launcher hands on, one node tells for all */
         gasnetl_warn_of_names();
@@ -159,7 +179,7 @@ static int open_endpoint(struct gasnetl_job *job, uintptr_t minheapoffset) {
 /* Has the turn, which it gives away while it waits for the others. */
 static int attach(struct gasnetl_job *job, uintptr_t segsize, uintptr_t minheapoffset) {
     tell_most(job, segsize);
-    gasnetl_atomics_start(&job->atomics, &job->messages);
+    gasnetl_atomics_start(&job->atomics, &job->messages, job->nodes);
     gasnetl_packs_start(&job->packs, &job->messages);
     gasnetl_collectives_start(job);
     job->segment.size = segsize;

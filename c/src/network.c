@@ -102,7 +102,7 @@ static void tell_refusals(struct gasnetl_network *network) {
 static void ask_for_groups(struct gasnetl_network *network) {
     int yes = 1, each;
     socklen_t length = sizeof each;
-    for (int node = 0; node < GASNET_C_MAX_NODES; node++)
+    for (int node = 0; node < network->places.nodes; node++)
         network->single_from[node] = SIZE_MAX;
     network->has_groups = !getsockopt(network->socket, IPPROTO_UDP, UDP_SEGMENT, &each, &length) &&
                           !setsockopt(network->socket, IPPROTO_UDP, UDP_GRO, &yes, sizeof yes);

@@ -57,11 +57,11 @@ struct gasnetl_network {
     bool is_connected; /* to the only peer */
     struct gasnetl_places places;
     struct gasnetl_faults faults;
-    gasnetl_came_back *came_back;           /* takes what came back; NULL where nobody does */
-    struct gasnetl_job *job;                /* what it is handed */
-    bool is_unsealed[GASNET_C_MAX_NODES];   /* a datagram without a right tag came from the node's address */
-    size_t single_from[GASNET_C_MAX_NODES]; /* the way to the node has no groups of datagrams of so many bytes */
-    struct gasnetl_key key;                 /* where one is set, datagrams are sealed under it */
+    gasnetl_came_back *came_back; /* takes what came back; NULL where nobody does */
+    struct gasnetl_job *job;      /* what it is handed */
+    bool *is_unsealed;            /* of each node: a datagram without a right tag came from its address */
+    size_t *single_from;          /* the way to the node has no groups of datagrams of so many bytes */
+    struct gasnetl_key key;       /* where one is set, datagrams are sealed under it */
     struct gasnetl_going going;
     struct gasnetl_coming coming;
     uint64_t sent, received, strays, unsealed, unsent;

@@ -68,9 +68,9 @@ struct gasnetl_pack_lane {
 };
 
 struct gasnetl_packs {
-    bool served;                  /* the client has no handler of its own at their index */
-    bool serves[GASNET_MAXNODES]; /* the same of the peers, as they said */
-    struct gasnetl_pack_lane lanes[GASNET_MAXNODES];
+    bool served;  /* the client has no handler of its own at their index */
+    bool *serves; /* the same of each node, as it said */
+    struct gasnetl_pack_lane *lanes;
     struct gasnetl_packing *free;
     struct gasnetl_runs runs;        /* of the pack that is made */
     uint8_t bytes[GASNET_C_PAYLOAD]; /* its payload, or that of a reply */

@@ -35,7 +35,7 @@ struct gasnetl_peer {
 };
 
 struct gasnetl_peers {
-    struct gasnetl_peer of[GASNET_MAXNODES];
+    struct gasnetl_peer *of;       /* of each node */
     uint64_t last_look, next_look; /* in microseconds */
     bool has_doubts;               /* some peer is doubted */
 };

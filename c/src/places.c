@@ -127,8 +127,9 @@ static bool read_next(struct gasnetl_places *places, uint16_t node, const char *
 
 bool gasnetl_places_read(struct gasnetl_places *places, uint16_t nodes, const char *text, struct gasnetl_why *why) {
     places->nodes = nodes;
+    places->of = calloc(nodes, sizeof *places->of);
     places->first = malloc(PORTS * sizeof *places->first);
-    if (!places->first)
+    if (!places->of || !places->first)
         return say(why, "there is no memory");
     memset(places->first, 0xff, PORTS * sizeof *places->first);
     for (uint16_t node = 0; node < nodes; node++)

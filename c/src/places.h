@@ -19,8 +19,8 @@ struct gasnetl_place {
 
 struct gasnetl_places {
     uint16_t nodes;
-    struct gasnetl_place of[GASNET_C_MAX_NODES];
-    uint16_t *first; /* for each port the first node that has it, or GASNETL_NO_NODE */
+    struct gasnetl_place *of; /* of each node */
+    uint16_t *first;          /* for each port the first node that has it, or GASNETL_NO_NODE */
 };
 
 /* What is wrong with addresses, as a part of a sentence. */

@@ -47,8 +47,6 @@ void gasnetl_progress_start(struct gasnetl_job *job) {
     long processors = sysconf(_SC_NPROCESSORS_ONLN);
     unsigned neighbours = job->start.neighbours ? job->start.neighbours : job->nodes;
     progress->credits = job->config.credits;
-    while (progress->credits > 1 && job->nodes * (job->nodes - 1u) * progress->credits > GASNET_C_ALL_CREDITS)
-        progress->credits--;
     atomic_init(&progress->wait_mode, GASNET_WAIT_SPINBLOCK);
     progress->spin = SPIN;
     if (job->config.spin >= 0)

@@ -59,12 +59,11 @@ static unsigned most_to(const struct gasnetl_job *job, uint16_t to) {
 
 void gasnetl_recovery_start(struct gasnetl_job *job) {
     struct gasnetl_recovery *recovery = &job->recovery;
-    memset(recovery, 0, sizeof *recovery);
     recovery->next_look = UINT64_MAX;
     for (uint16_t node = 0; node < job->nodes; node++) {
         struct gasnetl_path *path = &recovery->paths[node];
-        path->lost = path->flights[GASNETL_BY_LIBRARY].sequence = path->flights[GASNETL_BY_CLIENT].sequence = nothing;
-        path->wanted = UNHARMED;
+        *path = (struct gasnetl_path){ .wanted = UNHARMED, .lost = nothing };
+        path->flights[GASNETL_BY_LIBRARY].sequence = path->flights[GASNETL_BY_CLIENT].sequence = nothing;
     }
 }
 

@@ -62,8 +62,8 @@ struct gasnetl_path {
 };
 
 struct gasnetl_recovery {
-    struct gasnetl_path paths[GASNET_MAXNODES];
-    uint64_t next_look; /* nothing is due before, in microseconds */
+    struct gasnetl_path *paths; /* to each node */
+    uint64_t next_look;         /* nothing is due before, in microseconds */
 };
 
 /* Makes ready, before this node greets the others. */

@@ -15,8 +15,8 @@ struct gasnetl_segment {
     uintptr_t size;        /* of the client's part */
     uintptr_t asked, most; /* the greatest client's part: as it is asked of the system, and as that gives it */
     uint64_t stage;        /* the same offset on all nodes: behind the greatest client's part */
-    uint8_t *bases[GASNET_MAXNODES];
-    uintptr_t sizes[GASNET_MAXNODES];
+    uint8_t **bases;       /* of each node */
+    uintptr_t *sizes;
 };
 
 /* How many bytes of a segment of so many the system gives: all, or a half, or a half of that, and so on, down to a

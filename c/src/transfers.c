@@ -9,6 +9,7 @@
 enum { BLOCK = 64 }; /* operations, or transfers, that are allocated at once */
 
 _Static_assert(GASNET_C_MAX_CREDITS <= 32, "a piece has a bit for each slot");
+_Static_assert(GASNET_MAXNODES - 1 <= GASNETL_PIECES, "each peer has a place of its own");
 
 /* ---- Operations. */
 
@@ -340,13 +341,13 @@ void gasnetl_transfer(struct gasnetl_job *job, struct gasnetl_op *op, const stru
 
 void gasnetl_transfers_start(struct gasnetl_transfers *transfers, gasnet_node_t nodes) {
     unsigned peers = nodes > 1 ? nodes - 1u : 1;
-    memset(transfers, 0, sizeof *transfers);
-    transfers->own = (uint16_t)(GASNETL_PIECES / 2 / peers);
+    *transfers = (struct gasnetl_transfers){ .lanes = transfers->lanes };
+    transfers->own = (uint16_t)(GASNETL_PIECES / 2 / peers ? GASNETL_PIECES / 2 / peers : 1);
     transfers->common = (uint16_t)(GASNETL_PIECES - transfers->own * peers);
     transfers->asks_again = GASNETL_NONE;
     for (uint16_t i = 0; i < GASNETL_PIECES; i++)
         transfers->pieces[i].next = i + 1 < GASNETL_PIECES ? (uint16_t)(i + 1) : GASNETL_NONE;
-    for (uint16_t node = 0; node < GASNET_MAXNODES; node++) {
+    for (uint16_t node = 0; node < nodes; node++) {
         transfers->lanes[node].sending = GASNETL_NONE;
         memset(transfers->lanes[node].hints, 0xff, sizeof transfers->lanes[node].hints);
     }

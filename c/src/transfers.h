@@ -78,16 +78,16 @@ struct gasnetl_lane {
 
 struct gasnetl_transfers {
     struct gasnetl_piece pieces[GASNETL_PIECES];
-    uint16_t free;       /* the first free place */
-    uint16_t own;        /* how many places each peer has of its own */
-    uint16_t common;     /* how many of the others are free */
-    uint16_t asks_again; /* the pieces of which all chunks seem to be back, and the endpoint says otherwise */
-    struct gasnetl_lane lanes[GASNET_MAXNODES];
+    uint16_t free;              /* the first free place */
+    uint16_t own;               /* how many places each peer has of its own */
+    uint16_t common;            /* how many of the others are free */
+    uint16_t asks_again;        /* the pieces of which all chunks seem to be back, and the endpoint says otherwise */
+    struct gasnetl_lane *lanes; /* of each node */
     struct gasnetl_transfer *spare, *blocks;
     struct gasnetl_ops ops;
 };
 
-/* Makes ready for a job of so many nodes. */
+/* Makes ready for a job of so many nodes, whose lanes are made. */
 void gasnetl_transfers_start(struct gasnetl_transfers *transfers, gasnet_node_t nodes);
 
 /* Whether some piece to this node has a chunk to send. */

@@ -17,7 +17,7 @@ struct caf_operation {
     int code;       /* what stopped it: 0, CAF_STAT_STOPPED_IMAGE or CAF_STAT_FAILED_IMAGE */
 };
 
-enum { CAF_STEPS = 256 }; /* the steps of a block; a step is one message from one member to another one */
+enum { CAF_STEPS = 1024 }; /* the steps of a block; a step is one message from one member to another one */
 
 struct caf_mail {
     struct caf_mail *next;

@@ -7,7 +7,8 @@
 
 #include "gasnet.h"
 
-enum { CAF_ROUNDS = 6, CAF_INITIAL_TEAM = -1 };
+enum { CAF_ROUNDS = 8, CAF_INITIAL_TEAM = -1 }; /* rounds: so many that each member hears of each */
+_Static_assert(1 << CAF_ROUNDS >= GASNET_MAXNODES, "a barrier has a round for each doubling of the members");
 
 struct caf_mail;
 
