@@ -42,6 +42,6 @@ pub use part_handlers::{
     CallKind, Cells, Context, Entry, EntryFault, Fault, Forbidden, Handlers, Incoming, LockAnswer,
     LockFault, Log, Replied, Reply, Role, Serves, Table, Token, UnlockAnswer, Violation, Which,
 };
-pub use part_segment::{Bytes, Offset, Outside, PartFault, Plain, Segment, TypedFault};
+pub use part_segment::{Bytes, Offset, Outside, Plain, Segment, TypedFault};
 pub use part_transfers::{Handle, ImplicitKinds, Synced, Transfer};
 pub use wire_message::{BarrierNotification, PairCredits, Refused, Settings};

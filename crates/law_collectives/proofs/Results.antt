@@ -7,7 +7,7 @@ use Rattle.wire_message.specs.Parameters.{Parameters}
 use Rattle.part_segment.specs.Bytes.{part, with_part}
 use Rattle.part_segment.specs.Image.{Write, image, written_by}
 use Rattle.part_segment.proofs.Images.{image-append, length-image}
-use Rattle.part_segment.proofs.TwoLists.{with_none}
+use Rattle.part_segment.proofs.Lists.{with_none}
 use Rattle.part_handlers.specs.declared.table.Entry.{Entry}
 use Rattle.part_handlers.specs.Runs.{Meaning}
 use Rattle.base_lists.proofs.Put.{put_same}

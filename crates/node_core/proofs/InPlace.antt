@@ -10,7 +10,7 @@ use Rattle.part_segment.specs.Bytes.{part, with_part}
 use Rattle.part_segment.specs.Image.{Write, AllFit, overwritten, written_by}
 use Rattle.part_segment.proofs.Lengths.{length-with_part}
 use Rattle.part_segment.proofs.Images.{all_fit-append, all_fit_none, all_fit_one}
-use Rattle.part_segment.proofs.TwoLists.{with_part-append}
+use Rattle.part_segment.proofs.Lists.{with_part-append}
 use Rattle.part_handlers.specs.declared.rules.Role.{Role}
 use Rattle.part_handlers.specs.declared.rules.Role.TheVariants as role
 use Rattle.part_handlers.specs.Runs.{Frame, Outcome, Meaning, IsLawfulMeaning, IsPlaced, after_return}

@@ -66,10 +66,6 @@ abbrev pub long_asking : (handler : ℕ) → List ℤ → PayloadFrom → (offse
 long_asking handler args payload offset =
     record { category = Long; handler = handler; args = args; payload = payload; offset = offset }
 
--- a Short request that a thread asks of a node
-abbrev pub short_ask : (thread to handler : ℕ) → List ℤ → Ask
-short_ask thread to handler args = asks_of thread to (short_asking handler args)
-
 -- ---- refusals
 
 -- a handler is registered for the index, with the role of such a message

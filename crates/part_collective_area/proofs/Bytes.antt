@@ -15,7 +15,7 @@ use Rattle.base_lists.proofs.Appended.{get-append_right}
 use Rattle.part_segment.specs.Bytes.{part, with_part}
 use Rattle.part_segment.specs.Image.{Write, FitsIn, AllFit, overwritten, written_by}
 use Rattle.part_segment.proofs.Images.{length-overwritten}
-use Rattle.part_segment.proofs.TwoLists.{with_none}
+use Rattle.part_segment.proofs.Lists.{with_none}
 
 -- the bytes of a write stand at its place
 pub part_written : (bytes new : List ℕ) (offset : ℕ) → offset + length new ≤ length bytes

@@ -44,18 +44,6 @@ has_root kind.AllMax = false
 abbrev pub shape_word : Shape → ℕ
 shape_word shape = kind_code shape.kind * 2 ^ 48 + shape.root * 2 ^ 32 + shape.len
 
--- only the root has a result, or every node has
-abbrev pub is_for_root : CollectiveKind → Bool
-is_for_root kind.Broadcast = false
-is_for_root kind.Gather = true
-is_for_root kind.AllGather = false
-is_for_root kind.Sum = true
-is_for_root kind.Min = true
-is_for_root kind.Max = true
-is_for_root kind.AllSum = false
-is_for_root kind.AllMin = false
-is_for_root kind.AllMax = false
-
 -- a node has a result
 abbrev pub has_result : Shape → (node : ℕ) → Bool
 has_result shape node = result_by shape.kind

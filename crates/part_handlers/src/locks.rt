@@ -90,13 +90,6 @@ impl Locks {
         }
     }
 
-    /// How many locks the owner holds.
-    pub fn held_by(&self, owner: Owner) -> usize
-        ensures { result ≡ held_by self.now owner }
-    {
-        self.held.iter().filter(|one| one.owner.is(owner)).count()
-    }
-
     /// Whether the owner holds a lock.
     pub fn holds(&self, owner: Owner) -> bool
         ensures { result ≡ holds owner self.now }

@@ -1,14 +1,9 @@
 -- Parts of a list of bytes, by offset and length.
-use Rattle.std.specs.Prelude.{◌≡◌, ℕ, ◌⊎◌, ◌+◌, ◌≤◌, List, ◌++◌, length, take, drop}
+use Rattle.std.specs.Prelude.{ℕ, ◌+◌, ◌≤◌, List, ◌++◌, length, take, drop}
 
 -- the range of `len` bytes from `offset` on lies inside
 abbrev pub IsInside : List ℕ → (offset len : ℕ) → Type 0
 IsInside bytes offset len = offset + len ≤ length bytes
-
--- the two ranges share no byte
-abbrev pub AreApart : (offset len other_offset other_len : ℕ) → Type 0
-AreApart offset len other_offset other_len =
-    (len ≡ 0) ⊎ ((other_len ≡ 0) ⊎ ((offset + len ≤ other_offset) ⊎ (other_offset + other_len ≤ offset)))
 
 -- the `len` bytes from `offset` on
 abbrev pub part : List ℕ → (offset len : ℕ) → List ℕ
@@ -17,10 +12,6 @@ part bytes offset len = take len (drop offset bytes)
 -- the bytes with `written` in the place of as many bytes from `offset` on
 abbrev pub with_part : List ℕ → (offset : ℕ) → List ℕ → List ℕ
 with_part bytes offset written = take offset bytes ++ (written ++ drop (offset + length written) bytes)
-
--- the bytes with `first` from `offset` on, and then `second` from `other_offset` on
-abbrev pub with_two : List ℕ → (offset other_offset : ℕ) → List ℕ → List ℕ → List ℕ
-with_two bytes offset other_offset first second = with_part (with_part bytes offset first) other_offset second
 
 -- what a part becomes that was lent: a part keeps its length, and then this is `written`
 abbrev pub refill : List ℕ → List ℕ → List ℕ

@@ -21,26 +21,6 @@ impl fmt::Display for Outside {
 
 impl Error for Outside {}
 
-/// Why two parts cannot be lent at once.
-#[derive(Clone, Copy, Debug, Drop)]
-pub enum PartFault {
-    /// One of them passes the end of the segment.
-    Outside,
-    /// Both lie inside and share a byte.
-    Overlap,
-}
-
-impl fmt::Display for PartFault {
-    fn fmt<W: fmt::Write>(&self, f: &mut fmt::Formatter<W>) -> fmt::Result {
-        match *self {
-            PartFault::Outside => write!(f, "a part passes the end of the segment"),
-            PartFault::Overlap => write!(f, "the parts share a byte"),
-        }
-    }
-}
-
-impl Error for PartFault {}
-
 /// Why a number is not read or written.
 #[derive(Clone, Copy, Debug, Drop)]
 pub enum TypedFault {
@@ -127,7 +107,6 @@ impl Segment {
     ghost use Rattle.std.specs.Borrow.{sem, Lends, Array, u8 as byte};
     ghost use Rattle.part_segment.specs.Bytes.{IsInside, part, with_part, refill, with_lent};
     ghost use Rattle.part_segment.specs.Faults.{RefusesTyped};
-    ghost use Rattle.part_segment.specs.Parts.{AreGood, RefusesParts};
     ghost use Rattle.part_segment.specs.Lending.{segment_row};
 
     /// A segment of `len` zeros, which are all written here. No later call takes memory.
@@ -226,36 +205,6 @@ impl Segment {
     {
         let len = self.len;
         self.bytes.run_mut(0, len)
-    }
-
-    /// Whether two parts, each an offset and a length, can be lent at once by `two_parts`: both lie inside and share no
-    /// byte.
-    ///
-    /// # Errors
-    ///
-    /// `Outside` exactly where one of them passes the end, and `Overlap` where both lie inside and share a byte.
-    pub fn check_parts(
-        &self,
-        first_range: (u64, u64),
-        second_range: (u64, u64),
-    ) -> Result<(), PartFault>
-        ensures ok { OnOk result (AreGood self.now first_range second_range) }
-        ensures err { IfErr result (RefusesParts self.now first_range second_range) }
-    {
-        let size = self.len();
-        if !fits(size, first_range.0, first_range.1)
-            || !fits(size, second_range.0, second_range.1)
-        {
-            return Err(PartFault::Outside);
-        }
-        if first_range.1 > 0
-            && second_range.1 > 0
-            && second_range.0 < first_range.0 + first_range.1
-            && first_range.0 < second_range.0 + second_range.1
-        {
-            return Err(PartFault::Overlap);
-        }
-        Ok(())
     }
 
     /// Copies `len` bytes from `from` on to `to`, as if through a copy: the ranges may share bytes.

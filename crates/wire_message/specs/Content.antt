@@ -146,17 +146,6 @@ content_of message = record {
   payload = message.payload;
 }
 
--- where a message goes
-abbrev pub address_of : Message → Address
-address_of message = record {
-  version = message.version;
-  job = message.job;
-  from = message.from;
-  to = message.to;
-  slot = message.slot;
-  number = message.number;
-}
-
 -- the fields agree with one another: what each kind has and has not, beside the ranges that the fields' types have
 pub record IsWellFormed (message : Message) : Type 0 where
   pub version : is_version message.version ≡ true
