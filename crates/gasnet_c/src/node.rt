@@ -20,7 +20,7 @@ use crate::coming::{Coming, peeked};
 use crate::replay::{MARK, Replying};
 use crate::serving::OwnHandlers;
 use crate::told::{Told, bad, sent, tell};
-use node_core::{Side, SlotRef};
+use node_core::SlotRef;
 use node_endpoint::Endpoint;
 use node_rules::Event;
 use part_handlers::{Handlers, Table};
@@ -146,12 +146,7 @@ impl Node {
     pub fn open_request(&self, to: u16, slot: u16, buffer: &mut [u8]) -> u64
         ensures { TellsAgain (Some self.now) to slot result buffer.new }
     {
-        let at = SlotRef {
-            side: Side::Request,
-            peer: to,
-            slot,
-        };
-        sent(&self.endpoint, Some(at), buffer)
+        sent(&self.endpoint, Some(SlotRef::of_request(to, slot)), buffer)
     }
 
     /// From which time on a tick sends a request again; the greatest one where none before it does.

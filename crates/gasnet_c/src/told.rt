@@ -7,7 +7,7 @@ ghost use Rattle.gasnet_c.specs.Codes.{end_code, end_node, start_code, step_code
 ghost use Rattle.gasnet_c.specs.Telling.{IsCopied, IsDead, IsNumber, IsSent, IsToldToC, IsToldStep};
 
 use node_collectives::{EndAnswer, StartAnswer, StepAnswer};
-use node_core::{Asked, Delivered, Side, SlotRef};
+use node_core::{Asked, Delivered, SlotRef};
 use node_endpoint::Endpoint;
 use node_rules::{Answer, Begun, Region, Ticked};
 use part_barrier::{BarrierAnswer, Notified};
@@ -199,11 +199,9 @@ fn place_of(answer: &Answer) -> Option<SlotRef>
     ensures { result ≡ slot_told answer.now }
 {
     match answer {
-        Answer::Delivered(Delivered::Returned { to, slot, .. }) => Some(SlotRef {
-            side: Side::Request,
-            peer: *to,
-            slot: *slot,
-        }),
+        Answer::Delivered(Delivered::Returned { to, slot, .. }) => {
+            Some(SlotRef::of_request(*to, *slot))
+        }
         _ => answer.sends(),
     }
 }

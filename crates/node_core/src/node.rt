@@ -241,11 +241,7 @@ impl Core {
             (record { now = now; event = Ticks; answer = OfTick (retransmits result) }) self.new }
     {
         let (peer, slot) = self.resend(now)?;
-        Some(SlotRef {
-            side: Side::Request,
-            peer,
-            slot,
-        })
+        Some(SlotRef::of_request(peer, slot))
     }
 
     /// Judges a call of a thread by the rule table; where it is forbidden, a violation is noted.

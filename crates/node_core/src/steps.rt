@@ -3,6 +3,7 @@
 ghost use Rattle.std.specs.Prelude.{◌≡◌, ◌≢◌, ◌<◌, ◌≤◌, ◌+◌, length, IfNone, None};
 ghost use Rattle.wire_message.specs.Content.{IsMessage, content_of};
 ghost use Rattle.wire_message.specs.Reading.{viewed_message};
+ghost use Rattle.spec_node.specs.Invariant.{address_in};
 ghost use Rattle.spec_node.specs.Step.{slots_for, with_sender};
 ghost use Rattle.part_handlers.specs.Tokens.{arrival_of};
 ghost use Rattle.part_handlers.specs.declared.rules.Role.TheVariants as role;
@@ -170,6 +171,20 @@ impl Core {
         }
     }
 
+    /// Where a request to that node goes, whose slot and number are still to be taken.
+    fn request_way(&self, to: u16) -> Address
+        ensures { result ≡ address_in self.now.settings self.now.me to 0 0 }
+    {
+        Address {
+            version: self.settings.version(),
+            job: self.settings.job(),
+            from: self.me,
+            to,
+            slot: 0,
+            number: 0,
+        }
+    }
+
     /// A request to another node with this payload, which is written straight into its slot.
     pub(crate) fn claim_lent(&mut self, now: u64, asking: &Asking<'_>, payload: &[u8]) -> Asked
         requires node { asking.now.to < self.old.settings.nodes }
@@ -189,14 +204,7 @@ impl Core {
             self.new }
     {
         let to = asking.to;
-        let way = Address {
-            version: self.settings.version(),
-            job: self.settings.job(),
-            from: self.me,
-            to,
-            slot: 0,
-            number: 0,
-        };
+        let way = self.request_way(to);
         match commit_request(&mut self.requests, way, now, asking, payload) {
             Ok((slot, number)) => Asked::Accepted { to, slot, number },
             Err(NoClaim::Exhausted) => Asked::Exhausted,
@@ -231,14 +239,7 @@ impl Core {
             self.new }
     {
         let to = asking.to;
-        let way = Address {
-            version: self.settings.version(),
-            job: self.settings.job(),
-            from: self.me,
-            to,
-            slot: 0,
-            number: 0,
-        };
+        let way = self.request_way(to);
         let Some(payload) = self.segment.part(offset, len) else {
             unreachable!();
         };

@@ -3,7 +3,7 @@
 ghost use Rattle.std.specs.Prelude.{◌≡◌, ◌≢◌, ◌<◌, ◌≤◌, ℕ, Bool, true, Some, None, IfSome};
 ghost use Rattle.wire_message.specs.Parameters.{Parameters, AreInRange};
 ghost use Rattle.part_handlers.specs.Runs.{Meaning};
-ghost use Rattle.spec_node.specs.Step.{can_ask, request_slot};
+ghost use Rattle.spec_node.specs.Step.{can_ask};
 ghost use Rattle.spec_node.specs.NodeStep.{site_of};
 ghost use Rattle.part_barrier.specs.BarrierState.{notification_at};
 ghost use Rattle.part_transfers.specs.Operation.{next_chunk, target};
@@ -16,7 +16,7 @@ ghost use Rattle.node_endpoint.specs.EndpointState.{ForItsRecord, job_here};
 ghost use Rattle.node_endpoint.specs.Parts.{IsWhole, CanSend, PartSends, endpoint_of};
 
 use crate::extended::Extended;
-use node_core::{Asked, Core, LibraryRequest, Side, SlotRef};
+use node_core::{Asked, Core, LibraryRequest, SlotRef};
 use node_rules::Ticked;
 use part_transfers::{Next, Transfer};
 use wire_message::BarrierNotification;
@@ -45,17 +45,6 @@ fn chunk_work(next: &Next) -> LibraryRequest
             len,
             byte,
         },
-    }
-}
-
-/// The slot of a request to a node.
-fn request_slot(peer: u16, slot: u16) -> SlotRef
-    ensures { result ≡ request_slot peer slot }
-{
-    SlotRef {
-        side: Side::Request,
-        peer,
-        slot,
     }
 }
 
@@ -113,7 +102,7 @@ impl Extended {
             unreachable!()
         };
         self.barrier.sent(to);
-        Ticked::Notification(request_slot(to, slot))
+        Ticked::Notification(SlotRef::of_request(to, slot))
     }
 
     /// Sends a chunk to a node that can be asked.
@@ -134,6 +123,6 @@ impl Extended {
             unreachable!()
         };
         self.transfers.mark_sent(next, slot, number);
-        Ticked::Chunk(request_slot(to, slot))
+        Ticked::Chunk(SlotRef::of_request(to, slot))
     }
 }

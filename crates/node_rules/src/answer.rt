@@ -4,7 +4,7 @@ ghost use Rattle.std.specs.Prelude.{◌≡◌};
 ghost use Rattle.node_rules.specs.EndpointRules.{asked_answer};
 ghost use Rattle.node_rules.specs.Sends.{sends};
 
-use node_core::{Asked, Delivered, Side, SlotRef};
+use node_core::{Asked, Delivered, SlotRef};
 use part_barrier::{BarrierAnswer, Notified};
 use part_handlers::{Forbidden, LockAnswer, UnlockAnswer, Which};
 use part_transfers::{Handle, Synced};
@@ -119,11 +119,9 @@ impl Answer {
         ensures { result ≡ sends self.now }
     {
         match self {
-            Answer::Asked(Asked::Accepted { to, slot, .. }) => Some(SlotRef {
-                side: Side::Request,
-                peer: *to,
-                slot: *slot,
-            }),
+            Answer::Asked(Asked::Accepted { to, slot, .. }) => {
+                Some(SlotRef::of_request(*to, *slot))
+            }
             Answer::Delivered(
                 Delivered::Ran(at) | Delivered::Notified(at, _) | Delivered::Duplicate(at),
             ) => Some(*at),

@@ -65,7 +65,7 @@ const LOWEST: u8 = 128;
 /// How many indexes a client's handlers have.
 const ENTRIES: usize = 128;
 
-/// The handlers that a client registered: at most one entry for each index from 128 to 255.
+/// The handler table: the handlers that a client registered, at most one entry for each index from 128 to 255.
 #[derive(Drop)]
 pub struct Table {
     places: Vec<Option<Entry>>,

@@ -20,8 +20,9 @@ pub struct Handle {
     pub serial: u64,
 }
 
-/// A contiguous transfer to or from another node's segment (GASNet 1.8.1 extended API, put, get and memset). Offsets
-/// and lengths are in bytes; `remote` is an offset into the target's segment and `local` one into the local segment.
+/// A one-sided (RMA) transfer of contiguous bytes to or from another node's segment, in which no code of that node's
+/// client takes part (GASNet 1.8.1 extended API, put, get and memset). Offsets and lengths are in bytes; `remote` is an
+/// offset into the target's segment and `local` one into the local segment.
 #[derive(Clone, Copy)]
 pub enum Transfer {
     /// Bytes of the local segment are written into the target's (gasnet_put).

@@ -5,7 +5,6 @@
 //! so that they don't grow too large for it.
 
 ghost use Rattle.std.specs.Prelude.{◌≡◌, ◌<◌, ℕ, length, Some};
-ghost use Rattle.spec_node.specs.Step.{request_slot, reply_slot};
 ghost use Rattle.sim_world.specs.EventScopes.{answer_to_duplicate};
 ghost use Rattle.node_core.specs.CoreContracts.{IsSameNode};
 ghost use Rattle.node_rules.specs.EndpointRules.{transition};
@@ -19,7 +18,7 @@ ghost use Rattle.spec_node.specs.SlotMessages.{message_at};
 
 use crate::event::{WorldAnswer, WorldEvent};
 use crate::exchanges::Exchanges;
-use node_core::{Asked, Delivered, Side, SlotRef};
+use node_core::{Asked, Delivered, SlotRef};
 use node_endpoint::Endpoint;
 use node_rules::{Answer, Event, Ticked};
 use part_handlers::Handlers;
@@ -122,28 +121,6 @@ fn deliver<H: Handlers>(
     }
 }
 
-/// The slot of a request to that node.
-fn request_slot(peer: u16, slot: u16) -> SlotRef
-    ensures { result ≡ request_slot peer slot }
-{
-    SlotRef {
-        side: Side::Request,
-        peer,
-        slot,
-    }
-}
-
-/// The slot of the reply to a request of that node.
-fn reply_slot(peer: u16, slot: u16) -> SlotRef
-    ensures { result ≡ reply_slot peer slot }
-{
-    SlotRef {
-        side: Side::Reply,
-        peer,
-        slot,
-    }
-}
-
 /// The message that stands in a slot of the sender.
 #[inline(always)]
 fn held_message(sender: &Endpoint, at: SlotRef) -> &[u8]
@@ -164,7 +141,7 @@ fn repeated(from: u16, slot: u16, is_last: bool) -> Delivered
     ensures { result ≡ answer_to_duplicate from slot is_last }
 {
     if is_last {
-        Delivered::Duplicate(reply_slot(from, slot))
+        Delivered::Duplicate(SlotRef::of_reply(from, slot))
     } else {
         Delivered::Stale
     }
@@ -327,7 +304,7 @@ fn deliver_request<H: Handlers>(
         let is_last = endpoint.is_last_run(from, exchange.slot, number);
         return WorldAnswer::Node(Answer::Delivered(repeated(from, exchange.slot, is_last)));
     }
-    let bytes = held_message(sender, request_slot(to, exchange.slot));
+    let bytes = held_message(sender, SlotRef::of_request(to, exchange.slot));
     let answer = endpoint.step(context.handlers, context.now, &Event::Deliver { bytes });
     if let Answer::Delivered(Delivered::Ran(_) | Delivered::Notified(..)) = answer {
         exchanges.set_ran(number);
@@ -366,7 +343,7 @@ fn deliver_reply<H: Handlers>(
     if exchange.back {
         return WorldAnswer::Node(Answer::Delivered(Delivered::Late));
     }
-    let bytes = held_message(sender, reply_slot(from, exchange.slot));
+    let bytes = held_message(sender, SlotRef::of_reply(from, exchange.slot));
     let answer = endpoint.step(context.handlers, context.now, &Event::Deliver { bytes });
     if let Answer::Delivered(Delivered::Returned { .. }) = answer {
         exchanges.set_back(number);

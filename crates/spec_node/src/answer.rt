@@ -1,5 +1,8 @@
 //! The answers of a node to requests, deliveries and ticks.
 
+ghost use Rattle.std.specs.Prelude.{◌≡◌};
+ghost use Rattle.spec_node.specs.Step.{request_slot, reply_slot};
+
 use part_handlers::{Forbidden, Which};
 use std::error::Error;
 use std::fmt;
@@ -23,6 +26,30 @@ pub struct SlotRef {
     pub peer: u16,
     /// The slot, from 0.
     pub slot: u16,
+}
+
+impl SlotRef {
+    /// The slot of a request to that node.
+    pub fn of_request(peer: u16, slot: u16) -> SlotRef
+        ensures { result ≡ request_slot peer slot }
+    {
+        SlotRef {
+            side: Side::Request,
+            peer,
+            slot,
+        }
+    }
+
+    /// The slot of the reply to a request of that node.
+    pub fn of_reply(peer: u16, slot: u16) -> SlotRef
+        ensures { result ≡ reply_slot peer slot }
+    {
+        SlotRef {
+            side: Side::Reply,
+            peer,
+            slot,
+        }
+    }
 }
 
 /// What a client's request is answered (GASNet 1.8.1, core API, `gasnet_AMRequestShort` and its kin).

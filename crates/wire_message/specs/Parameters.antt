@@ -7,8 +7,8 @@ use Rattle.wire_message.specs.Content.{is_version}
 
 -- the version of the datagrams, the job's number, its nodes, the credits of each ordered pair of nodes that has none of
 -- its own, the pairs that have, in the order in which they were set, the threads of each node, the bytes of each
--- segment, the last number of a request, and the time after which a request is sent again, in the unit of the calls'
--- `now`
+-- segment, the last number of a request, and the retransmission time-out (RTO), after which a request is sent again, in
+-- the unit of the calls' `now`
 pub record Parameters : Type 0 where
   pub version : ℕ
   pub job : ℕ

@@ -277,7 +277,8 @@ impl Settings {
         self.last
     }
 
-    /// The time without a reply after which a request is sent again, in the unit of the calls' `now`.
+    /// The retransmission time-out (RTO): the time without a reply after which a request is sent again, in the unit of
+    /// the calls' `now`.
     pub fn resend(&self) -> u64
         ensures { result ≡ self.now.resend }
     {

@@ -17,6 +17,9 @@ returns-in_err-peer c = λ meaning.
 
 pub returns : goal.returns
 returns c = λ meaning.
-    ticks_step meaning c.args.self.now c.args.now (Some (c.in_ok-peer.peer, c.in_ok-peer.slot)) c.resend.new.self
+    subst (λ (at : SlotRef). CoreSteps meaning c.args.self.now
+    (record { now = c.args.now; event = Ticks; answer = OfTick (retransmits (Some at)) }) c.resend.new.self)
+    (sym c.of_request.ensures)
+    (ticks_step meaning c.args.self.now c.args.now (Some (c.in_ok-peer.peer, c.in_ok-peer.slot)) c.resend.new.self
     (subst (λ (o : Option (ℕ × ℕ)). Retransmits c.args.self.now c.args.now o c.resend.new.self) c.in_ok-peer.was
-    c.resend.ensures)
+    c.resend.ensures))

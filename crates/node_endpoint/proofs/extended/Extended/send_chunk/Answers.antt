@@ -33,7 +33,7 @@ returns c =
     (record { now = c.args.now; to = to; work = chunk_work c.args.next.now }) t
     (record { core = c.ask.new.self; extended = record c.args.self.now { transfers = c.mark_sent.new.self } }))
     (ap (λ at. ticked.Chunk at)
-    (sym (c.request_slot.ensures ∙ ap (λ t. request_slot t c.in-Accepted.slot) c.target-to.ensures)))
+    (sym (c.of_request.ensures ∙ ap (λ t. request_slot t c.in-Accepted.slot) c.target-to.ensures)))
     (chunk_sends c.args.core.now c.ask.new.self c.args.self.now c.mark_sent.new.self c.args.now c.in-Accepted.slot
     c.in-Accepted.number c.args.next.now c.requires.can c.requires.next
     (accepted_own c.args.core.now c.ask.new.self c.args.self.now c.args.now to (chunk_work c.args.next.now)

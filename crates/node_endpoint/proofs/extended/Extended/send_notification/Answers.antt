@@ -17,7 +17,7 @@ returns c =
     subst (λ (t : Ticked). PartSends (record { core = c.args.core.now; extended = c.args.self.now })
     (record { now = c.args.now; to = c.args.to; work = Notification c.args.notification.now }) t
     (record { core = c.ask.new.self; extended = record c.args.self.now { barrier = c.sent.new.self } }))
-    (ap (λ at. ticked.Notification at) (sym c.request_slot.ensures))
+    (ap (λ at. ticked.Notification at) (sym c.of_request.ensures))
     (notification_sends c.args.core.now c.ask.new.self c.args.self.now c.sent.new.self c.args.now c.args.to c.in-Accepted.slot
     c.in-Accepted.number c.args.notification.now c.requires.can
     (accepted_own c.args.core.now c.ask.new.self c.args.self.now c.args.now c.args.to (Notification c.args.notification.now)
