@@ -1,6 +1,6 @@
 -- What an export tells, from what its event did.
 use Rattle.std.proofs.Common.{◌≡◌, ℕ, Bool, true, false, List, Option, Some, None, is_some, refl, sym, ap, ◌∙◌, subst}
-use Rattle.std.proofs.Common.{[], ◌∷◌, ℤ, length, arith}
+use Rattle.std.proofs.Common.{[], ◌∷◌, length, arith}
 use Rattle.std.specs.Borrow.{Bor}
 use Rattle.std.specs.Prelude.{◌==◌}
 use Rattle.std.proofs.lemmas.Bool.{false≢true}
@@ -13,7 +13,7 @@ use Rattle.node_core.specs.InPlace.{keeping_in}
 use Rattle.node_endpoint.specs.EndpointState.{EndpointState, RunsNone}
 use Rattle.gasnet_c.specs.Calls.{asked_call, IsToAnother}
 use Rattle.gasnet_c.specs.Replayed.{asked_in, asking, both_replayed_by}
-use Rattle.gasnet_c.specs.Telling.{IsDead, IsMark, OwnAsked, Tells, TellsOf, TellsOwn}
+use Rattle.gasnet_c.specs.Telling.{IsDead, OwnAsked, Tells, TellsOf, TellsOwn}
 use Rattle.gasnet_c.specs.Whole.{AsksNone, RunsNoneIn}
 use Rattle.gasnet_c.specs.declared.messages.Ask.{Ask}
 use Rattle.gasnet_c.specs.declared.replay.Reply.{Reply}
@@ -99,18 +99,15 @@ asks_another_in (Some endpoint) ask apart = λ has. apart (targeted ask endpoint
 
 -- ---- a request to the local node
 
-pub own_of : (old new : EndpointState) (now : ℕ) (made call : Call) (run : Run) (reply_left : Bor (List ℕ)) (mark : ℤ)
-    (told : Told) (buffer : List ℕ) → made ≡ call → IsMark old mark → buffer ≡ []
-    → TellsOf (both_replayed_by (record { request = run; reply = record { bytes = reply_left }; mark = mark })) old now
+pub own_of : (old new : EndpointState) (now : ℕ) (made call : Call) (run : Run) (reply_left : Bor (List ℕ))
+    (told : Told) (buffer : List ℕ) → made ≡ call → buffer ≡ []
+    → TellsOf (both_replayed_by (record { request = run; reply = record { bytes = reply_left } })) old now
     (event.Call 0 made) told buffer new
     → TellsOwn (Some old) now (record { call = call; run = run; reply_left = reply_left }) told (Some new)
-own_of old new now made call run reply_left mark told buffer same is_mark none tells = (
-  mark,
-  is_mark,
-  subst (λ (asked : Call). TellsOf
-      (both_replayed_by (record { request = run; reply = record { bytes = reply_left }; mark = mark })) old now
-      (event.Call 0 asked) told [] new) same
-      (subst (λ (bytes : List ℕ). TellsOf
-      (both_replayed_by (record { request = run; reply = record { bytes = reply_left }; mark = mark })) old now
-      (event.Call 0 made) told bytes new) none tells),
-)
+own_of old new now made call run reply_left told buffer same none tells =
+    subst (λ (asked : Call). TellsOf
+    (both_replayed_by (record { request = run; reply = record { bytes = reply_left } })) old now
+    (event.Call 0 asked) told [] new) same
+    (subst (λ (bytes : List ℕ). TellsOf
+    (both_replayed_by (record { request = run; reply = record { bytes = reply_left } })) old now
+    (event.Call 0 made) told bytes new) none tells)

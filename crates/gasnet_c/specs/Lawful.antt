@@ -1,16 +1,17 @@
 -- Handlers that are replayed are lawful.
 use Rattle.std.specs.Prelude.{ℕ, ◌≡◌, ◌+◌, ◌==◌, ◌||◌, nat_lt, List, length, Option, Some, None}
-use Rattle.std.specs.Ordering.{int_eq}
 use Rattle.std.proofs.Common.{Bool, true, false, refl, if◌then◌else◌}
 use Rattle.std.proofs.lemmas.Bool.{ltb-false}
 use Rattle.part_segment.specs.Image.{Write}
+use Rattle.part_handlers.specs.declared.rules.Role.{Role}
+use Rattle.part_handlers.specs.declared.rules.Role.TheVariants as roles
 use Rattle.part_handlers.specs.Runs.{Frame, Start, Outcome, IsLawfulRun, nothing_done}
 use Rattle.part_handlers.proofs.Lawful.{lawful-replying, lawful-untouched, lawful-writing, long_reply-content}
 use Rattle.part_handlers.proofs.Lawful.{medium_reply-content, short_reply-content}
 use Rattle.gasnet_c.specs.declared.replay.Reply.{Reply}
 use Rattle.gasnet_c.specs.declared.replay.Run.{Run}
 use Rattle.gasnet_c.specs.declared.replay.OwnRuns.{OwnRuns}
-use Rattle.gasnet_c.specs.Replayed.{answering, asking, both_replayed, left_write, leaving, mark_of, with_mark}
+use Rattle.gasnet_c.specs.Replayed.{answering, asking, both_replayed, left_write, leaving, replayed_as, with_own_run}
 use Rattle.gasnet_c.specs.Replayed.{outcome_of_run}
 use Rattle.gasnet_c.specs.Replayed.{writing_if}
 
@@ -65,9 +66,12 @@ other-cells segment locks lawful = record {
   locks = rw locks at lawful.locks;
 }
 
+replayed_as_lawful : (role : Role) (it : OwnRuns) (frame : Frame) (start : Start)
+    → IsLawfulRun frame start (replayed_as role it frame start)
+replayed_as_lawful roles.Request it frame start =
+    other-cells refl refl (replayed_lawful it.request frame (with_own_run start))
+replayed_as_lawful roles.Reply it frame start = leaving_lawful it.reply.bytes.now frame start
+
 pub both_lawful : (it : OwnRuns) (frame : Frame) (start : Start)
     → IsLawfulRun frame start (both_replayed it frame start)
-both_lawful it frame start =
-    lawful-either (int_eq (mark_of start.cells) it.mark)
-    (other-cells refl refl (replayed_lawful it.request frame (with_mark it.mark start)))
-    (leaving_lawful it.reply.bytes.now frame start)
+both_lawful it frame start = replayed_as_lawful frame.arrival.role it frame start

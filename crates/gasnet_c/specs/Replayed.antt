@@ -2,8 +2,11 @@
 use Rattle.std.specs.Prelude.{ℕ, ℤ, pos, ◌+◌, ◌==◌, ◌||◌, nat_lt, if◌then◌else◌, List, length, Option, Some, None}
 use Rattle.std.specs.Prelude.{slice_index_or, slice_set}
 use Rattle.std.specs.Ordering.{int_eq}
+use Rattle.std.specs.Int.{w32, int_wrapping_add}
 use Rattle.part_segment.specs.Image.{Write, overwritten}
 use Rattle.wire_message.specs.Content.{short_reply, medium_reply, long_reply}
+use Rattle.part_handlers.specs.declared.rules.Role.{Role}
+use Rattle.part_handlers.specs.declared.rules.Role.TheVariants as roles
 use Rattle.part_handlers.specs.Runs.{Frame, Start, Outcome, Meaning, replying, nothing_done, writing}
 use Rattle.node_core.specs.InPlace.{keeping_in}
 use Rattle.node_endpoint.specs.EndpointState.{EndpointState}
@@ -60,23 +63,25 @@ outcome_of_run run frame start = answering run.reply frame (leaving run.left.now
 
 -- ---- a request to the local node
 
--- the mark
-abbrev pub mark_of : List ℤ → ℤ
-mark_of cells = slice_index_or cells 0 (pos 0)
+-- one more is counted in two cells, the low half first
+abbrev pub with_one_more : List ℤ → List ℤ
+with_one_more cells =
+    let low = int_wrapping_add w32 (slice_index_or cells 0 (pos 0)) (pos 1) in
+    let counted = slice_set cells 0 low in
+    if int_eq low (pos 0) then slice_set counted 1 (int_wrapping_add w32 (slice_index_or counted 1 (pos 0)) (pos 1))
+    else counted
 
--- another one
-abbrev pub next_mark : ℤ → ℤ
-next_mark mark = if int_eq mark (pos 0) then pos 1 else pos 0
+-- what the request's handler finds, which is counted
+abbrev pub with_own_run : Start → Start
+with_own_run start = record start { cells = with_one_more start.cells }
 
--- what a handler finds where the mark was changed
-abbrev pub with_mark : ℤ → Start → Start
-with_mark mark start = record start { cells = slice_set start.cells 0 (next_mark mark) }
+-- the request's handler did this, and was counted; the reply's left those bytes at a Long's place
+abbrev pub replayed_as : Role → OwnRuns → Frame → Start → Outcome
+replayed_as roles.Request it frame start = outcome_of_run it.request frame (with_own_run start)
+replayed_as roles.Reply it frame start = leaving it.reply.bytes.now frame start
 
--- the request's handler, which finds the mark, did this; the reply's left those bytes at a Long's place
 abbrev pub both_replayed : OwnRuns → Frame → Start → Outcome
-both_replayed it frame start =
-    if int_eq (mark_of start.cells) it.mark then outcome_of_run it.request frame (with_mark it.mark start)
-    else leaving it.reply.bytes.now frame start
+both_replayed it frame start = replayed_as frame.arrival.role it frame start
 
 -- the handlers mean that, whichever they are
 abbrev pub both_replayed_by : OwnRuns → Meaning

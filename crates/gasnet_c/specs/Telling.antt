@@ -1,5 +1,5 @@
 -- What an export tells of the event that it makes.
-use Rattle.std.specs.Prelude.{ℕ, ℤ, ◌≡◌, ◌<◌, ◌≤◌, List, [], take, length, Option, Some, None}
+use Rattle.std.specs.Prelude.{ℕ, ◌≡◌, ◌<◌, ◌≤◌, List, [], take, length, Option, Some, None}
 use Rattle.std.specs.Borrow.{Bor}
 use Rattle.part_handlers.specs.Runs.{Meaning}
 use Rattle.spec_node.specs.SlotMessages.{message_at}
@@ -13,7 +13,7 @@ use Rattle.node_rules.specs.declared.call.Event.TheVariants as event
 use Rattle.node_endpoint.specs.EndpointState.{EndpointState, EndpointSteps, ForItsRecord}
 use Rattle.node_collectives.specs.declared.answers.StepAnswer.{StepAnswer}
 use Rattle.gasnet_c.specs.Codes.{answer_code, slot_told, step_code, told_at, value_of}
-use Rattle.gasnet_c.specs.Replayed.{both_replayed_by, mark_of}
+use Rattle.gasnet_c.specs.Replayed.{both_replayed_by}
 use Rattle.gasnet_c.specs.declared.replay.Run.{Run}
 use Rattle.gasnet_c.specs.declared.told.Told.{Told}
 
@@ -79,15 +79,10 @@ pub record OwnAsked : Type 0 where
   pub run : Run
   pub reply_left : Bor (List ℕ)
 
--- this is the mark of the node's record
-abbrev pub IsMark : EndpointState → ℤ → Type 0
-IsMark endpoint mark = ForItsRecord endpoint (λ node. mark ≡ mark_of node.local.core.cells)
-
 -- it happened to the node that is held, and its handlers mean what they did; else nothing happened
 abbrev pub TellsOwn : Option EndpointState → (now : ℕ) → OwnAsked → Told → Option EndpointState → Type 0
 TellsOwn (Some old) now asked told (Some new) =
-    (mark : ℤ) × IsMark old mark × TellsOf
-    (both_replayed_by (record { request = asked.run; reply = record { bytes = asked.reply_left }; mark = mark }))
+    TellsOf (both_replayed_by (record { request = asked.run; reply = record { bytes = asked.reply_left } }))
     old now (event.Call 0 asked.call) told [] new
 TellsOwn (Some old) now asked told None = ⊥
 TellsOwn None now asked told new = IsDead told × (new ≡ None)

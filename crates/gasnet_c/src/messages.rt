@@ -153,7 +153,6 @@ pub extern "C" fn gasnet_c_request_own(
     let runs = OwnRuns {
         request: *run,
         reply: Left { bytes: reply_left },
-        mark: node.mark(),
     };
     let told = node.happen(&runs, &EventAt { time: now, event }, &mut []);
     put(handle, node);

@@ -13,11 +13,11 @@ ghost use Rattle.gasnet_c.specs.Whole.{IsForOne};
 ghost use Rattle.gasnet_c.specs.Peeking.{Peeks};
 ghost use Rattle.gasnet_c.specs.Replayed.{asking};
 ghost use Rattle.gasnet_c.specs.Retransmission.{TellsAgain, TellsNextDue};
-ghost use Rattle.gasnet_c.specs.Telling.{IsMark, TellsOf};
+ghost use Rattle.gasnet_c.specs.Telling.{TellsOf};
 
 use crate::atomics::{Operation, batch_for, request};
 use crate::coming::{Coming, peeked};
-use crate::replay::{MARK, Replying};
+use crate::replay::Replying;
 use crate::serving::OwnHandlers;
 use crate::told::{Told, bad, sent, tell};
 use node_core::SlotRef;
@@ -125,13 +125,6 @@ impl Node {
         let call = request(batch.to(), &args, &payload);
         let event = Event::Call { thread: 0, call };
         self.happen(&OwnHandlers, &EventAt { time: now, event }, buffer)
-    }
-
-    /// The mark of the runs of requests to the local node.
-    pub fn mark(&self) -> i32
-        ensures { IsMark self.now result }
-    {
-        self.endpoint.cells().get(MARK)
     }
 
     /// What a delivery of these bytes would run.

@@ -1,9 +1,9 @@
 //! Handlers that C ran already: what each of them did, as values that are replayed.
 
 ghost use Rattle.std.specs.Prelude.{◌≡◌, length};
-ghost use Rattle.gasnet_c.specs.Replayed.{left_write, next_mark, overwritten_if};
+ghost use Rattle.gasnet_c.specs.Replayed.{left_write, overwritten_if, with_one_more};
 
-use part_handlers::{Cells, Handlers, Token};
+use part_handlers::{Cells, Handlers, Role, Token};
 use part_segment::Segment;
 
 /// The reply that a handler asked for: `gasnet_c_reply`.
@@ -60,25 +60,30 @@ pub struct Left<'a> {
 
 /// What the two handlers of a request to the local node did.
 ///
-/// Both run in one event. The request's handler is the one that finds the mark, which it changes.
+/// Both run in one event, the request's first. Each such request is counted in two cells, so that no two of them find
+/// the same cells, whatever the handlers keep outside of the segment.
 #[derive(Clone, Copy)]
 pub struct OwnRuns<'a> {
     /// What the request's handler did.
     pub request: Run<'a>,
     /// What its reply's handler did.
     pub reply: Left<'a>,
-    /// The mark before the event.
-    pub mark: i32,
 }
 
-/// The cell of the mark. Nothing else uses cells here.
-pub const MARK: u8 = 0;
+/// The cell of the low half of the count of requests to the local node. Nothing else uses cells here.
+const LOW: u8 = 0;
+/// The cell of its high half.
+const HIGH: u8 = 1;
 
-/// Another mark than this.
-fn next_mark(mark: i32) -> i32
-    ensures { result ≡ next_mark mark }
+/// One more request to the local node is counted, modulo 2^64.
+fn count_one(cells: &mut Cells)
+    ensures { cells.new ≡ with_one_more cells.old }
 {
-    if mark == 0 { 1 } else { 0 }
+    let low = cells.get(LOW).wrapping_add(1);
+    cells.set(LOW, low);
+    if low == 0 {
+        cells.set(HIGH, cells.get(HIGH).wrapping_add(1));
+    }
 }
 
 /// Writes bytes at a Long's place, where there are some and they fit.
@@ -170,13 +175,14 @@ impl Handlers for OwnRuns<'_> {
 
     ghost is_lawful = { λ it handler frame start. both_lawful it frame start };
 
-    /// The request's handler changes the mark and does what it did; the reply's leaves what it left.
+    /// The request's handler is counted and does what it did; the reply's leaves what it left.
     fn run(&self, handler: u8, segment: &mut Segment, cells: &mut Cells, token: &mut Token<'_>) {
-        if cells.get(MARK) == self.mark {
-            cells.set(MARK, next_mark(self.mark));
-            self.request.run(handler, segment, cells, token);
-        } else {
-            self.reply.run(handler, segment, cells, token);
+        match token.role() {
+            Role::Request => {
+                count_one(cells);
+                self.request.run(handler, segment, cells, token);
+            }
+            Role::Reply => self.reply.run(handler, segment, cells, token),
         }
     }
 }

@@ -114,6 +114,13 @@ impl<'a> Token<'a> {
         reply
     }
 
+    /// Whether the message is a request or a reply.
+    pub fn role(&self) -> Role
+        ensures { result ≡ (arrival_at self.now).role }
+    {
+        self.message.role
+    }
+
     /// The node that sent the message.
     pub fn source(&self) -> u16
         ensures { result ≡ (arrival_at self.now).source }
