@@ -42,7 +42,7 @@ SendsNext old new answer.Done datagram =
     × (new ≡ record (link_called old) { sent = old.sent ++ datagram ∷ [] })
 SendsNext old new answer.Failed datagram = new ≡ call_failed old
 
--- the first of what waits goes into the prefix of the buffer, as much of it as there is room for
+-- the first of what waits goes into the beginning of the buffer, as much of it as there is room for
 pub record ReceivesFirst (old new : LinkState) (n : ℕ) (room filled : List ℕ) : Type 0 where
   pub first : List ℕ
   pub rest : List (List ℕ)
@@ -70,7 +70,7 @@ pub record Giving : Type 0 where
   pub room : List ℕ
   pub filled : List ℕ
 
--- the datagram at this place is cut to so many bytes, and they go into the prefix of the buffer
+-- the datagram at this place is cut to so many bytes, and they go into the beginning of the buffer
 pub record GivesDatagramAt (giving : Giving) : Type 0 where
   pub count : giving.count ≡ min (length (slice_index_or giving.old giving.place [])) (length giving.room)
   pub filled_is : giving.filled

@@ -20,7 +20,7 @@ pub enum LinkAnswer {
 /// What a link gave.
 #[derive(Clone, Copy, PartialEq, Eq)]
 pub enum Received {
-    /// A datagram of that many bytes, at the prefix of the buffer.
+    /// A datagram of that many bytes, at the beginning of the buffer.
     Got(usize),
     /// No datagram waits.
     Empty,
@@ -63,8 +63,8 @@ pub trait Link {
         ensures later { faults self.old ≤ faults self.new }
         ensures cause { IsFailed result → Rose (faults self.old) (faults self.new) };
 
-    /// Receives one datagram into the prefix of the buffer, without waiting for it. One that is longer than the buffer
-    /// is cut.
+    /// Receives one datagram into the beginning of the buffer, without waiting for it. One that is longer than the
+    /// buffer is cut.
     ///
     /// Where the link tells what waits, `Got` gives the first of it, and `Empty` comes only where nothing waits.
     fn receive(&mut self, buf: &mut [u8]) -> Received

@@ -7,7 +7,7 @@ ghost use Rattle.base_io.specs.Source.{Gives, IsFailed, GivesAtMost};
 /// What a read gave.
 #[derive(Clone, Copy, PartialEq, Eq)]
 pub enum Got {
-    /// That many bytes, at the prefix of the buffer. None for a buffer that isn't empty means the end.
+    /// That many bytes, at the beginning of the buffer. None for a buffer that isn't empty means the end.
     Got(usize),
     /// Nothing is left.
     End,
@@ -22,7 +22,7 @@ pub trait Source {
     /// How often it has failed; an implementation's count may stop at 2^64 - 1.
     ghost faults: { Self → ℕ };
 
-    /// Reads some bytes into the prefix of the buffer.
+    /// Reads some bytes into the beginning of the buffer.
     ///
     /// At most as many as the buffer has are given, and the first of those that are left. `End`, or no byte for a
     /// buffer that isn't empty, comes only where nothing is left. `Failed` comes only where the count of faults rose in

@@ -101,7 +101,7 @@ words_take begins [] h = absurd (cc)
 words_take begins (b ∷ bytes) h =
     words_by begins b bytes (eqb b 10) (eqb b 32) refl refl h (λ next k. words_take next bytes k)
 
--- a line of words at the prefix of bytes, and what stands behind it
+-- a line of words at the beginning of bytes, and what stands behind it
 pub record BeginsWithLine (bytes : List ℕ) : Type 0 where
   pub words : Line
   pub are : IsLine words

@@ -40,7 +40,7 @@ pub record AreDigits (bytes : List ℕ) (number count : ℕ) : Type 0 where
 abbrev pub fitting : ℕ → Option ℕ
 fitting n = if nat_lt n (2 ^ 64) then Some n else None
 
--- a digit follows a zero at the prefix
+-- a digit follows a zero at the beginning
 abbrev pub IsPadded : List ℕ → ℕ → Type 0
 IsPadded bytes end = (slice_index bytes 0 ≡ 48) × (1 < end)
 

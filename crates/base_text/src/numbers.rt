@@ -47,7 +47,7 @@ fn first_digits(bytes: &[u8]) -> (u64, usize)
     (number, count)
 }
 
-/// Whether a digit follows a zero at the prefix.
+/// Whether a digit follows a zero at the beginning.
 fn is_padded(bytes: &[u8], count: usize) -> bool
     requires some { 0 < count }
     requires fits { count ≤ length bytes.now }
@@ -56,7 +56,7 @@ fn is_padded(bytes: &[u8], count: usize) -> bool
     bytes[0] == b'0' && count > 1
 }
 
-/// The number of all digits at the prefix, where the first word is one, and the bytes after it.
+/// The number of all digits at the beginning, where the first word is one, and the bytes after it.
 fn whole(bytes: &[u8], number: u64, count: usize) -> Result<(u64, &[u8]), Other>
     requires { AreDigits bytes.now number count }
     ensures { Finds (λ x. (x.0, x.1.now)) result (number_read bytes.now) }

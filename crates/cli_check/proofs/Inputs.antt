@@ -175,7 +175,7 @@ next_there place outputs rank at others rest low so there =
           };
         }
 
--- what is told of an output that was read at the prefix of these bytes
+-- what is told of an output that was read at the beginning of these bytes
 pub record IsRead (wanted : Wanted) (bytes : List ℕ) (output : Output) (len : ℕ) : Type 0 where
   pub begins : OutputBegins wanted bytes output len
   pub gives : (other : Output) (size : ℕ) → OutputBegins wanted bytes other size
@@ -319,7 +319,7 @@ read_bad place outputs rank at bad low so none read means =
           none next.output (length (output_text place.job.settings.version next.output)) next.begins;
     }
 
--- what is told where none was read at the prefix of these bytes
+-- what is told where none was read at the beginning of these bytes
 pub record IsUnreadable (wanted : Wanted) (bytes : List ℕ) (fault : TraceFault) : Type 0 where
   pub gives : (other : Output) (size : ℕ) → OutputBegins wanted bytes other size → GivesOutput other size (Err fault)
   pub reads : ReadsOutput (length bytes) (Err fault) (output_at wanted bytes)

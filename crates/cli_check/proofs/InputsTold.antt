@@ -29,7 +29,7 @@ version_fits version is = elim (cases_eq version 1) [
   ]
 ]
 
--- the version of a job at the prefix of bytes
+-- the version of a job at the beginning of bytes
 pub prefix_fits : (job : JobState) (size : ℕ) (bytes : List ℕ) → BeginsWith job size bytes
     → job.settings.version < 2 ^ 64
 prefix_fits job size bytes prefix = version_fits job.settings.version prefix.is_job.settings.version

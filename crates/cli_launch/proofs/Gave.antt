@@ -52,7 +52,7 @@ whole job end wanted other is given = record {
   size = refl;
 }
 
--- no output stands at the prefix of what it gave
+-- no output stands at the beginning of what it gave
 pub gave_none : (job : JobState) (end : ChildEnd) (wanted : Wanted) (code line : ℕ) (why : LineWhy)
     → wanted ≡ wanted_of job end.rank → end.answer ≡ finished.Ended code
     → ((output : Output) (len : ℕ) → OutputBegins wanted end.output output len

@@ -30,7 +30,7 @@ pub record IsLastLine (bytes line : List ℕ) : Type 0 where
 abbrev pub digit : (tens byte : ℕ) → Option ℕ
 digit tens byte = if nat_lt byte 48 || nat_lt 57 byte then None else Some (tens + (byte - 48))
 
--- the number at the prefix of a text: a digit before a space, or a 1 and a digit
+-- the number at the beginning of a text: a digit before a space, or a 1 and a digit
 abbrev pub status_number : List ℕ → Option ℕ
 status_number [] = None
 status_number (first ∷ []) = None

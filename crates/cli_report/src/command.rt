@@ -122,7 +122,7 @@ impl Command {
         }
     }
 
-    /// Reads the prefix of the input again, where it wasn't kept and is needed to tell of the run.
+    /// Reads the beginning of the input again, where it wasn't kept and is needed to tell of the run.
     pub fn read_again<A: ReadsAgain>(&mut self, from: &A)
         ensures words { self.new.words ≡ self.old.words }
         ensures steps { self.new.steps ≡ self.old.steps }

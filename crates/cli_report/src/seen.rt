@@ -82,7 +82,7 @@ impl Seen {
         }
     }
 
-    /// Keeps bytes at the prefix, unless there are too many of them, or memory runs out: then none.
+    /// Keeps the first bytes, unless there are too many of them, or memory runs out: then none.
     fn keep_prefix(&mut self, bytes: &[u8])
         ensures bytes { KeepsPrefix self.old.keeps self.old.bytes.items bytes.now
             self.new.bytes.items }

@@ -61,7 +61,7 @@ fn digit(tens: u8, byte: u8) -> Option<u8>
     Some(tens + (byte - b'0'))
 }
 
-/// The number at the prefix of what stands behind `status `: a digit before a space, or a 1 and a
+/// The number at the beginning of what stands behind `status `: a digit before a space, or a 1 and a
 /// digit.
 fn status_number(text: &[u8]) -> Option<u8>
     ensures { result ≡ status_number text.now }

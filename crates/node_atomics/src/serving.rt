@@ -134,8 +134,8 @@ fn serve_request(segment: &mut Segment, token: &mut Token<'_>)
     do_batch(local, tag, &ops, segment, token);
 }
 
-/// Runs a handler of batches at a token: 252 does what the request's message says, if it says a batch, and replies with
-/// a Long to 253; 253, and any other, does nothing. It takes no memory.
+/// Runs a handler of batches with a token: 252 does what the request's message says, if it says a batch, and replies
+/// with a Long to 253; 253, and any other, does nothing. It takes no memory.
 ///
 /// The operations act in order, each on what the one before left. The reply goes to the place that the message says:
 /// for each operation what its word was, and then the tag, 8 bytes each, little-endian. It is the run's reply wherever

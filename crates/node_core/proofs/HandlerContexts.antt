@@ -29,7 +29,7 @@ copied_more {A} xs ys k x e room some =
     take_more_set xs k x room ∙ ap (λ (zs : List A). zs ++ x ∷ []) e
     ∙ sym (take_more ys k x (slice_get_within ys k x some) ∙ ap (λ (y : A). take k ys ++ y ∷ []) (read_at ys k x some))
 
--- a run at a token that was closed: what it left, and its reply
+-- a run with a token that was closed: what it left, and its reply
 pub ran_is : (meaning : Meaning) (work : Work) (before after : HandlerState) (token old : Token) (buffer new_buffer : List ℕ)
     (reply : Option Reply) → IsLawfulMeaning meaning → holds owner.Handler before.locks ≡ false
     → At (stage before.segment before.cells token)

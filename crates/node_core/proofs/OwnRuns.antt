@@ -78,7 +78,7 @@ reply_free table handler held registered free =
 prefix : {X : Type 0} (xs ys : List X) → take (length xs) (xs ++ ys) ≡ xs
 prefix xs ys = take-append-le (length xs) xs ys (omega arith) ∙ take_all (length xs) xs (omega arith)
 
--- the reply of a request of the local node is this content, and its payload stands at the prefix of the buffer
+-- the reply of a request of the local node is this content, and its payload stands at the beginning of the buffer
 pub record IsOwnReply (frame : Frame) (content : Content) (buffer : List ℕ) (reply : Reply) : Type 0 where
   pub good : IsGood frame content
   pub content_is : content_at buffer reply ≡ content

@@ -136,7 +136,7 @@ own_reply_run meaning own content before =
       before = before;
     }
 
--- what is asked of the reply of an own request, whose payload stands at the prefix of a buffer
+-- what is asked of the reply of an own request, whose payload stands at the beginning of a buffer
 pub record CanRunOwnReply (own : OwnReply) (segment : List ℕ) (locks : List Held) (buffer : List ℕ) : Type 0 where
   pub few : own.reply.count ≤ 16
   pub args : length own.reply.args ≡ 16
@@ -179,7 +179,8 @@ pub record Ran (run : HandlerContextRun) (after : HandlerState) (buffer new_buff
 abbrev pub reply_of_run : HandlerContextRun → Message
 reply_of_run run = outgoing_reply run.frame.settings run.frame.arrival (reply_or_ack run.outcome.reply)
 
--- the run of another node's request left this, and the datagram of its reply, or of an Ack, at the prefix of the buffer
+-- the run of another node's request left this, and the datagram of its reply, or of an Ack, at the beginning of the
+-- buffer
 pub record LeavesReply (run : HandlerContextRun) (after : HandlerState) (buffer new_buffer : List ℕ) (len : ℕ)
     : Type 0 where
   pub left : LeavesTouched run after

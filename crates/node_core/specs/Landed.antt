@@ -8,7 +8,7 @@ use Rattle.spec_node.specs.Behaviour.{Asking}
 use Rattle.node_core.specs.HandlerRuns.{landing, shown_payload}
 use Rattle.node_core.specs.ClientRules.{has_place, payload_len}
 
--- the payload of this content landed in a segment, or stands at the prefix of a buffer, with so many bytes
+-- the payload of this content landed in a segment, or stands at the beginning of a buffer, with so many bytes
 pub record IsLanded (content : Content) (segment new_segment buffer : List ℕ) (shown : ℕ) : Type 0 where
   pub landed : new_segment ≡ written_by segment (landing content)
   pub same_length : length new_segment ≡ length segment
@@ -23,7 +23,7 @@ asked_place asking = if has_place asking.category then Some (asking.offset, payl
 abbrev pub replied_place : Reply → Option (ℕ × ℕ)
 replied_place reply = if is_long (code reply.kind) then Some (reply.offset, reply.len) else None
 
--- the content of a reply of the local node, whose payload stands at the prefix of a buffer
+-- the content of a reply of the local node, whose payload stands at the beginning of a buffer
 abbrev pub content_at : (buffer : List ℕ) → Reply → Content
 content_at buffer reply = record {
   kind = reply.kind;

@@ -50,7 +50,7 @@ struct Work<'a> {
     message: Incoming<'a>,
 }
 
-/// Runs a handler at a token over the buffer; its reply, where it sent one.
+/// Runs a handler with a token over the buffer; its reply, where it sent one.
 fn run_with_token<H: Handlers>(
     handlers: &H,
     work: &Work<'_>,
@@ -99,7 +99,7 @@ struct OwnReply<'a> {
 }
 
 impl<'a> HandlerContext<'a> {
-    /// Runs the handler of this index for a message, at a token over the buffer; its reply, where it sent one.
+    /// Runs the handler of this index for a message, with a token over the buffer; its reply, where it sent one.
     pub fn run<H: Handlers>(
         &mut self,
         handlers: &H,
@@ -160,7 +160,7 @@ impl<'a> HandlerContext<'a> {
         }
     }
 
-    /// Runs the handler of the reply of an own request, whose payload stands at the prefix of the buffer.
+    /// Runs the handler of the reply of an own request, whose payload stands at the beginning of the buffer.
     fn run_own_reply<'b, H: Handlers>(&mut self, handlers: &H, own: &OwnReply<'b>, buffer: &'b [u8])
         requires { CanRunOwnReply own.now self.old.segment.now self.old.locks.now buffer.now }
         ensures same { IsSameHandlerContext self.old self.new }
@@ -220,8 +220,8 @@ impl<'a> HandlerContext<'a> {
         place.commit(len);
     }
 
-    /// Runs the handler of a request of another node at a token over the buffer, and leaves the datagram of its reply
-    /// at the prefix of the buffer, or that of an Ack where it sent none; tells the datagram's length.
+    /// Runs the handler of a request of another node with a token over the buffer, and leaves the datagram of its reply
+    /// at the beginning of the buffer, or that of an Ack where it sent none; tells the datagram's length.
     fn answer_into<H: Handlers>(
         &mut self,
         handlers: &H,

@@ -119,8 +119,8 @@ fn copy(segment: &mut Segment, from: u64, to: u64, len: u64)
     }
 }
 
-/// Puts the payload of a reply of the local node, which stands at the prefix of the buffer, where its handler finds it:
-/// a Long's at its place of the segment. Tells how many bytes of the buffer are the handler's.
+/// Puts the payload of a reply of the local node, which stands at the beginning of the buffer, where its handler finds
+/// it: a Long's at its place of the segment. Tells how many bytes of the buffer are the handler's.
 pub fn land_reply(segment: &mut Segment, buffer: &[u8], reply: &Reply) -> usize
     requires len { reply.now.len ≤ length buffer.now }
     requires placed { IsPlaced (length segment.old) (place_of (content_at buffer.now reply.now)) }

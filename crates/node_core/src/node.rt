@@ -233,7 +233,7 @@ impl Core {
         }
     }
 
-    /// Notifications that the request which is due at `now` is sent again, and tells its slot: of those that aren't
+    /// Records that the request which is due at `now` is sent again, and tells its slot: of those that aren't
     /// back and were last sent `resend` or more before, the one that was sent earliest, then the one to the lower node,
     /// then the one in the lower slot. None exactly where none is due.
     pub fn tick(&mut self, now: u64) -> Option<SlotRef>
@@ -299,7 +299,7 @@ impl Core {
         answer
     }
 
-    /// Notifications a violation of a thread.
+    /// Records a violation of a thread.
     fn log_violation(&mut self, thread: u16, fault: Fault)
         ensures { self.new ≡ noting self.old thread (fault ∷ []) }
     {

@@ -565,7 +565,7 @@ impl Core {
         let _ = context.run(handlers, reply.handler, incoming, self.token.part_mut(0));
     }
 
-    /// Notifications that the request which is due at `now` is sent again, and tells its node and slot.
+    /// Records that the request which is due at `now` is sent again, and tells its node and slot.
     pub(crate) fn resend(&mut self, now: u64) -> Option<(u16, u16)>
         ensures { Retransmits self.old now result self.new }
     {

@@ -245,7 +245,7 @@ impl Barrier {
         self.now_due(to).is_some()
     }
 
-    /// Notifications that `notification_to` of this node was sent to it (profile).
+    /// Records that `notification_to` of this node was sent to it (profile).
     pub fn sent(&mut self, to: u16)
         requires in_range { to < self.old.nodes }
         requires due { IsSome (notification_at self.old to) }

@@ -65,7 +65,7 @@ fn has_header(args: usize, offset: u64, segment: u64) -> bool
     args == 4 && offset >= 16 && offset % 8 == 0 && offset <= segment
 }
 
-/// Runs the handler of collectives at a token: writes what its message says, a stamp and a shape, in the 16 bytes
+/// Runs the handler of collectives with a token: writes what its message says, a stamp and a shape, in the 16 bytes
 /// before the message's place. It takes no memory, and replies nothing.
 ///
 /// Where the message has no place, its place isn't at a multiple of 8 or is below 16, or there aren't four arguments,

@@ -56,7 +56,7 @@ with_prefix bytes buffer = bytes ++ drop (length bytes) buffer
 abbrev pub arrival_at : Token → Arrival
 arrival_at token = arrival_of token.message
 
--- what stays the same while a handler runs at the token
+-- what stays the same while a handler runs with the token
 abbrev pub frame_of : Token → Frame
 frame_of token = record {
   settings = token.settings.now;
@@ -67,21 +67,21 @@ frame_of token = record {
 
 -- ---- what calls are answered
 
--- how the rule table judges a call at the token
+-- how the rule table judges a call by the token
 abbrev pub judged_at : Token → CallKind → Result (Unit {0}) Forbidden
 judged_at token kind =
     rule (context_of token.message.role) (holds owner.Handler token.locks.now) (is_some token.reply) kind
 
--- the answer to a reply that is asked for at the token
+-- the answer to a reply that is asked for by the token
 abbrev pub answer_with_token : Token → Content → Replied
 answer_with_token token content =
     answer_by (judged_at token call.Reply) (reply_faults token.settings.now token.table.now content)
 
--- the answer to a lock that is asked for at the token
+-- the answer to a lock that is asked for by the token
 abbrev pub lock_answer_at : Token → (lock : ℕ) → LockAnswer
 lock_answer_at token lock = lock_answer token.locks.now owner.Handler lock token.listed
 
--- the answer to a lock that is given back at the token
+-- the answer to a lock that is given back by the token
 abbrev pub unlock_answer_at : Token → (lock : ℕ) → UnlockAnswer
 unlock_answer_at token lock = unlock_answer token.locks.now owner.Handler lock
 

@@ -1,4 +1,4 @@
-//! What runs at a token.
+//! What runs with a token.
 
 use crate::cells::Cells;
 use crate::token::Token;
@@ -18,7 +18,7 @@ pub trait Handlers {
     /// held then, its reply, and the calls that were refused.
     ghost meaning: { Self → ℕ → Frame → Start → Outcome };
 
-    /// Runs the handler of this index at a token as `Token::new` made it. It takes no memory.
+    /// Runs the handler of this index with a token as `Token::new` made it. It takes no memory.
     ///
     /// The segment has the length of the token's settings, and the place of a Long's payload lies inside it. Segment,
     /// cells and token are then what the meaning says; the segment has the same length.

@@ -71,7 +71,7 @@ pub struct Incoming<'a> {
     pub place: Option<(u64, u64)>,
 }
 
-/// A reply that was sent. Its bytes stand at the prefix of the token's buffer.
+/// A reply that was sent. Its bytes stand at the beginning of the token's buffer.
 #[derive(Clone, Copy)]
 pub struct Reply {
     /// The category.

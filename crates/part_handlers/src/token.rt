@@ -1,4 +1,4 @@
-//! The token at which a handler works.
+//! The token that a handler has.
 
 ghost use Rattle.std.specs.Prelude.{◌≡◌, ◌≢◌, ◌≤◌, None, length};
 ghost use Rattle.std.specs.Result.{OnOk};
@@ -370,7 +370,7 @@ impl<'a> Token<'a> {
     }
 }
 
-/// Puts bytes at the prefix of a buffer that has room for them, and tells how many there are.
+/// Puts bytes at the beginning of a buffer that has room for them, and tells how many there are.
 fn put_prefix(bytes: &[u8], buffer: &mut [u8]) -> usize
     requires { length bytes.now ≤ length buffer.old }
     ensures len { result ≡ length bytes.now }

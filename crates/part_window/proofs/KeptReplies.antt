@@ -14,7 +14,7 @@ with_slot-changed t from k s change = ap (λ (peers : List (List ReplyState)). r
     ∙ update-same t.peers from (λ p. update (update p k (λ _. s)) k change) (λ p. update p k (λ _. change s))
     (λ p. update-update p k (λ _. s) change))
 
--- For a caller that opens a slot, writes a reply at the prefix of its buffer and commits the reply's length: the table it
+-- For a caller that opens a slot, writes a reply at the beginning of its buffer and commits the reply's length: the table it
 -- ends with, by
 -- what `place` ensures and what was written.
 pub reply_committed : {old placed : RepliesState} {from slot number : ℕ} (message rest written : List ℕ)

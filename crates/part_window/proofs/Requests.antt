@@ -18,7 +18,7 @@ with_given-changed t to k number s change = ap (λ (peers : List PeerState). rec
     (λ p. ap (λ (slots : List SlotState). record { given = number; slots = slots })
     (update-update p.slots k (λ _. s) change)))
 
--- For a caller that claims a slot, writes a message at the prefix of its buffer and commits the message's length: the
+-- For a caller that claims a slot, writes a message at the beginning of its buffer and commits the message's length: the
 -- table it ends with, by
 -- what `claim` ensures and what was written.
 pub request_committed : {old claimed : SlotsState} {to : ℕ} {claim : Claim} (message rest written : List ℕ)

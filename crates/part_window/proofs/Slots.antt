@@ -1,4 +1,4 @@
--- A slot in range, and what stands at the prefix of its buffer.
+-- A slot in range, and what stands at the beginning of its buffer.
 use Rattle.std.proofs.Common.{ℕ, ◌≡◌, ◌<◌, ◌≤◌, ◌++◌, List, Some, length, take, inl, inr, arith}
 use Rattle.std.proofs.lemmas.Grind.{common_steps}
 use Rattle.std.proofs.lemmas.List.{take-take, take-append-le}

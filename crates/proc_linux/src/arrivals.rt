@@ -17,7 +17,7 @@ pub trait Arrivals {
     /// What was answered so far, in order, where it tells that.
     ghost told: { Self → Option (List Arrival) };
 
-    /// Takes the next datagram into the prefix of the buffer: how many bytes it has, and who sent it.
+    /// Takes the next datagram into the beginning of the buffer: how many bytes it has, and who sent it.
     ///
     /// # Errors
     ///

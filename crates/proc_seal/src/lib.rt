@@ -1,6 +1,6 @@
 //! A link before another link that seals each datagram with a tag under a key, and receives those that were sealed so.
 //!
-//! A sealed datagram is the datagram with a tag of 16 bytes behind it: the prefix of HMAC-SHA-256 (RFC 2104, FIPS
+//! A sealed datagram is the datagram with a tag of 16 bytes behind it: the first ones of HMAC-SHA-256 (RFC 2104, FIPS
 //! 198-1) of the datagram under the key. What is proved:
 //!
 //! - `Hmac` gives the code of a message under a key [`code`], and `Key` the tag of a datagram, and whether a tag is

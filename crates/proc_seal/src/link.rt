@@ -70,7 +70,7 @@ impl<'a, L: Link> SealedLink<'a, L> {
     }
 }
 
-/// Seals a datagram into the prefix of a buffer, and answers how many bytes that are.
+/// Seals a datagram into the beginning of a buffer, and answers how many bytes that are.
 fn seal(key: &Key, datagram: &[u8], buffer: &mut [u8]) -> usize
     requires fits { length datagram.now ≤ MAX_DATAGRAM }
     requires room { length buffer.old ≡ 8313 }
@@ -105,7 +105,7 @@ fn open(key: &Key, whole: &[u8], into: &mut [u8]) -> Option<usize>
     Some(len)
 }
 
-/// Receives one datagram by a link, and opens it into the prefix of a buffer. None where it is unsealed.
+/// Receives one datagram by a link, and opens it into the beginning of a buffer. None where it is unsealed.
 fn receive_one<L: Link>(
     link: &mut L,
     key: &Key,

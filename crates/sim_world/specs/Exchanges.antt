@@ -21,7 +21,7 @@ with_credit_back exchange = record exchange { back = true }
 abbrev pub with_returned : List Exchange → ℕ → List Exchange
 with_returned list number = update list (number - 1) with_credit_back
 
--- how many exchanges at the prefix of the list are back
+-- how many exchanges at the beginning of the list are back
 abbrev pub prefix_back : List Exchange → ℕ
 prefix_back [] = 0
 prefix_back (exchange ∷ later) = if exchange.back then suc (prefix_back later) else 0

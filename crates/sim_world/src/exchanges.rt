@@ -85,7 +85,7 @@ impl Exchanges {
         Some(self.list[place as usize])
     }
 
-    /// Notifications that the request with that number, which is there, ran.
+    /// Records that the request with that number, which is there, ran.
     pub fn set_ran(&mut self, number: u64)
         requires first { 1 ≤ number }
         requires last { number ≤ length self.old.list }
@@ -94,7 +94,7 @@ impl Exchanges {
         self.list[(number - 1) as usize].ran = true;
     }
 
-    /// Notifications that the request with that number, which is there, is back.
+    /// Records that the request with that number, which is there, is back.
     pub fn set_back(&mut self, number: u64)
         requires first { 1 ≤ number }
         requires last { number ≤ length self.old.list }

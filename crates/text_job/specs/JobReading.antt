@@ -453,7 +453,7 @@ job_of bytes =
     then Err (record { line = 0; why = Size })
     else of_prefix alone (read start 1 bytes)
 
--- the job at the prefix of so many bytes, and the size of its text, which is not too long
+-- the job at the beginning of so many bytes, and the size of its text, which is not too long
 abbrev pub within_size : (count : ℕ) → Prefix → Result (Job × ℕ) BadLine
 within_size count prefix =
     if nat_lt MAX_JOB_BYTES (count - length prefix.rest) then Err (record { line = 0; why = Size })

@@ -173,7 +173,7 @@ pub fn ack<'a>(address: Address) -> Outgoing<'a>
     bare(address, Kind::Ack, 0, &[])
 }
 
-/// Writes the message's one spelling at the prefix of a buffer of 8,296 bytes, which has room for each, and answers
+/// Writes the message's one spelling at the beginning of a buffer of 8,296 bytes, which has room for each, and answers
 /// its length.
 ///
 /// The parts must be well formed, as they are where they were made here. The rest of the buffer is unchanged.

@@ -88,8 +88,8 @@ fn wide_arguments(notification: &BarrierNotification) -> [i32; 12]
     ]
 }
 
-/// Writes the arguments of a notification at the prefix, and answers their number: 6 in version 1, and 12 in version 2.
-/// The rest is unchanged.
+/// Writes the arguments of a notification at the beginning of a list, and answers their number: 6 in version 1, and 12
+/// in version 2. The rest is unchanged.
 ///
 /// They are the phase, its upper half first; the mask in words of 32 bits, the lowest first, so that bit b of word w
 /// stands for node 32 w + b, two words in version 1 and eight in version 2; the identifier; and the flags.

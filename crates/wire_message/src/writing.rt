@@ -104,7 +104,7 @@ fn header_of(parts: &Outgoing<'_>) -> [u8; 40]
     header
 }
 
-/// Writes the message's one spelling at the prefix of a buffer that has room for it, and answers its length.
+/// Writes the message's one spelling at the beginning of a buffer that has room for it, and answers its length.
 pub(crate) fn write_whole(parts: &Outgoing<'_>, buf: &mut [u8]) -> usize
     requires message { IsWellFormed (outgoing_message parts.now) }
     requires room { let message = outgoing_message parts.now in
@@ -120,7 +120,7 @@ pub(crate) fn write_whole(parts: &Outgoing<'_>, buf: &mut [u8]) -> usize
     body + parts.payload.len()
 }
 
-/// Writes the message's one spelling into the prefix of the buffer, and answers its length, at most 8,296 bytes.
+/// Writes the message's one spelling into the beginning of the buffer, and answers its length, at most 8,296 bytes.
 ///
 /// None exactly where the buffer is too small, and then it is unchanged. Else the rest of it is unchanged. The parts
 /// must be well formed, as `Outgoing::well_formed` tells.
