@@ -8,8 +8,8 @@ use Rattle.node_core.specs.CoreState.{CoreState}
 use Rattle.node_rules.specs.EndpointLocal.{EndpointLocal, IsEndpointKept}
 use Rattle.node_rules.specs.EndpointRules.{OtherCall, RecordEvent, job_of}
 use Rattle.node_rules.specs.declared.answer.Answer.{Answer}
-use Rattle.node_collectives.specs.CollectivesState.{CollectivesState}
-use Rattle.node_endpoint.specs.EndpointState.{EndpointState, EndpointStands}
+use Rattle.node_collectives.specs.CollectivesState.{CollectivesState, IsSameNode}
+use Rattle.node_endpoint.specs.EndpointState.{EndpointState, EndpointStands, ForItsRecord}
 use Rattle.node_caller.specs.Sites.{Site, node_in_the_end}
 use Rattle.spec_node.specs.NodeStep.{Job}
 use Rattle.law_traces.specs.Actions.{Part}
@@ -91,3 +91,19 @@ pub record IsPartTried (at : TryContext) (node : Node EndpointLocal) (part : Par
 -- the answer of the first call of a part, where the node has this record
 abbrev pub first_of : TryContext → Part → Node EndpointLocal → Option Answer
 first_of at part node = first_answer (job_at at) at.me at.thread at.now part.calls node
+
+-- the endpoint of a node, and how far the node's collectives are
+pub record NodeCollectives : Type 0 where
+  pub endpoint : EndpointState
+  pub collectives : CollectivesState
+
+-- a try of that thread: the node is the same one, and of each record for which its endpoint stood the try did what the
+-- part says
+pub record TriesPart (meaning : Meaning) (at : AtThread) (old : NodeCollectives)
+    (part : TryContext → Node EndpointLocal → CollectivesState → Part) (told : PartTried)
+    (new : NodeCollectives) : Type 0 where
+  pub same : IsSameCore old.endpoint.core new.endpoint.core
+  pub same_node : IsSameNode old.collectives new.collectives
+  pub tried : ForItsRecord old.endpoint (λ node.
+      let here = context_at meaning old.endpoint at in
+      IsPartTried here node (part here node old.collectives) old.collectives told new.collectives new.endpoint)

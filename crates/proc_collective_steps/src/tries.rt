@@ -1,11 +1,9 @@
 //! The tries of steps that are one call of the node's collectives.
 
 ghost use Rattle.std.specs.Prelude.{◌≡◌, ◌<◌};
-ghost use Rattle.node_collectives.specs.CollectivesState.{IsSameNode};
-ghost use Rattle.node_endpoint.specs.EndpointState.{ForItsRecord};
 ghost use Rattle.proc_collective_steps.specs.Outcomes.{sent_by};
 ghost use Rattle.proc_collective_steps.specs.Parts.{start_part, step_part, end_part};
-ghost use Rattle.proc_collective_steps.specs.Tries.{AreOf, IsPartTried, IsSameCore, context_at};
+ghost use Rattle.proc_collective_steps.specs.Tries.{AreOf, TriesPart};
 
 use crate::last_answer::LastAnswer;
 use law_traces::ScriptAnswer;
@@ -65,12 +63,10 @@ pub fn try_start<H: Handlers>(
 ) -> PartTried
     requires thread { at.thread < endpoint.old.core.settings.threads }
     requires of { AreOf endpoint.old.core collectives.old }
-    ensures same { IsSameCore endpoint.old.core endpoint.new.core }
-    ensures same_node { IsSameNode collectives.old collectives.new }
-    ensures tried { ForItsRecord endpoint.old (λ node.
-        let here = context_at (H.meaning handlers.now) endpoint.old at in
-        IsPartTried here node (start_part here asked.shape asked.from node collectives.old)
-        collectives.old result collectives.new endpoint.new) }
+    ensures { TriesPart (H.meaning handlers.now) at
+        (record { endpoint = endpoint.old; collectives = collectives.old })
+        (λ here. start_part here asked.shape asked.from) result
+        (record { endpoint = endpoint.new; collectives = collectives.new }) }
 {
     let mut caller = LastAnswer {
         endpoint,
@@ -95,12 +91,10 @@ pub fn try_step<H: Handlers>(
 ) -> PartTried
     requires thread { at.thread < endpoint.old.core.settings.threads }
     requires of { AreOf endpoint.old.core collectives.old }
-    ensures same { IsSameCore endpoint.old.core endpoint.new.core }
-    ensures same_node { IsSameNode collectives.old collectives.new }
-    ensures tried { ForItsRecord endpoint.old (λ node.
-        let here = context_at (H.meaning handlers.now) endpoint.old at in
-        IsPartTried here node (step_part here node collectives.old) collectives.old result
-        collectives.new endpoint.new) }
+    ensures { TriesPart (H.meaning handlers.now) at
+        (record { endpoint = endpoint.old; collectives = collectives.old })
+        step_part result
+        (record { endpoint = endpoint.new; collectives = collectives.new }) }
 {
     let mut caller = LastAnswer {
         endpoint,
@@ -126,12 +120,10 @@ pub fn try_end<H: Handlers>(
 ) -> PartTried
     requires thread { at.thread < endpoint.old.core.settings.threads }
     requires of { AreOf endpoint.old.core collectives.old }
-    ensures same { IsSameCore endpoint.old.core endpoint.new.core }
-    ensures same_node { IsSameNode collectives.old collectives.new }
-    ensures tried { ForItsRecord endpoint.old (λ node.
-        let here = context_at (H.meaning handlers.now) endpoint.old at in
-        IsPartTried here node (end_part here dest node collectives.old) collectives.old result
-        collectives.new endpoint.new) }
+    ensures { TriesPart (H.meaning handlers.now) at
+        (record { endpoint = endpoint.old; collectives = collectives.old })
+        (λ here. end_part here dest) result
+        (record { endpoint = endpoint.new; collectives = collectives.new }) }
 {
     let mut caller = LastAnswer {
         endpoint,

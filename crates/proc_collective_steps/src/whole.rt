@@ -2,11 +2,10 @@
 
 ghost use Rattle.std.specs.Prelude.{◌≡◌, ◌<◌, ◌&&◌};
 ghost use Rattle.std.specs.Option.{option_map};
-ghost use Rattle.node_collectives.specs.CollectivesState.{IsSameNode};
 ghost use Rattle.node_endpoint.specs.EndpointState.{ForItsRecord};
 ghost use Rattle.proc_collective_steps.specs.Outcomes.{is_nothing, is_started, start_ends, step_ends, try_ends};
 ghost use Rattle.proc_collective_steps.specs.Parts.{first_part, later_part};
-ghost use Rattle.proc_collective_steps.specs.Tries.{AreOf, IsPartTried, IsSameCore, context_at, first_of, went_on};
+ghost use Rattle.proc_collective_steps.specs.Tries.{AreOf, TriesPart, context_at, first_of, went_on};
 
 use crate::last_answer::LastAnswer;
 use crate::tries::{AtThread, PartTried, Start, sent_by};
@@ -71,12 +70,10 @@ pub fn begin_whole<H: Handlers>(
 ) -> (PartTried, Option<Answer>)
     requires thread { at.thread < endpoint.old.core.settings.threads }
     requires of { AreOf endpoint.old.core collectives.old }
-    ensures same { IsSameCore endpoint.old.core endpoint.new.core }
-    ensures same_node { IsSameNode collectives.old collectives.new }
-    ensures tried { ForItsRecord endpoint.old (λ node.
-        let here = context_at (H.meaning handlers.now) endpoint.old at in
-        IsPartTried here node (first_part here asked.shape asked.from node collectives.old)
-        collectives.old result.0 collectives.new endpoint.new) }
+    ensures tries { TriesPart (H.meaning handlers.now) at
+        (record { endpoint = endpoint.old; collectives = collectives.old })
+        (λ here. first_part here asked.shape asked.from) result.0
+        (record { endpoint = endpoint.new; collectives = collectives.new }) }
     ensures first { ForItsRecord endpoint.old (λ node.
         let here = context_at (H.meaning handlers.now) endpoint.old at in
         result.1 ≡ first_of here
@@ -126,12 +123,10 @@ pub fn go_on_whole<H: Handlers>(
 ) -> PartTried
     requires thread { at.thread < endpoint.old.core.settings.threads }
     requires of { AreOf endpoint.old.core collectives.old }
-    ensures same { IsSameCore endpoint.old.core endpoint.new.core }
-    ensures same_node { IsSameNode collectives.old collectives.new }
-    ensures tried { ForItsRecord endpoint.old (λ node.
-        let here = context_at (H.meaning handlers.now) endpoint.old at in
-        IsPartTried here node (later_part here dest node collectives.old) collectives.old result
-        collectives.new endpoint.new) }
+    ensures { TriesPart (H.meaning handlers.now) at
+        (record { endpoint = endpoint.old; collectives = collectives.old })
+        (λ here. later_part here dest) result
+        (record { endpoint = endpoint.new; collectives = collectives.new }) }
 {
     let unexhausted = collectives.is_unexhausted();
     let mut caller = LastAnswer {

@@ -2,9 +2,7 @@
 
 ghost use Rattle.std.specs.Prelude.{◌≡◌, ◌<◌};
 ghost use Rattle.std.specs.Prelude.{Some};
-ghost use Rattle.node_collectives.specs.CollectivesState.{IsSameNode};
-ghost use Rattle.node_endpoint.specs.EndpointState.{ForItsRecord};
-ghost use Rattle.proc_collective_steps.specs.Tries.{AreOf, IsPartTried, IsSameCore, context_at};
+ghost use Rattle.proc_collective_steps.specs.Tries.{AreOf, TriesPart};
 ghost use Rattle.proc_steps.specs.Forms.{call_part, collective_form, whole_form};
 ghost use Rattle.proc_steps.specs.Tries.{AreThere, TriesFound, no_collectives, of_part};
 
@@ -79,12 +77,10 @@ fn try_part<H: Handlers>(
 ) -> PartTried
     requires thread { at.thread < endpoint.old.core.settings.threads }
     requires of { AreOf endpoint.old.core collectives.old }
-    ensures same { IsSameCore endpoint.old.core endpoint.new.core }
-    ensures same_node { IsSameNode collectives.old collectives.new }
-    ensures tried { ForItsRecord endpoint.old (λ node.
-        let here = context_at (H.meaning handlers.now) endpoint.old at in
-        IsPartTried here node (call_part call here node collectives.old) collectives.old result
-        collectives.new endpoint.new) }
+    ensures { TriesPart (H.meaning handlers.now) at
+        (record { endpoint = endpoint.old; collectives = collectives.old })
+        (call_part call) result
+        (record { endpoint = endpoint.new; collectives = collectives.new }) }
 {
     match call {
         CollectiveText::Start { shape, from } => {

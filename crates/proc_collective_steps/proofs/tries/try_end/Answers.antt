@@ -17,21 +17,16 @@ pub try_end-answer-requires : goal.try_end-answer-requires
 try_end-answer-requires g c =
     record { settings = c.requires.of.settings; me = c.requires.of.me_is; thread = c.requires.thread }
 
-pub returns-clause-same : goal.returns-clause-same
-returns-clause-same g c =
-    let site = c.try_end-answer.ensures.same_site in
-    same_core c.args.endpoint.now c.try_end-answer.new.caller.endpoint.now _
+pub returns : goal.returns
+returns g c =
+    let same_site = c.try_end-answer.ensures.same_site in
+    let same = same_core c.args.endpoint.now c.try_end-answer.new.caller.endpoint.now _
     (c.endpoint-1.given.1 (sym c.try_end-answer.ensures.same_reference)) (record {
-      settings = ap (λ (s : Site). s.settings) site;
-      me_is = ap (λ (s : Site). s.node) site;
-      table = ap (λ (s : Site). s.table) site;
-    })
-
-pub returns-clause-same_node : goal.returns-clause-same_node
-returns-clause-same_node g c = c.try_end-answer.ensures.same_node
-
-pub returns-clause-tried : goal.returns-clause-tried
-returns-clause-tried g c =
+      settings = ap (λ (s : Site). s.settings) same_site;
+      me_is = ap (λ (s : Site). s.node) same_site;
+      table = ap (λ (s : Site). s.table) same_site;
+    }) in
+    let tried =
     end_is_tried (g.H.Handlers.meaning c.args.handlers.now) c.args.endpoint.now _ c.args.at c.args.collectives.now
     c.try_end-answer.new.self c.args.dest c.try_end-answer.result (g.met.H.Handlers.is_lawful c.args.handlers.now)
     (λ node stands.
@@ -47,4 +42,5 @@ returns-clause-tried g c =
     end_comes_so site node outcome _ _ _ _ _ _ (c.endpoint-1.given.1 (sym c.try_end-answer.ensures.same_reference))
     came.answered came.next_is
     (subst (LastStands c.try_end-answer.new.caller.endpoint.now c.try_end-answer.new.caller.last)
-    (left_one_by_one g.row.H g.H.Handlers g.H.Handlers-dict site whole outcome.calls) came.left))
+    (left_one_by_one g.row.H g.H.Handlers g.H.Handlers-dict site whole outcome.calls) came.left)) in
+    record { same = same; same_node = c.try_end-answer.ensures.same_node; tried = tried }

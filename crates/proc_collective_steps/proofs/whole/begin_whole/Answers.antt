@@ -48,12 +48,14 @@ returns g c =
     (subst (LastStands c.start-answer.new.caller.endpoint.now last)
     (left_one_by_one g.row.H g.H.Handlers g.H.Handlers-dict site whole outcome.calls) came.left) in
     record {
-      same = same;
-      same_node = c.start-answer.ensures.same_node;
-      tried = λ node stands.
-          tried_as _ _ _ _ _ _ _ _ _ _ _ _ c.sent_by.ensures c.start_said.ensures c.is_started.ensures
-          (first_tried meaning old c.endpoint-1.given.0 c.args.at it c.start-answer.new.self c.args.asked.shape
-          c.args.asked.from told last same comes node stands);
+      tries = record {
+        same = same;
+        same_node = c.start-answer.ensures.same_node;
+        tried = λ node stands.
+            tried_as _ _ _ _ _ _ _ _ _ _ _ _ c.sent_by.ensures c.start_said.ensures c.is_started.ensures
+            (first_tried meaning old c.endpoint-1.given.0 c.args.at it c.start-answer.new.self c.args.asked.shape
+            c.args.asked.from told last same comes node stands);
+      };
       first = first_said meaning old c.endpoint-1.given.0 c.args.at it c.start-answer.new.self c.args.asked.shape
           c.args.asked.from told last comes;
     }

@@ -30,21 +30,15 @@ try_end-ended-requires g c =
       thread = subst (λ (s : Site). c.args.at.thread < s.settings.threads) (sym site) c.requires.thread;
     }
 
-pub returns-in-Some-clause-same : goal.returns-in-Some-clause-same
-returns-in-Some-clause-same g c =
+pub returns-in-Some : goal.returns-in-Some
+returns-in-Some g c =
     let same_site = c.step-answer.ensures.same_site in
-    same_core c.args.endpoint.now c.step-answer.new.caller.endpoint.now _
+    let same = same_core c.args.endpoint.now c.step-answer.new.caller.endpoint.now _
     (c.in-Some.endpoint-1-own.given.1 (sym c.step-answer.ensures.same_reference)) (record {
       settings = ap (λ (s : Site). s.settings) same_site;
       me_is = ap (λ (s : Site). s.node) same_site;
       table = ap (λ (s : Site). s.table) same_site;
-    })
-
-pub returns-in-Some-clause-same_node : goal.returns-in-Some-clause-same_node
-returns-in-Some-clause-same_node g c = c.step-answer.ensures.same_node
-
-pub returns-in-Some-clause-tried : goal.returns-in-Some-clause-tried
-returns-in-Some-clause-tried g c =
+    }) in
     let meaning : Meaning = g.H.Handlers.meaning c.args.handlers.now in
     let old = c.args.endpoint.now in
     let it = c.args.collectives.now in
@@ -52,20 +46,24 @@ returns-in-Some-clause-tried g c =
     let caller = ghosts g.row.H g.H.Handlers g.H.Handlers-dict in
     let told = c.step-answer.result in
     let last = c.step-answer.new.caller.last in
-    λ node stands.
-    tried_as _ _ _ _ _ _ _ _ _ _ _ _ c.sent_by-sent.ensures refl refl
-    (last_step_tried meaning old _ c.args.at it c.step-answer.new.self c.args.dest told c.in-Some.end last
-    (g.met.H.Handlers.is_lawful c.args.handlers.now) (returns-in-Some-clause-same g c)
-    (λ node stands.
-    let whole : LastWhole = record { node = node; last = None } in
-    let outcome = step_outcome site c.args.at.thread node it in
-    let came = step_came caller refl follows_last c.args.at.thread it _ _ _ _ c.step-answer.ensures.steps whole
-    (record { stands = stands; last_is = refl }) in
-    comes_so site node outcome _ _ _ _ _
-    (c.in-Some.endpoint-1-own.given.1 (sym c.step-answer.ensures.same_reference)) came.answered came.next_is
-    (subst (LastStands c.step-answer.new.caller.endpoint.now last)
-    (left_one_by_one g.row.H g.H.Handlers g.H.Handlers-dict site whole outcome.calls) came.left))
-    (sym c.step_ends.ensures ∙ c.in-Some.is) node stands)
+    record {
+      same = same;
+      same_node = c.step-answer.ensures.same_node;
+      tried = λ node stands.
+          tried_as _ _ _ _ _ _ _ _ _ _ _ _ c.sent_by-sent.ensures refl refl
+          (last_step_tried meaning old _ c.args.at it c.step-answer.new.self c.args.dest told c.in-Some.end last
+          (g.met.H.Handlers.is_lawful c.args.handlers.now) same
+          (λ node stands.
+          let whole : LastWhole = record { node = node; last = None } in
+          let outcome = step_outcome site c.args.at.thread node it in
+          let came = step_came caller refl follows_last c.args.at.thread it _ _ _ _ c.step-answer.ensures.steps whole
+          (record { stands = stands; last_is = refl }) in
+          comes_so site node outcome _ _ _ _ _
+          (c.in-Some.endpoint-1-own.given.1 (sym c.step-answer.ensures.same_reference)) came.answered came.next_is
+          (subst (LastStands c.step-answer.new.caller.endpoint.now last)
+          (left_one_by_one g.row.H g.H.Handlers g.H.Handlers-dict site whole outcome.calls) came.left))
+          (sym c.step_ends.ensures ∙ c.in-Some.is) node stands);
+    }
 
 pub returns : goal.returns
 returns g c =

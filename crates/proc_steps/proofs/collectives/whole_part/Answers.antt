@@ -7,10 +7,10 @@ returns-in-None g c = record {
   tries = begun_told (g.H.Handlers.meaning c.args.handlers.now) c.args.endpoint.now c.begin_whole-first.new.endpoint
       c.args.collectives.now c.begin_whole-first.new.collectives c.args.trial.now c.args.text.start.shape
       c.args.text.start.from c.args.text.dest c.at.result c.begin_whole-first.result.0 c.begin_whole-first.result.1
-      c.of_part.result c.in-None.is c.requires.of c.at.ensures c.of_part.ensures c.begin_whole-first.ensures.same
-      c.begin_whole-first.ensures.same_node c.begin_whole-first.ensures.tried c.begin_whole-first.ensures.first;
+      c.of_part.result c.in-None.is c.requires.of c.at.ensures c.of_part.ensures c.begin_whole-first.ensures.tries.same
+      c.begin_whole-first.ensures.tries.same_node c.begin_whole-first.ensures.tries.tried c.begin_whole-first.ensures.first;
   there = still_of c.args.endpoint.now c.begin_whole-first.new.endpoint c.args.collectives.now
-      c.begin_whole-first.new.collectives c.begin_whole-first.ensures.same c.begin_whole-first.ensures.same_node c.requires.of;
+      c.begin_whole-first.new.collectives c.begin_whole-first.ensures.tries.same c.begin_whole-first.ensures.tries.same_node c.requires.of;
 }
 
 pub returns-in-Some : goal.returns-in-Some
