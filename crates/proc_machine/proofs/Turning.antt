@@ -39,7 +39,6 @@ use Rattle.proc_machine.specs.Parts.{at_once}
 use Rattle.proc_machine.specs.Scripted.{NextTrial, TriesNext, events_of_next, tried_next, as_said, progress_after}
 use Rattle.proc_machine.specs.NodeState.{datagram_at, as_there}
 use Rattle.proc_machine.specs.Turns.{job_of_endpoint, TurnTaken, turn_by, GoesAsTurn, TakesTurn}
-use Rattle.proc_machine.specs.declared.turn.Done.{Done}
 use Rattle.proc_machine.proofs.Happening.{happen_then, at_same, run-append, same_then}
 use Rattle.proc_machine.proofs.Locks.{turn_keeps}
 
@@ -163,37 +162,35 @@ same_changed got slots packets ended began more less e f h =
 
 -- a turn of a state for which the endpoint stands
 state_goes : (meaning : Meaning) (old mid : EndpointState) (new : FoundNode) (taken : TurnTaken)
-    (state : MachineState EndpointLocal (OwnScripts ScriptStep)) (slots : List SlotRef) (tried : Tried) (done : Done)
+    (state : MachineState EndpointLocal (OwnScripts ScriptStep)) (slots sent : List SlotRef) (tried : Tried)
     → IsLawfulMeaning meaning → GotBytes taken.got → EndpointStands old state.node
     → Happen meaning old
     (at_once taken.now (first_events (job_of_endpoint meaning old) state taken.thread taken.got) slots) mid
     → TriesNext meaning (record { endpoint = mid; collectives = state.own.collectives })
     (record { now = taken.now; thread = taken.thread; progress = state.own.threads taken.thread }) tried new
-    → done.outgoing ≡ slots ++ option_to_list tried.sent → done.ended ≡ tried.ended
-    → done.began ≡ is_some tried.began
-    → GoesAsTurn (job_of_endpoint meaning old) old.core.me taken state done
+    → sent ≡ slots ++ option_to_list tried.sent
+    → GoesAsTurn (job_of_endpoint meaning old) old.core.me taken state (sent, tried)
     × EndpointStands new.endpoint (turn_by (job_of_endpoint meaning old) old.core.me taken state).after.node
     × ((turn_by (job_of_endpoint meaning old) old.core.me taken state).after.own
     ≡ record {
       threads = put state.own.threads taken.thread (progress_after (state.own.threads taken.thread) tried);
       collectives = new.collectives;
     })
-state_goes meaning old mid new taken state slots tried done lawful bytes stands before tries slots_is ended_is
-    began_is =
+state_goes meaning old mid new taken state slots sent tried lawful bytes stands before tries slots_is =
     let it = turn_by job me taken state in
-    let sent : done.outgoing ≡ map slot_of_packet it.packets = slots_is ∙ all.slots_are in (
+    let sent_is : sent ≡ map slot_of_packet it.packets = slots_is ∙ all.slots_are in (
       record {
-        ended = ap (λ (t : FormTried (Progress ScriptStep)). t.ended) went ∙ sym ended_is;
-        changed = same_changed (is_some taken.got) (is_some_there done.outgoing) (is_some_there it.packets)
-            (is_some done.ended) done.began _ _
-            (ap is_some_there sent ∙ some_there it.packets)
-            (ap is_some (ended_is ∙ sym (ap (λ (t : FormTried (Progress ScriptStep)). t.ended) went)))
-            (began_is ∙ sym (ap (λ (t : FormTried (Progress ScriptStep)). t.began) went));
-        sends = sym (length-map it.packets slot_of_packet) ∙ ap length (sym sent);
+        ended = ap (λ (t : FormTried (Progress ScriptStep)). t.ended) went;
+        changed = same_changed (is_some taken.got) (is_some_there sent) (is_some_there it.packets)
+            (is_some tried.ended) (is_some tried.began) _ _
+            (ap is_some_there sent_is ∙ some_there it.packets)
+            (ap is_some (sym (ap (λ (t : FormTried (Progress ScriptStep)). t.ended) went)))
+            (sym (ap (λ (t : FormTried (Progress ScriptStep)). t.began) went));
+        sends = sym (length-map it.packets slot_of_packet) ∙ ap length (sym sent_is);
         sent = subst (λ (l : List SlotRef). map (datagram_at settings me it.after.node) l
-            ≡ map as_there (map (datagram settings) it.packets)) (sym sent)
+            ≡ map as_there (map (datagram settings) it.packets)) (sym sent_is)
             (stand_there settings me it.after.node it.packets stood);
-        locks = λ none. kept (sym ended_is ∙ none);
+        locks = kept;
       },
       all.stands,
       ap₂ (λ (threads : ℕ → Progress ScriptStep) (now : Option CollectivesState). record {
@@ -291,24 +288,22 @@ still_there old new (Some it) same there = record {
 }
 
 pub turn_goes : (meaning : Meaning) (old : FoundNode) (mid : EndpointState) (new : FoundNode) (taken : TurnTaken)
-    (progress : Progress ScriptStep) (polls : Bool) (slots : List SlotRef) (tried : Tried) (done : Done)
+    (progress : Progress ScriptStep) (polls : Bool) (slots sent : List SlotRef) (tried : Tried)
     → IsLawfulMeaning meaning → GotBytes taken.got
     → ForItsRecord old.endpoint (λ node. polls ≡ not (holds (owner.Thread taken.thread) node.local.core.locks))
     → Happen meaning old.endpoint
     (at_once taken.now (before_try old.endpoint.core.settings.version polls taken.got) slots) mid
     → TriesNext meaning (record { endpoint = mid; collectives = old.collectives })
     (record { now = taken.now; thread = taken.thread; progress = progress }) tried new
-    → done.outgoing ≡ slots ++ option_to_list tried.sent → done.ended ≡ tried.ended
-    → done.began ≡ is_some tried.began
-    → TakesTurn meaning (old, progress) taken done (new, progress_after progress tried)
-turn_goes meaning old mid new taken progress polls slots tried done lawful bytes polled before tries slots_is ended_is
-    began_is =
+    → sent ≡ slots ++ option_to_list tried.sent
+    → TakesTurn meaning (old, progress) taken (sent, tried) (new, progress_after progress tried)
+turn_goes meaning old mid new taken progress polls slots sent tried lawful bytes polled before tries slots_is =
     record {
       same = same_then old.endpoint.core mid.core new.endpoint.core before.same tries.happen.same;
       said = progress_said progress tried;
       goes = λ state stands own far.
           let version = old.endpoint.core.settings.version in
-          let it = state_goes meaning old.endpoint mid new taken state slots tried done lawful bytes stands
+          let it = state_goes meaning old.endpoint mid new taken state slots sent tried lawful bytes stands
           (subst (λ (b : Bool).
           Happen meaning old.endpoint (at_once taken.now (before_try version b taken.got) slots) mid)
           (polled state.node stands) before)
@@ -319,7 +314,7 @@ turn_goes meaning old mid new taken progress polls slots tried done lawful bytes
           (subst (λ (p : Progress ScriptStep).
           TriesNext meaning (record { endpoint = mid; collectives = old.collectives })
           (record { now = taken.now; thread = taken.thread; progress = p }) tried new) (sym own) tries))
-          slots_is ended_is began_is in
+          slots_is in
           let left : Progress ScriptStep → OwnScripts ScriptStep = λ p. record {
             threads = put state.own.threads taken.thread (progress_after p tried);
             collectives = new.collectives;

@@ -15,7 +15,8 @@ use Rattle.proc_steps.specs.Forms.{step_form}
 use Rattle.proc_steps.specs.Tries.{FoundNode, IsAtSameNode}
 use Rattle.proc_machine.specs.Kept.{CanBeSaid}
 use Rattle.proc_machine.specs.NodeState.{datagram_at, as_there}
-use Rattle.proc_machine.specs.declared.turn.Done.{Done}
+use Rattle.spec_node.specs.declared.answer.SlotRef.{SlotRef}
+use Rattle.proc_steps.specs.declared.trial.Tried.{Tried}
 
 -- the job of an endpoint with handlers that do this
 abbrev pub job_of_endpoint : Meaning → EndpointState → NodeJob EndpointLocal (OwnScripts ScriptStep)
@@ -33,29 +34,33 @@ abbrev pub turn_by : NodeJob EndpointLocal (OwnScripts ScriptStep) → (me : ℕ
     → MachineState EndpointLocal (OwnScripts ScriptStep) → Turn EndpointLocal (OwnScripts ScriptStep)
 turn_by job me taken state = turn job me state taken.thread taken.now taken.got
 
+-- what it did: the slots of the messages that it sent, and the try of the thread's step
+abbrev pub TurnDone : Type 0
+TurnDone = List SlotRef × Tried
+
 -- something was got or sent, or the step ended or began
-abbrev pub is_changed : TurnTaken → Done → Bool
+abbrev pub is_changed : TurnTaken → TurnDone → Bool
 is_changed taken done =
-    is_some taken.got || is_some_there done.outgoing || is_some done.ended || done.began
+    is_some taken.got || is_some_there done.0 || is_some done.1.ended || is_some done.1.began
 
 -- of a state of the node: the turn goes to what the endpoint stands for then, and what it told is the turn's
 pub record GoesAsTurn
     (job : NodeJob EndpointLocal (OwnScripts ScriptStep)) (me : ℕ) (taken : TurnTaken)
-    (state : MachineState EndpointLocal (OwnScripts ScriptStep)) (done : Done) : Type 0 where
-  pub ended : (try_of job me state taken.thread taken.now taken.got).ended ≡ done.ended
+    (state : MachineState EndpointLocal (OwnScripts ScriptStep)) (done : TurnDone) : Type 0 where
+  pub ended : (try_of job me state taken.thread taken.now taken.got).ended ≡ done.1.ended
   pub changed : (turn_by job me taken state).changed ≡ is_changed taken done
-  pub sends : length (turn_by job me taken state).packets ≡ length done.outgoing
+  pub sends : length (turn_by job me taken state).packets ≡ length done.0
   -- each datagram stands in its slot
-  pub sent : map (datagram_at job.job.settings me (turn_by job me taken state).after.node) done.outgoing
+  pub sent : map (datagram_at job.job.settings me (turn_by job me taken state).after.node) done.0
       ≡ map as_there (map (datagram job.job.settings) (turn_by job me taken state).packets)
   -- it changes locks only where it ended its step
-  pub locks : done.ended ≡ None
+  pub locks : done.1.ended ≡ None
       → (turn_by job me taken state).after.node.local.core.locks ≡ state.node.local.core.locks
 
 -- a turn of a thread of which this was left of its script: it went so for every state for which the endpoint stood and
 -- whose collectives are so far, and this is left now
 pub record TakesTurn
-    (meaning : Meaning) (old : FoundNode × Progress ScriptStep) (taken : TurnTaken) (done : Done)
+    (meaning : Meaning) (old : FoundNode × Progress ScriptStep) (taken : TurnTaken) (done : TurnDone)
     (new : FoundNode × Progress ScriptStep) : Type 0 where
   pub same : IsAtSameNode old.0.endpoint.core new.0.endpoint.core
   pub said : (settings : Parameters) → CanBeSaid settings old.1 → CanBeSaid settings new.1

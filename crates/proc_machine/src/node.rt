@@ -12,11 +12,12 @@ ghost use Rattle.proc_machine.specs.NodeState.{NodeStands, is_of, opening_collec
 
 use crate::cursor::{Cursor, are_done, cursor_at};
 use crate::outgoing::Outgoing;
-use crate::turn::{Done, ThreadTurn, take_turn};
+use crate::turn::{ThreadTurn, is_change, take_turn};
 use base_turns::{Machine, Turned};
 use law_traces::ScriptAnswer;
 use node_collectives::Collectives;
 use node_endpoint::Endpoint;
+use proc_steps::Tried;
 use std::alloc::{AllocError, Global};
 use std::marker::Model;
 use text_job::NodeScript;
@@ -150,7 +151,7 @@ impl<'a> NodeMachine<'a> {
     }
 
     /// A turn of a thread, but for what the machine keeps of it.
-    fn take(&mut self, thread: u16, now: u64, got: Option<&[u8]>) -> Done
+    fn take(&mut self, thread: u16, now: u64, got: Option<&[u8]>) -> (Outgoing, Tried)
         requires thread { thread < self.old.job.settings.threads }
         requires polls { IsSome got → polls_at self.old thread ≡ true }
         ensures { MachineTakes self.old
@@ -225,19 +226,20 @@ impl<'a> Machine for NodeMachine<'a> {
     fn turn(&mut self, thread: u16, now: u64, got: Option<&[u8]>) -> Turned {
         let came = got.is_some();
         let done = self.take(thread, now, got);
-        if !done.is_change(came) {
+        if !is_change(&done, came) {
             return Turned {
                 changed: false,
                 stepped: false,
                 sends: 0,
             };
         }
-        let sends = done.outgoing.count();
-        self.outgoing = done.outgoing;
-        self.answer = done.ended;
+        let (outgoing, tried) = done;
+        let sends = outgoing.count();
+        self.outgoing = outgoing;
+        self.answer = tried.ended;
         Turned {
             changed: true,
-            stepped: done.ended.is_some(),
+            stepped: tried.ended.is_some(),
             sends,
         }
     }

@@ -13,7 +13,6 @@ ghost use Rattle.proc_machine.specs.Turns.{TakesTurn};
 use crate::cursor::Cursor;
 use crate::outgoing::Outgoing;
 use crate::parts::before_try;
-use law_traces::ScriptAnswer;
 use node_collectives::Collectives;
 use node_endpoint::Endpoint;
 use part_handlers::{Handlers, Owner};
@@ -32,25 +31,12 @@ pub struct ThreadTurn<'a> {
     pub got: Option<&'a [u8]>,
 }
 
-/// What a turn did.
-#[derive(Drop)]
-pub struct Done {
-    /// The messages that it sent.
-    pub outgoing: Outgoing,
-    /// The answer of the script step that it ended.
-    pub ended: Option<ScriptAnswer>,
-    /// It began a script step, or changed the node's collectives, and didn't end the step.
-    pub began: bool,
-}
-
-impl Done {
-    /// Something was got or sent, the step ended or began, or the collectives changed.
-    pub fn is_change(&self, came: bool) -> bool
-        ensures { result ≡ (came || is_some_there self.now.outgoing
-            || is_some self.now.ended || self.now.began) }
-    {
-        came || self.outgoing.is_any() || self.ended.is_some() || self.began
-    }
+/// Something was got or sent, the script step ended or began, or the node's collectives changed.
+pub fn is_change(done: &(Outgoing, Tried), came: bool) -> bool
+    ensures { result ≡ (came || is_some_there done.now.0 || is_some done.now.1.ended
+        || is_some done.now.1.began) }
+{
+    came || done.0.is_any() || done.1.ended.is_some() || done.1.began.is_some()
 }
 
 /// Tries the next step of a thread's script, if there is one.
@@ -95,14 +81,15 @@ fn try_next<H: Handlers>(
 }
 
 /// A turn of a thread, with its script: where it polls, what was got is delivered, and the node ticks; then the next
-/// step of the script is tried. `collectives` is how far the node's collectives are.
+/// step of the script is tried. `collectives` is how far the node's collectives are. Answers the messages that the turn
+/// sent, and what the try did.
 pub fn take_turn<H: Handlers>(
     endpoint: &mut Endpoint,
     handlers: &H,
     collectives: &mut Option<Collectives>,
     cursor: &mut Cursor<'_>,
     turn: ThreadTurn<'_>,
-) -> Done
+) -> (Outgoing, Tried)
     requires thread { turn.thread < endpoint.old.core.settings.threads }
     requires said { CanBeSaid endpoint.old.core.settings (progress_of cursor.old) }
     requires there { AreThere endpoint.old collectives.old }
@@ -125,9 +112,5 @@ pub fn take_turn<H: Handlers>(
     let tried = try_next(endpoint, handlers, collectives, cursor, turn);
     outgoing.add(tried.sent);
     cursor.go_on(&tried);
-    Done {
-        outgoing,
-        ended: tried.ended,
-        began: tried.began.is_some(),
-    }
+    (outgoing, tried)
 }

@@ -1,12 +1,11 @@
 -- A turn of a thread.
-use Rattle.std.proofs.Common.{◌<◌, refl, subst, sym, option_copied}
+use Rattle.std.proofs.Common.{◌<◌, subst, sym, option_copied}
 use Rattle.wire_message.specs.Parameters.{Parameters}
 use Rattle.text_steps.specs.declared.steps.ScriptStep.{ScriptStep}
 use Rattle.law_traces.specs.Actions.{Progress}
 use Rattle.proc_machine.specs.Cursors.{progress_of}
 use Rattle.proc_machine.specs.Kept.{CanBeSaid}
-use Rattle.proc_machine.specs.Turns.{TurnTaken, TakesTurn}
-use Rattle.proc_machine.specs.declared.turn.Done.{Done}
+use Rattle.proc_machine.specs.Turns.{TakesTurn, TurnDone, TurnTaken}
 use Rattle.proc_steps.specs.Tries.{FoundNode}
 use Rattle.proc_machine.proofs.Turning.{still_there, turn_goes}
 use Rattle.proc_machine.proofs.turn.take_turn.Goals as goal
@@ -39,18 +38,14 @@ returns g c =
       now = c.args.turn.now;
       got = option_copied c.args.turn.got;
     } in
-    let done : Done = record {
-      outgoing = c.add.new.self;
-      ended = c.try_next-tried.result.ended;
-      began = c.is_some.result;
-    } in
+    let done : TurnDone = (c.add.new.self, c.try_next-tried.result) in
     record {
       takes = subst (λ (p : Progress ScriptStep).
           TakesTurn meaning (old, progress_of c.args.cursor.now) taken done (new, p)) (sym c.go_on.ensures)
           (turn_goes meaning old c.before_try-outgoing.new.endpoint new taken (progress_of c.args.cursor.now)
           c.args.turn.polls
-          c.before_try-outgoing.result c.try_next-tried.result done (g.met.H.Handlers.is_lawful c.args.handlers.now)
+          c.before_try-outgoing.result c.add.new.self c.try_next-tried.result (g.met.H.Handlers.is_lawful c.args.handlers.now)
           c.before_try-outgoing.ensures.bytes c.requires.polls c.before_try-outgoing.ensures.happen
-          c.try_next-tried.ensures.tries c.add.ensures.slots refl c.is_some.ensures);
+          c.try_next-tried.ensures.tries c.add.ensures.slots);
       there = c.try_next-tried.ensures.there;
     }
