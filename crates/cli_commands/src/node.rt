@@ -173,46 +173,29 @@ pub fn node_command<
         waiter,
     } = outside;
     let mut source = source;
-    match job_from(alloc, &mut source) {
-        Ok(job) => {
-            let devices = Devices {
-                link,
-                clock,
-                sink,
-                waiter: &waiter,
-            };
-            let EndedNodeCommand {
-                ended,
-                link,
-                clock,
-                sink,
-            } = run_read(rt, alloc, job, address, devices);
-            (
-                ended,
-                Outside {
-                    source,
-                    sink,
-                    link,
-                    spawner,
-                    clock,
-                    waiter,
-                },
-            )
-        }
-        Err(end) => {
-            let mut sink = sink;
-            let ended = say(&mut sink, end, Given::nothing());
-            (
-                ended,
-                Outside {
-                    source,
-                    sink,
-                    link,
-                    spawner,
-                    clock,
-                    waiter,
-                },
-            )
-        }
-    }
+    let devices = Devices {
+        link,
+        clock,
+        sink,
+        waiter: &waiter,
+    };
+    let ran = match job_from(alloc, &mut source) {
+        Ok(job) => run_read(rt, alloc, job, address, devices),
+        Err(end) => say_unrun(end, devices),
+    };
+    let EndedNodeCommand {
+        ended,
+        link,
+        clock,
+        sink,
+    } = ran;
+    let outside = Outside {
+        source,
+        sink,
+        link,
+        spawner,
+        clock,
+        waiter,
+    };
+    (ended, outside)
 }
