@@ -41,8 +41,8 @@ use crate::settings::SystemEnvironment;
 use crate::texts::UserTexts;
 use cli_commands::words_of;
 use cli_report::{
-    Command, CountedSpawner, Outcome, StandardError, is_node, tell_after, tell_fault, tell_help,
-    with_port,
+    Command, CountedSpawner, FreePorts, Outcome, StandardError, is_node, tell_after, tell_fault,
+    tell_help, with_port,
 };
 use cli_settings::{Refusal, SettingsTold, hosts_told, settings_told};
 use proc_linux::{
@@ -52,6 +52,7 @@ use proc_seal::{Dropped, Key, SealedLink};
 use std::alloc::AllocError;
 use std::env;
 use std::io::{IsTerminal, Print};
+use std::net::UdpSocket;
 use std::process::ExitCode;
 
 /// Ends the program before any command, for what the environment sets.
@@ -79,10 +80,10 @@ fn settings_of(rt: &HostRuntime) -> Result<(Hosts, SettingsTold), Refusal> {
 /// The spawner of the program that `launch` starts. How its children end is kept there.
 fn spawner_of(
     rt: HostRuntime,
-    agent: Option<String>,
-    folder: Option<String>,
+    told: SettingsTold,
     ends: &ChildEnds,
 ) -> ProcessSpawner<'_, HostRuntime> {
+    let SettingsTold { agent, folder, .. } = told;
     let mut spawner = match agent {
         Some(agent) => ProcessSpawner::new(rt, rt.alloc(), agent, ends),
         None => ProcessSpawner::of_own_program(rt, ends),
@@ -93,57 +94,77 @@ fn spawner_of(
     spawner
 }
 
+/// What a run has to its end.
+#[derive(Drop)]
+struct Begun {
+    is_help: bool,
+    hosts: Hosts,
+    ports: Option<FreePorts<UdpSocket>>,
+}
+
+/// What a run begins with: the command, help where its words ask for it, what the environment sets, and a port where a
+/// launch has none.
+///
+/// # Errors
+///
+/// The `Refusal` of the first that can't be taken.
+fn begin(
+    rt: &HostRuntime,
+    person: &mut StandardError<'_, HostRuntime>,
+) -> Result<(Command, SettingsTold, Begun), Refusal> {
+    let alloc = rt.alloc();
+    let Ok(words) = words_of(alloc, env::args(rt)) else {
+        return Err(Refusal::NoMemory);
+    };
+    let is_help = tell_help::<UserTexts, _>(alloc, &words, person);
+    let (hosts, told) = settings_of(rt)?;
+    let (words, ports) = with_port(alloc, words, &SystemPorts::new(rt), person);
+    let keeps_input = !InputFile::new(rt).is_unread();
+    let command = Command::new(alloc, words, told.steps, keeps_input);
+    let begun = Begun {
+        is_help,
+        hosts,
+        ports,
+    };
+    Ok((command, told, begun))
+}
+
 fn main(rt: HostRuntime) -> ExitCode {
     let (alloc, mut person) = (rt.alloc(), StandardError::new(&rt));
-    let Ok(words) = words_of(alloc, env::args(&rt)) else {
-        return refuse(&rt, Refusal::NoMemory);
-    };
-    let is_help = tell_help::<UserTexts, _>(alloc, &words, &mut person);
-    let (hosts, told) = match settings_of(&rt) {
-        Ok(told) => told,
+    let (mut command, told, begun) = match begin(&rt, &mut person) {
+        Ok(begun) => begun,
         Err(why) => return refuse(&rt, why),
     };
-    let SettingsTold {
-        secret,
-        agent,
-        folder,
-        steps,
-    } = told;
-    let (words, ports) = with_port(alloc, words, &SystemPorts::new(&rt), &mut person);
-    let is_shown = !is_node(&words) && rt.stderr().is_terminal();
-    let input = InputFile::new(&rt);
-    let mut command = Command::new(alloc, words, steps, !input.is_unread());
+    let is_shown = !is_node(&command.words) && rt.stderr().is_terminal();
     let Ok(progress) = shown_progress(&rt, is_shown) else {
         return refuse(&rt, Refusal::NoMemory);
     };
     let (socket, ends) = (LinkSocket::new(), ChildEnds::new(alloc));
     let unsealed = Dropped::new(socket.sender());
-    let link = UdpLink::new(rt, &socket, &hosts);
+    let secret = told.secret;
     let behind = Behind {
-        spawner: CountedSpawner::new(alloc, spawner_of(rt, agent, folder, &ends), &*progress),
+        spawner: CountedSpawner::new(alloc, spawner_of(rt, told, &ends), &*progress),
         clock: SystemClock::new(rt),
         waiter: SocketWaiter::new(rt, alloc, &socket),
         progress: &progress,
     };
+    let link = UdpLink::new(rt, &socket, &begun.hosts);
     let mut notes = StandardNotes::new(&rt);
     let (status, spawner) = match secret {
         None => run(&rt, &mut command, link, behind, &mut notes),
         Some(secret) => match SealedLink::new(alloc, link, Key::new(secret), &unsealed) {
             Ok(link) => run(&rt, &mut command, link, behind, &mut notes),
-            Err(AllocError) => {
-                drop(behind);
-                return refuse(&rt, Refusal::NoMemory);
-            }
+            Err(AllocError) => return refuse(&rt, Refusal::NoMemory),
         },
     };
     progress.end(&rt);
-    command.read_again(&input);
+    command.read_again(&InputFile::new(&rt));
     let (spawner, outputs) = spawner.into_parts();
     let facts = facts_of(&socket, &unsealed, spawner.unstarted());
     drop(spawner);
     let kept = KeptEnds::new(&ends);
-    let outcome = Outcome::new(is_help, outputs, facts, &kept);
+    let outcome = Outcome::new(begun.is_help, outputs, facts, &kept);
     tell_after::<UserTexts, OutputReplays, _, _>(alloc, &command, outcome, &mut person);
-    drop(ports);
+    drop(begun.ports);
     status
 }
