@@ -149,7 +149,6 @@ impl MemorySink {
 }
 
 impl Sink for MemorySink {
-    ghost use Rattle.std.specs.Prelude.{Some};
 
     ghost taken = { λ s. Some s.taken };
 

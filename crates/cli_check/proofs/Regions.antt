@@ -9,8 +9,8 @@ use Rattle.base_lists.proofs.Indexes.{get-set_other, get-set_same}
 use Rattle.base_lists.specs.Put.{put}
 use Rattle.base_lists.specs.Numbered.{element_at}
 use Rattle.base_lists.proofs.Put.{put_same, put_other}
-use Rattle.part_regions.specs.declared.Region.{Region}
-use Rattle.part_regions.specs.Regions.{region_of, has_begun, name_of, region_of_serial, after_operation, empty_region}
+use Rattle.part_transfers.specs.declared.regions.Region.{Region}
+use Rattle.part_transfers.specs.Regions.{region_of, has_begun, name_of, region_of_serial, after_operation, empty_region}
 use Rattle.node_core.specs.ClientRules.{rules}
 use Rattle.wire_message.specs.Content.{Content, content_of}
 use Rattle.wire_message.specs.Message.{Message}

@@ -40,8 +40,8 @@ use Rattle.spec_node.specs.declared.answer.Why.{Why}
 use Rattle.text_script.specs.Bodies.{script_meaning}
 use Rattle.text_script.specs.Registration.{handlers_of, registry_of}
 use Rattle.node_core.specs.Library.{notification_handler, notification_said}
-use Rattle.law_rejected.specs.Rejected.{is_refused, rejected_entry}
-use Rattle.law_rejected.specs.Rejected.{unless_refused as unless_refused_got}
+use Rattle.law_traces.specs.Rejected.{is_refused, rejected_entry}
+use Rattle.law_traces.specs.Rejected.{unless_refused as unless_refused_got}
 use Rattle.cli_check.specs.CheckInputs.{IsTraceOf}
 use Rattle.cli_check.specs.Recording.{RecorderKept, RecorderStands, opening_record}
 use Rattle.cli_check.specs.Rejected.{IsEndpointAt, is_refusal, refused_turns, refuses_at, refuses_got}
@@ -49,7 +49,7 @@ use Rattle.cli_check.specs.Rejected.{rejected_entries, rejected_from}
 use Rattle.cli_check.specs.Rejected.{rejected_trace, rejected_traces}
 use Rattle.cli_check.specs.Machines.{first_machine, last_record}
 use Rattle.cli_check.specs.TracesRun.{AreNodesAfter, IsNodeAfter}
-use Rattle.law_rejected.proofs.Striking.{replay_same}
+use Rattle.law_traces.proofs.Striking.{replay_same}
 
 -- ---- a message that isn't refused is answered otherwise
 

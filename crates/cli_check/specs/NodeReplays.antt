@@ -13,8 +13,8 @@ use Rattle.proc_machine.specs.Kept.{are_done}
 use Rattle.spec_node.specs.Record.{Node}
 use Rattle.spec_node.specs.SlotMessages.{number_in_slot}
 use Rattle.spec_node.specs.declared.answer.Side.TheVariants as side
-use Rattle.text_replay.specs.Sending.{sent_from}
-use Rattle.text_replay.specs.declared.replaying.Replayed.{Replayed}
+use Rattle.text_trace.specs.Sending.{sent_from}
+use Rattle.text_trace.specs.declared.replaying.Replayed.{Replayed}
 use Rattle.cli_check.specs.Recording.{RecordedState, RecorderKept, RecorderStands, opening_record, record_steps}
 use Rattle.cli_check.specs.Rejected.{refused_turns, rejected_entries, rejected_trace}
 use Rattle.cli_check.specs.declared.node_replay.NodeReplay.{NodeReplay}

@@ -10,7 +10,7 @@ use Rattle.proc_machine.specs.NodeState.{script_job}
 use Rattle.spec_node.specs.declared.answer.Delivered.{Delivered}
 use Rattle.spec_node.specs.declared.answer.Delivered.TheVariants as delivered
 use Rattle.text_script.specs.Registration.{handlers_of, registry_of}
-use Rattle.law_rejected.specs.Rejected.{is_refused, without_rejected}
+use Rattle.law_traces.specs.Rejected.{is_refused, without_rejected}
 
 -- the entries of the node of this rank: where one got bytes that the node refuses, whatever it did before, it got
 -- nothing

@@ -18,7 +18,7 @@
 //!   of the run (`run_lines`: the answer of each step of a script, where it ended, and the lines of each node), or as
 //!   the sink failed, a prefix of it. Then the rejected traces are a run of the world (`RunOfTraces`, with all that
 //!   `IsWorldRun` of `law_traces` says: the headline, the laws of transfers and of the barrier), and the endpoints that
-//!   are given stand for the records that this run leaves its nodes [`nodes_of_run`]. By the law of `law_rejected`
+//!   are given stand for the records that this run leaves its nodes [`nodes_of_run`]. By the law of `law_traces`
 //!   these are the records that each node's trace leaves as it was read [`nodes_after`: `AreNodesAfter`]. Or it ends as
 //!   `NoMemory`: the body writes nothing then, but the clause allows whole lines of a run (`EndsHalfway`). Each line of
 //!   a step tells which step of which thread ended, in which turn of the run, by which calls and with what answers

@@ -14,9 +14,8 @@ use base_turns::{Entry, Machine};
 use node_endpoint::Endpoint;
 use spec_node::{Delivered, Why};
 use std::alloc::{AllocError, Global};
-use text_replay::{Replayed, replay};
 use text_script::Script;
-use text_trace::{NodeStatus, Output, Trace};
+use text_trace::{NodeStatus, Output, Replayed, Trace, replay};
 
 /// An entry of a trace that got what its node refuses.
 #[derive(Clone, Copy)]

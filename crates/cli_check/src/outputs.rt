@@ -2,16 +2,15 @@
 
 ghost use Rattle.std.specs.Prelude.{◌≡◌, MatchOption, option_map};
 ghost use Rattle.text_job.specs.JobText.{IsJob};
-ghost use Rattle.text_replay.specs.Sending.{AreAllSent, IsFirstUnsent};
+ghost use Rattle.text_trace.specs.Sending.{AreAllSent, IsFirstUnsent};
 ghost use Rattle.cli_check.specs.Turned.{turned_at};
 
 use crate::input::{CheckInput, InputFault, LIMIT, input_of, wanted_of};
 use crate::node_replay::{NodeReplay, replay_output};
 use std::alloc::{AllocError, Global};
 use text_job::{Job, JobFault, read_job};
-use text_replay::{Replayed, first_unsent};
 use text_script::Script;
-use text_trace::{Output, TraceFault, read_output};
+use text_trace::{Output, Replayed, TraceFault, first_unsent, read_output};
 
 /// What a node gave.
 #[derive(Drop)]

@@ -3,7 +3,7 @@
 ghost use Rattle.std.specs.Prelude.{◌≡◌, ◌≤◌, IfOk, false, length};
 ghost use Rattle.text_job.specs.declared.job.Job.{Job as JobState};
 ghost use Rattle.proc_machine.specs.NodeState.{script_job};
-ghost use Rattle.law_rejected.specs.Rejected.{rejected_entry};
+ghost use Rattle.law_traces.specs.Rejected.{rejected_entry};
 ghost use Rattle.cli_check.specs.Merging.{AreFirstRecorders};
 ghost use Rattle.cli_check.specs.Rejected.{OfItsNode, is_refusal, refused_turns, refuses_at, refuses_got};
 ghost use Rattle.cli_check.specs.Rejected.{rejected_entries, rejected_trace, rejected_traces};

@@ -32,9 +32,8 @@
 //! whose page says what is proved of it.
 #![tactic(auto)]
 
-pub use node_caller::{AtEndpoint, Called, Caller, make_call};
 pub use node_core::{Asked, Delivered, Payload, Side, SlotRef, Why};
-pub use node_endpoint::Endpoint;
+pub use node_endpoint::{AtEndpoint, Called, Caller, Endpoint, make_call};
 pub use node_rules::{Answer, Begun, Call, Event, Local, Region, Ticked};
 pub use node_vis::{Indexed, Level, Piece, Plan, PlanFault, Strided, Vis, Way};
 pub use part_barrier::{BarrierAnswer, Notified};

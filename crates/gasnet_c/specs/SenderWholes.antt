@@ -4,7 +4,7 @@ use Rattle.spec_node.specs.Record.{Node}
 use Rattle.spec_node.specs.declared.answer.SlotRef.{SlotRef}
 use Rattle.node_rules.specs.EndpointLocal.{EndpointLocal}
 use Rattle.node_rules.specs.Sends.{sends}
-use Rattle.node_caller.specs.Sites.{Site, ThreadCall, answer_at, node_then}
+use Rattle.node_endpoint.specs.Sites.{Site, ThreadCall, answer_at, node_then}
 
 -- the record of the node, and the slot of the datagram that the last call sends
 pub record SenderWhole : Type 0 where

@@ -3,9 +3,8 @@
 ghost use Rattle.std.specs.Prelude.{◌≡◌, refl};
 
 use crate::serving::OwnHandlers;
-use node_caller::{Called, Caller};
 use node_core::SlotRef;
-use node_endpoint::Endpoint;
+use node_endpoint::{Called, Caller, Endpoint};
 use node_rules::{Call, Event};
 use part_segment::Segment;
 

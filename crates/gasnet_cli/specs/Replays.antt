@@ -13,9 +13,9 @@ use Rattle.cli_report.specs.declared.findings.NodeFinding.{NodeFinding}
 use Rattle.cli_report.specs.declared.unsent.Gap.{Gap}
 use Rattle.cli_report.specs.declared.unsent.Message.{Message}
 use Rattle.cli_report.specs.declared.unsent.SentMessage.{SentMessage}
-use Rattle.text_replay.specs.Sending.{AreAllSent, IsFirstUnsent}
-use Rattle.text_replay.specs.declared.replaying.Replayed.{Replayed}
-use Rattle.text_replay.specs.declared.sent.Sent.{Sent}
+use Rattle.text_trace.specs.Sending.{AreAllSent, IsFirstUnsent}
+use Rattle.text_trace.specs.declared.replaying.Replayed.{Replayed}
+use Rattle.text_trace.specs.declared.sent.Sent.{Sent}
 
 -- ---- what the replay of one output tells
 

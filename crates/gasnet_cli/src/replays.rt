@@ -8,7 +8,7 @@ use base_turns::Entry;
 use cli_check::{GivenOutput, NodeReplay, NodeReplays, replay_given, replay_input};
 use cli_report::{Gap, KeptOutput, NodeFinding, Replays, SentMessage, message_of};
 use std::alloc::{AllocError, Global};
-use text_replay::Sent;
+use text_trace::Sent;
 
 /// The replays of the outputs of nodes. Which outputs they are of isn't told.
 #[derive(Drop)]

@@ -13,3 +13,4 @@ pub mod Fitting
 pub mod Speaking
 pub mod WorldRuns
 pub mod Outgoings
+pub mod Striking

@@ -9,3 +9,4 @@ pub mod WorldRun
 pub mod Empty
 pub mod Outgoing
 pub mod Laws
+pub mod Rejected

@@ -24,12 +24,17 @@
 //! - `empty_law`: an empty turn leaves the machine, where a try that waits leaves the record (`IsCalm`); `waiting_law`:
 //!   a try that neither ends nor begins its step leaves the scripts.
 //! - `outgoing_law` [`first`, `stands`]: each message that a turn sent stands in its slot at the end of the turn.
+//! - `every_trace` of `rejected` [`turn`, `replay`]: an entry that got bytes which the node refuses can be read as the
+//!   same entry that got nothing. So what stands in a trace by mistake doesn't keep the trace from being a part of a
+//!   run.
 #![tactic(auto)]
 
 mod laws;
+mod rejected;
 mod script_answer;
 
 pub use laws::{
     carrying_law, empty_law, merge_law, outgoing_law, run_law, states_law, waiting_law,
 };
+pub use rejected::every_trace;
 pub use script_answer::ScriptAnswer;

@@ -11,7 +11,7 @@ use Rattle.part_handlers.specs.declared.rules.Forbidden.{Forbidden}
 use Rattle.part_handlers.specs.declared.rules.Role.TheVariants as role
 use Rattle.part_handlers.specs.Runs.{Meaning}
 use Rattle.spec_node.specs.Behaviour.{Contact}
-use Rattle.part_regions.specs.Regions.{has_begun}
+use Rattle.part_transfers.specs.Regions.{has_begun}
 use Rattle.part_transfers.specs.declared.operation.Mode.{Mode}
 use Rattle.part_transfers.specs.declared.operation.Transfer.{Transfer}
 use Rattle.node_core.specs.Kept.{Local, start_from, with_writes}

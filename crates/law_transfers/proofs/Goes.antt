@@ -12,7 +12,7 @@ use Rattle.part_handlers.specs.declared.rules.Forbidden.{Forbidden}
 use Rattle.part_handlers.specs.declared.message.Which.{Which}
 use Rattle.part_handlers.specs.Runs.{Meaning}
 use Rattle.base_lists.specs.Numbered.{element_at}
-use Rattle.part_regions.specs.Regions.{has_begun}
+use Rattle.part_transfers.specs.Regions.{has_begun}
 use Rattle.spec_node.specs.NodeStep.{OfCall}
 use Rattle.spec_network.specs.World.{EventAt, Event, OfNode, world_answer, world_after}
 use Rattle.part_transfers.specs.declared.operation.Handle.{Handle}

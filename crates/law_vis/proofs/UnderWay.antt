@@ -14,7 +14,7 @@ use Rattle.part_transfers.specs.declared.operation.Transfer.{Transfer}
 use Rattle.part_transfers.specs.Operation.{Operation, begin_answer, is_full}
 use Rattle.spec_node.specs.Record.{Node}
 use Rattle.spec_node.specs.Step.{is_exhausted}
-use Rattle.part_regions.specs.Regions.{has_begun}
+use Rattle.part_transfers.specs.Regions.{has_begun}
 use Rattle.part_handlers.specs.declared.lock_answer.Held.{Held}
 use Rattle.node_core.specs.Kept.{Local, segment_of}
 use Rattle.node_core.specs.ClientRules.{rules}
@@ -28,7 +28,7 @@ use Rattle.node_rules.specs.declared.answer.Answer.{Answer}
 use Rattle.node_rules.specs.declared.answer.Answer.TheVariants as answers
 use Rattle.node_rules.specs.declared.answer.Begun.{Begun}
 use Rattle.node_rules.specs.declared.answer.Begun.TheVariants as begun
-use Rattle.node_caller.specs.Sites.{Site, ThreadCall, answer_at, answers_at, node_then, node_in_the_end}
+use Rattle.node_endpoint.specs.Sites.{Site, ThreadCall, answer_at, answers_at, node_then, node_in_the_end}
 use Rattle.node_vis.specs.declared.shapes.Way.{Way}
 use Rattle.node_vis.specs.declared.shapes.Way.TheVariants.{Put, Get}
 use Rattle.node_vis.specs.declared.shapes.Piece.{Piece}

@@ -15,7 +15,7 @@ use Rattle.node_rules.specs.TransferCalls.{BeginImplicit, RegionBegin, written_a
 use Rattle.node_rules.specs.declared.answer.Answer.{Answer}
 use Rattle.node_rules.specs.declared.answer.Answer.TheVariants as answers
 use Rattle.node_rules.specs.declared.answer.Begun.TheVariants as begun
-use Rattle.node_caller.specs.Sites.{Site, answers_at, node_then, node_in_the_end}
+use Rattle.node_endpoint.specs.Sites.{Site, answers_at, node_then, node_in_the_end}
 use Rattle.node_vis.specs.declared.shapes.Vis.{Vis}
 use Rattle.node_vis.specs.declared.shapes.Vis.TheVariants as vis
 use Rattle.part_transfers.specs.declared.operation.Next.{Next}

@@ -1,11 +1,11 @@
 -- A batch is asked by one call.
 use Rattle.std.proofs.Common.{◌≡◌, refl}
-use Rattle.node_caller.specs.declared.caller.Called.{Called}
-use Rattle.node_caller.specs.declared.caller.Called.TheVariants as called
-use Rattle.node_caller.specs.declared.caller.Caller.{Ghosts}
-use Rattle.node_caller.specs.Making.{MakesOne}
-use Rattle.node_caller.specs.Sites.{ThreadCall, MayLack, answer_at}
-use Rattle.node_caller.specs.Answer.{Answer}
+use Rattle.node_endpoint.specs.declared.caller.Called.{Called}
+use Rattle.node_endpoint.specs.declared.caller.Called.TheVariants as called
+use Rattle.node_endpoint.specs.declared.caller.Caller.{Ghosts}
+use Rattle.node_endpoint.specs.Making.{MakesOne}
+use Rattle.node_endpoint.specs.Sites.{ThreadCall, MayLack, answer_at}
+use Rattle.node_endpoint.specs.Answer.{Answer}
 use Rattle.node_atomics.specs.Asking.{answer_of}
 
 -- what the clauses of a call say of it

@@ -3,13 +3,13 @@ use Rattle.std.specs.Prelude.{ℕ, ◌==◌, if◌then◌else◌, Option, None, 
 use Rattle.wire_message.specs.Content.{Content}
 use Rattle.wire_message.specs.Parameters.{Parameters}
 use Rattle.spec_node.specs.Behaviour.{Asking, Lent}
-use Rattle.node_caller.specs.ClientRules.{medium_asking}
-use Rattle.node_caller.specs.HandlerRuns.{shown_payload}
-use Rattle.node_caller.specs.Called.{Requests}
-use Rattle.node_caller.specs.Answer.{Answer}
-use Rattle.node_caller.specs.Sites.{ThreadCall}
-use Rattle.node_caller.specs.declared.caller.Called.{Called}
-use Rattle.node_caller.specs.declared.caller.Called.TheVariants as called
+use Rattle.node_endpoint.specs.ClientRules.{medium_asking}
+use Rattle.node_endpoint.specs.HandlerRuns.{shown_payload}
+use Rattle.node_endpoint.specs.Called.{Requests}
+use Rattle.node_endpoint.specs.Answer.{Answer}
+use Rattle.node_endpoint.specs.Sites.{ThreadCall}
+use Rattle.node_endpoint.specs.declared.caller.Called.{Called}
+use Rattle.node_endpoint.specs.declared.caller.Called.TheVariants as called
 use Rattle.node_atomics.specs.BatchRequests.{BatchRequest, batch_arguments, batch_handler, request_said, spelled_ops}
 use Rattle.node_atomics.specs.Batches.{BatchState}
 use Rattle.node_atomics.specs.Served.{if_placed}

@@ -2,16 +2,16 @@
 
 ghost use Rattle.std.specs.Prelude.{◌≡◌, ◌<◌, List, ℕ, Some};
 ghost use Rattle.spec_node.specs.Behaviour.{Lent};
-ghost use Rattle.node_caller.specs.ClientRules.{medium_asking, said_in};
-ghost use Rattle.node_caller.specs.Called.{Requests, meant};
-ghost use Rattle.node_caller.specs.Making.{MakesOne};
-ghost use Rattle.node_caller.specs.Sites.{IsThere};
+ghost use Rattle.node_endpoint.specs.ClientRules.{medium_asking, said_in};
+ghost use Rattle.node_endpoint.specs.Called.{Requests, meant};
+ghost use Rattle.node_endpoint.specs.Making.{MakesOne};
+ghost use Rattle.node_endpoint.specs.Sites.{IsThere};
 ghost use Rattle.node_atomics.specs.BatchRequests.{batch_handler};
 ghost use Rattle.node_atomics.specs.Asking.{answer_of, batch_asking, batch_call, batch_of};
 
 use crate::batch::Batch;
 use crate::serving::BATCH_HANDLER;
-use node_caller::{Call, Called, Caller, Payload};
+use node_endpoint::{Call, Called, Caller, Payload};
 
 impl Batch {
     /// A thread of the caller's node asks the batch of its target: a Medium request to handler 252. The batch was made

@@ -6,8 +6,8 @@ use Rattle.std.proofs.lemmas.Bool.{eqb-true, le-leb, leb-false, lt-leb, ltb-fals
 use Rattle.spec_node.specs.Behaviour.{Own}
 use Rattle.node_core.specs.ClientRules.{long_asking}
 use Rattle.node_rules.specs.Called.{Requests}
-use Rattle.node_caller.specs.declared.caller.Caller.{Ghosts}
-use Rattle.node_caller.specs.Sites.{ThreadCall}
+use Rattle.node_endpoint.specs.declared.caller.Caller.{Ghosts}
+use Rattle.node_endpoint.specs.Sites.{ThreadCall}
 use Rattle.part_collective_area.specs.Area.{data_place}
 use Rattle.part_collective_area.specs.Served.{collective_handler, header_arguments}
 use Rattle.part_collective_area.specs.Shapes.{has_root, is_reduction, shape_word}

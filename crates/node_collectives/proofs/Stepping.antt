@@ -6,11 +6,11 @@ use Rattle.wire_message.specs.Parameters.{Parameters}
 use Rattle.spec_node.specs.Behaviour.{PayloadFrom}
 use Rattle.node_core.specs.ClientRules.{long_asking}
 use Rattle.node_rules.specs.Called.{Requests}
-use Rattle.node_caller.specs.Sites.{IsThere, Site, ThreadCall}
+use Rattle.node_endpoint.specs.Sites.{IsThere, Site, ThreadCall}
 use Rattle.part_collective_area.specs.Area.{data_place}
 use Rattle.part_collective_area.specs.Served.{collective_handler, header_arguments}
 use Rattle.part_collective_area.specs.Shapes.{shape_word}
-use Rattle.node_caller.specs.declared.caller.Caller.{Ghosts}
+use Rattle.node_endpoint.specs.declared.caller.Caller.{Ghosts}
 use Rattle.node_collectives.specs.declared.answers.StepAnswer.{StepAnswer}
 use Rattle.node_collectives.specs.declared.answers.StepAnswer.TheVariants as step_answers
 use Rattle.node_collectives.specs.Progress.{is_left, is_open}

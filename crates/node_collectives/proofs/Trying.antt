@@ -12,10 +12,10 @@ use Rattle.node_core.specs.ClientRules.{rules}
 use Rattle.node_rules.specs.CoreCalls.{if_allowed}
 use Rattle.node_rules.specs.EndpointLocal.{EndpointLocal}
 use Rattle.node_rules.specs.declared.answer.Answer.{Answer}
-use Rattle.node_caller.specs.declared.caller.Caller.{Ghosts}
-use Rattle.node_caller.specs.Sites.{Site, ThreadCall, node_then}
-use Rattle.node_caller.specs.Making.{whole_after}
-use Rattle.node_caller.proofs.Joining.{Follows}
+use Rattle.node_endpoint.specs.declared.caller.Caller.{Ghosts}
+use Rattle.node_endpoint.specs.Sites.{Site, ThreadCall, node_then}
+use Rattle.node_endpoint.specs.Making.{whole_after}
+use Rattle.node_endpoint.proofs.Joining.{Follows}
 use Rattle.node_collectives.specs.declared.answers.EndAnswer.{EndAnswer}
 use Rattle.node_collectives.specs.declared.answers.EndAnswer.TheVariants as end_answers
 use Rattle.node_collectives.specs.CollectivesState.{CollectivesState, IsSameNode, progress_of}

@@ -13,10 +13,10 @@ use Rattle.spec_node.specs.Record.{Node}
 use Rattle.node_rules.specs.EndpointLocal.{EndpointLocal}
 use Rattle.node_rules.specs.Memory.{Set, segment_does}
 use Rattle.node_rules.specs.declared.answer.Answer.{Answer}
-use Rattle.node_caller.specs.declared.caller.Caller.{Ghosts}
-use Rattle.node_caller.specs.Sites.{Site, ThreadCall, node_then}
-use Rattle.node_caller.specs.Making.{whole_after}
-use Rattle.node_caller.proofs.Joining.{Follows}
+use Rattle.node_endpoint.specs.declared.caller.Caller.{Ghosts}
+use Rattle.node_endpoint.specs.Sites.{Site, ThreadCall, node_then}
+use Rattle.node_endpoint.specs.Making.{whole_after}
+use Rattle.node_endpoint.proofs.Joining.{Follows}
 use Rattle.part_collective_area.specs.Area.{Area, IsArea, SpareArea, SparesArea, data_in, data_place}
 use Rattle.part_collective_area.specs.Results.{pieces_of, result_len}
 use Rattle.part_collective_area.proofs.Places.{part_inside}

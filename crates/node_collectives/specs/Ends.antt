@@ -11,9 +11,9 @@ use Rattle.node_rules.specs.EndpointRules.{OnCore}
 use Rattle.node_rules.specs.Called.{Performs}
 use Rattle.node_rules.specs.declared.answer.Answer.{Answer}
 use Rattle.node_rules.specs.declared.answer.Answer.TheVariants as answers
-use Rattle.node_caller.specs.declared.caller.Caller.{Ghosts}
-use Rattle.node_caller.specs.Sites.{Site, ThreadCall, answer_at}
-use Rattle.node_caller.specs.Making.{ForItsNode, whole_after}
+use Rattle.node_endpoint.specs.declared.caller.Caller.{Ghosts}
+use Rattle.node_endpoint.specs.Sites.{Site, ThreadCall, answer_at}
+use Rattle.node_endpoint.specs.Making.{ForItsNode, whole_after}
 use Rattle.part_collective_area.specs.declared.shape.CollectiveKind.{CollectiveKind}
 use Rattle.part_collective_area.specs.declared.shape.CollectiveKind.TheVariants as kind
 use Rattle.part_collective_area.specs.Results.{pieces_of}

@@ -5,9 +5,9 @@ use Rattle.spec_node.specs.Behaviour.{Ask}
 use Rattle.node_rules.specs.Called.{Requests}
 use Rattle.node_rules.specs.declared.answer.Answer.{Answer}
 use Rattle.node_rules.specs.declared.answer.Answer.TheVariants as answers
-use Rattle.node_caller.specs.declared.caller.Caller.{Ghosts}
-use Rattle.node_caller.specs.Sites.{ThreadCall}
-use Rattle.node_caller.specs.Making.{MakesOne}
+use Rattle.node_endpoint.specs.declared.caller.Caller.{Ghosts}
+use Rattle.node_endpoint.specs.Sites.{ThreadCall}
+use Rattle.node_endpoint.specs.Making.{MakesOne}
 use Rattle.part_collective_area.specs.declared.shape.Shape.{Shape}
 use Rattle.node_collectives.specs.declared.answers.StartAnswer.{StartAnswer}
 use Rattle.node_collectives.specs.declared.answers.StartAnswer.TheVariants as start_answers

@@ -5,8 +5,8 @@ use Rattle.spec_node.specs.declared.answer.Asked.TheVariants as asked
 use Rattle.spec_node.specs.Behaviour.{PayloadFrom, Lent, Own}
 use Rattle.node_rules.specs.declared.answer.Answer.{Answer}
 use Rattle.node_rules.specs.declared.answer.Answer.TheVariants as answers
-use Rattle.node_caller.specs.declared.caller.Caller.{Ghosts}
-use Rattle.node_caller.specs.Sites.{ThreadCall}
+use Rattle.node_endpoint.specs.declared.caller.Caller.{Ghosts}
+use Rattle.node_endpoint.specs.Sites.{ThreadCall}
 use Rattle.part_collective_area.specs.Shapes.{uses}
 use Rattle.node_collectives.specs.declared.answers.StepAnswer.{StepAnswer}
 use Rattle.node_collectives.specs.declared.answers.StepAnswer.TheVariants as step_answers

@@ -1,10 +1,10 @@
 //! A call of a thread at a caller.
 
-ghost use Rattle.node_caller.specs.Sites.{IsThere, called_by};
+ghost use Rattle.node_endpoint.specs.Sites.{IsThere, called_by};
 ghost use Rattle.node_endpoint.specs.EndpointState.{MayBeCalled};
 ghost use Rattle.node_collectives.specs.Starts.{CallsOne};
 
-use node_caller::{Called, Caller};
+use node_endpoint::{Called, Caller};
 use node_rules::{Answer, Call};
 
 /// Makes a call of a thread of the caller's node. None where memory ran out; then nothing was changed.

@@ -1,7 +1,7 @@
 //! The end of a collective.
 
 ghost use Rattle.std.specs.Prelude.{◌≡◌, ◌<◌, ◌+◌, ◌*◌, IfNone, length};
-ghost use Rattle.node_caller.specs.Sites.{IsThere};
+ghost use Rattle.node_endpoint.specs.Sites.{IsThere};
 ghost use Rattle.part_collective_area.specs.Results.{result_len};
 ghost use Rattle.node_collectives.specs.Progress.{end_refusal, is_bad_dest};
 ghost use Rattle.node_collectives.specs.CollectivesState.{IsSameNode, Stands, progress_of};
@@ -12,7 +12,7 @@ use crate::answers::{Argument, EndAnswer};
 use crate::calling::call_one;
 use crate::collectives::Collectives;
 use crate::starting::is_past;
-use node_caller::Caller;
+use node_endpoint::Caller;
 use node_rules::{Answer, Call};
 use part_collective_area::CollectiveKind;
 use part_segment::Segment;

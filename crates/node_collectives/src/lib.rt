@@ -2,7 +2,7 @@
 //! active messages of GASNet 1.8.1, core API).
 //!
 //! Each node runs its collectives in order, phase 0 first, one at a time. A phase is three calls of `Collectives`, each
-//! over any `Caller` of the node (`node_caller`):
+//! over any `Caller` of the node (`node_endpoint`):
 //!
 //! - `start` [`Starts`] brings the node's bytes to its own part of the area, by a Long request to itself.
 //! - `step` [`Steps`] sends the phase to the first node that it wasn't sent to and that can be asked. A node whose

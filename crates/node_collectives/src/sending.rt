@@ -2,7 +2,7 @@
 
 ghost use Rattle.std.specs.Prelude.{◌≡◌, ◌<◌};
 ghost use Rattle.node_core.specs.AskedFor.{payload_from};
-ghost use Rattle.node_caller.specs.Sites.{IsThere};
+ghost use Rattle.node_endpoint.specs.Sites.{IsThere};
 ghost use Rattle.node_collectives.specs.Progress.{is_left};
 ghost use Rattle.node_collectives.specs.CollectivesState.{IsSameNode, Stands, progress_of};
 ghost use Rattle.node_collectives.specs.Starts.{CallsOne};
@@ -12,8 +12,8 @@ use crate::answers::StepAnswer;
 use crate::calling::call_one;
 use crate::collectives::Collectives;
 use crate::starting::{HANDLER, header};
-use node_caller::Caller;
 use node_core::{Asked, Payload};
+use node_endpoint::Caller;
 use node_rules::{Answer, Call};
 
 impl Collectives {

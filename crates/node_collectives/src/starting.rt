@@ -3,7 +3,7 @@
 ghost use Rattle.std.specs.Prelude.{◌≡◌, ◌<◌, ◌+◌, ◌%◌, ◌^◌, ◌-◌, ◌==◌, ◌&&◌, ◌||◌, nat_le, nat_lt, not};
 ghost use Rattle.part_collective_area.specs.Served.{header_arguments};
 ghost use Rattle.part_collective_area.specs.Shapes.{has_root, is_reduction};
-ghost use Rattle.node_caller.specs.Sites.{IsThere};
+ghost use Rattle.node_endpoint.specs.Sites.{IsThere};
 ghost use Rattle.node_collectives.specs.Progress.{start_refusal};
 ghost use Rattle.node_collectives.specs.CollectivesState.{IsSameNode, IsWithin, Stands, progress_of};
 ghost use Rattle.node_collectives.specs.Starts.{CallsOne, Starts, start_call, start_told, started_then};
@@ -11,8 +11,8 @@ ghost use Rattle.node_collectives.specs.Starts.{CallsOne, Starts, start_call, st
 use crate::answers::{Argument, StartAnswer};
 use crate::calling::call_one;
 use crate::collectives::{Collectives, no_nodes};
-use node_caller::Caller;
 use node_core::{Asked, Payload};
+use node_endpoint::Caller;
 use node_rules::{Answer, Call};
 use part_collective_area::Shape;
 use wire_message::{high_half, low_half};

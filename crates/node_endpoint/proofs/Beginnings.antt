@@ -25,8 +25,8 @@ use Rattle.node_rules.specs.TransferCalls.{transfer_fault, begin_says, begun_as,
 use Rattle.node_rules.specs.TransferCalls.{Caller, BeginImplicit, after_beginning, implicit_mode, with_name}
 use Rattle.node_rules.specs.TransferCalls.{transfer_does}
 use Rattle.node_rules.specs.declared.answer.Answer.TheVariants as answers
-use Rattle.part_regions.specs.declared.Region.{Region}
-use Rattle.part_regions.specs.Regions.{after_operation, region_of, region_of_serial}
+use Rattle.part_transfers.specs.declared.regions.Region.{Region}
+use Rattle.part_transfers.specs.Regions.{after_operation, region_of, region_of_serial}
 use Rattle.std.proofs.Math.ListN.{length-set}
 use Rattle.std.specs.Prelude.{slice_set}
 use Rattle.node_rules.specs.declared.answer.Begun.{Begun}

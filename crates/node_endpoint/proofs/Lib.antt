@@ -10,3 +10,4 @@ pub mod Barriers
 pub mod Beginnings
 pub mod Opening
 pub mod SentSlots
+pub mod Joining

@@ -17,7 +17,7 @@ use Rattle.part_transfers.specs.Syncs.{fault_here, fault_of, unless_fault, membe
 use Rattle.part_transfers.specs.Syncs.{some_answer, implicit_of, implicit_answer, left_by}
 use Rattle.spec_node.specs.Record.{Node}
 use Rattle.spec_node.specs.Step.{is_exhausted}
-use Rattle.part_regions.specs.Regions.{has_begun}
+use Rattle.part_transfers.specs.Regions.{has_begun}
 use Rattle.std.proofs.Common.{false}
 use Rattle.node_core.specs.CoreState.{CoreState}
 use Rattle.node_core.specs.CoreContracts.{IsSameNode}

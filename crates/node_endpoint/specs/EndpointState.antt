@@ -4,7 +4,7 @@ use Rattle.wire_message.specs.Parameters.{Parameters}
 use Rattle.wire_message.specs.Message.{Message, Spells}
 use Rattle.wire_message.specs.Refusals.{first_refusal}
 use Rattle.wire_message.specs.declared.refused.Refused.{Refused}
-use Rattle.part_regions.specs.declared.Region.{Region as BegunRegion}
+use Rattle.part_transfers.specs.declared.regions.Region.{Region as BegunRegion}
 use Rattle.part_barrier.specs.BarrierState.{BarrierState}
 use Rattle.part_barrier.specs.Stands.{BarrierStands}
 use Rattle.part_transfers.specs.declared.operation.Handle.{Handle}

@@ -14,3 +14,5 @@ pub use Rattle.node_rules.specs.declared.answer.Region
 pub use Rattle.node_rules.specs.declared.call.Call
 pub use Rattle.spec_node.specs.NodeStep
 pub use Rattle.spec_node.specs.Record
+pub mod Sites
+pub mod Making

@@ -13,9 +13,8 @@ use crate::extended::Extended;
 use node_core::Core;
 use node_rules::{Answer, Begun};
 use part_handlers::Which;
-use part_regions::Regions;
 use part_segment::Segment;
-use part_transfers::{Handle, Mode, Transfer};
+use part_transfers::{Handle, Mode, Regions, Transfer};
 
 /// Whether a transfer's range of the local segment lies inside it.
 fn own_fits(segment: &Segment, transfer: &Transfer) -> bool

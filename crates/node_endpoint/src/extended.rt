@@ -15,8 +15,7 @@ ghost use Rattle.node_endpoint.specs.Parts.{IsWhole, Hears, endpoint_of};
 
 use node_core::{Core, Delivered};
 use part_barrier::Barrier;
-use part_regions::Regions;
-use part_transfers::{Handle, Transfers};
+use part_transfers::{Handle, Regions, Transfers};
 use std::alloc::{AllocError, Global};
 use wire_message::{BarrierNotification, Settings};
 

@@ -7,8 +7,8 @@ use Rattle.part_handlers.specs.declared.table.Entry.{Entry}
 use Rattle.part_handlers.specs.declared.rules.Forbidden.{Forbidden}
 use Rattle.part_handlers.specs.declared.rules.Violation.{Violation}
 use Rattle.part_handlers.specs.Runs.{Meaning}
-use Rattle.part_regions.specs.declared.Region.{Region}
-use Rattle.part_regions.specs.Regions.{region_of, has_begun}
+use Rattle.part_transfers.specs.declared.regions.Region.{Region}
+use Rattle.part_transfers.specs.Regions.{region_of, has_begun}
 use Rattle.part_transfers.specs.declared.operation.Mode.{Mode}
 use Rattle.part_transfers.specs.declared.operation.Transfer.{Transfer}
 use Rattle.node_core.specs.ClientRules.{rules}

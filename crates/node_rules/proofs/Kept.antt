@@ -20,7 +20,7 @@ use Rattle.part_handlers.specs.Runs.{Meaning}
 use Rattle.part_handlers.specs.declared.lock_answer.Held.{Held}
 use Rattle.part_handlers.specs.declared.lock_answer.Owner.TheVariants as owner
 use Rattle.part_handlers.specs.Locks.{holds}
-use Rattle.part_regions.specs.Regions.{has_begun}
+use Rattle.part_transfers.specs.Regions.{has_begun}
 use Rattle.part_barrier.specs.Record.{BarrierRecord}
 use Rattle.part_barrier.specs.Within.{IsNotedWithin}
 use Rattle.part_barrier.proofs.Within.{stays_within}

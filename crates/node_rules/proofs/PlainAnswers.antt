@@ -4,8 +4,8 @@ use Rattle.std.proofs.Common.{refl, nat_lt}
 use Rattle.std.specs.Prelude.{Result, Ok, Err, ◌%◌}
 use Rattle.std.proofs.lemmas.Bool.{cases_Bool}
 use Rattle.part_handlers.specs.declared.rules.Forbidden.{Forbidden}
-use Rattle.part_regions.specs.declared.Region.{Region}
-use Rattle.part_regions.specs.Regions.{region_of, has_begun}
+use Rattle.part_transfers.specs.declared.regions.Region.{Region}
+use Rattle.part_transfers.specs.Regions.{region_of, has_begun}
 use Rattle.part_barrier.specs.Record.{BarrierRecord}
 use Rattle.spec_node.specs.Behaviour.{Behaviour}
 use Rattle.node_core.specs.Kept.{Local, segment_of}

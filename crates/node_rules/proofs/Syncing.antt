@@ -5,7 +5,7 @@ use Rattle.std.specs.List.{list_any, list_all}
 use Rattle.std.proofs.lemmas.Bool.{cases_Bool, and_parts}
 use Rattle.base_lists.proofs.Cases.{none_some}
 use Rattle.spec_node.specs.Record.{Request}
-use Rattle.part_regions.specs.Regions.{has_begun}
+use Rattle.part_transfers.specs.Regions.{has_begun}
 use Rattle.part_transfers.specs.declared.operation.Handle.{Handle}
 use Rattle.part_transfers.specs.declared.operation.Mode.{Mode}
 use Rattle.part_transfers.specs.declared.operation.Mode.TheVariants.{Explicit}

@@ -3,7 +3,7 @@
 use Rattle.std.specs.Prelude.{ℕ, ◌≡◌, ◌≢◌, ◌<◌, ◌≤◌, ◌+◌, nat_lt, Bool, true, List, [], Option, None, Some, replicate}
 use Rattle.wire_message.specs.Parameters.{Parameters}
 use Rattle.base_lists.specs.Numbered.{element_at}
-use Rattle.part_regions.specs.declared.Region.{Region}
+use Rattle.part_transfers.specs.declared.regions.Region.{Region}
 use Rattle.part_barrier.specs.Record.{BarrierRecord, opened_record}
 use Rattle.part_barrier.specs.Within.{IsNotedWithin}
 use Rattle.part_transfers.specs.declared.operation.Handle.{Handle}

@@ -10,8 +10,8 @@ use Rattle.part_handlers.specs.declared.message.Which.{Which}
 use Rattle.part_handlers.specs.declared.message.Which.TheVariants as which
 use Rattle.part_handlers.specs.declared.rules.CallKind.{CallKind}
 use Rattle.part_handlers.specs.declared.rules.CallKind.TheVariants as kinds
-use Rattle.part_regions.specs.declared.Region.{Region as BegunRegion}
-use Rattle.part_regions.specs.Regions.{region_of, has_begun, name_of, empty_region, after_operation}
+use Rattle.part_transfers.specs.declared.regions.Region.{Region as BegunRegion}
+use Rattle.part_transfers.specs.Regions.{region_of, has_begun, name_of, empty_region, after_operation}
 use Rattle.part_transfers.specs.declared.operation.Handle.{Handle}
 use Rattle.part_transfers.specs.declared.operation.Mode.{Mode}
 use Rattle.part_transfers.specs.declared.operation.Mode.TheVariants.{Explicit, Implicit, InRegion}

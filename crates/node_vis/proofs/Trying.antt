@@ -7,14 +7,14 @@ use Rattle.std.proofs.lemmas.List.{drop_all, length-drop, map-append, take_all}
 use Rattle.base_lists.proofs.Cut.{get-drop}
 use Rattle.base_lists.proofs.Places.{slice_get_there}
 use Rattle.part_transfers.specs.declared.operation.Transfer.{Transfer}
-use Rattle.node_caller.specs.TransferCalls.{BeginImplicit, RegionBegin, RegionEnd}
+use Rattle.node_endpoint.specs.TransferCalls.{BeginImplicit, RegionBegin, RegionEnd}
 use Rattle.spec_node.specs.Record.{Node}
-use Rattle.node_caller.specs.EndpointLocal.{EndpointLocal}
-use Rattle.node_caller.specs.Answer.{Answer}
-use Rattle.node_caller.specs.declared.caller.Caller.{Ghosts}
-use Rattle.node_caller.specs.Sites.{Site, ThreadCall, answer_at, node_then, node_in_the_end}
-use Rattle.node_caller.specs.Making.{ForItsNode, Makes, MakesOne}
-use Rattle.node_caller.proofs.Joining.{Follows, known_then, makes_none, makes_then}
+use Rattle.node_endpoint.specs.EndpointLocal.{EndpointLocal}
+use Rattle.node_endpoint.specs.Answer.{Answer}
+use Rattle.node_endpoint.specs.declared.caller.Caller.{Ghosts}
+use Rattle.node_endpoint.specs.Sites.{Site, ThreadCall, answer_at, node_then, node_in_the_end}
+use Rattle.node_endpoint.specs.Making.{ForItsNode, Makes, MakesOne}
+use Rattle.node_endpoint.proofs.Joining.{Follows, known_then, makes_none, makes_then}
 use Rattle.node_vis.specs.declared.shapes.Piece.{Piece}
 use Rattle.node_vis.specs.Plans.{PlanState}
 use Rattle.node_vis.specs.Beginning.{BeginCall, beginning, beginnings, calls_made, first_refused, in_region, is_refused}

@@ -7,15 +7,15 @@ use Rattle.part_transfers.specs.declared.operation.Transfer.{Transfer}
 use Rattle.part_transfers.specs.declared.operation.Transfer.TheVariants as transfers
 use Rattle.spec_node.specs.Record.{Node}
 use Rattle.spec_node.specs.NodeStep.{Job, node_answer, node_after}
-use Rattle.node_caller.specs.EndpointLocal.{EndpointLocal}
-use Rattle.node_caller.specs.EndpointRules.{OnTransfers, OtherCall, answer_told}
-use Rattle.node_caller.specs.TransferCalls.{TransferCall, BeginImplicit, RegionBegin, RegionEnd}
-use Rattle.node_caller.specs.Called.{Performs}
-use Rattle.node_caller.specs.Answer.{Answer}
-use Rattle.node_caller.specs.Answer.TheVariants as answers
-use Rattle.node_caller.specs.Begun.TheVariants as begun
-use Rattle.node_caller.specs.Region.TheVariants as region
-use Rattle.node_caller.specs.Sites.{Site, ThreadCall, record_event_of, job_at}
+use Rattle.node_endpoint.specs.EndpointLocal.{EndpointLocal}
+use Rattle.node_endpoint.specs.EndpointRules.{OnTransfers, OtherCall, answer_told}
+use Rattle.node_endpoint.specs.TransferCalls.{TransferCall, BeginImplicit, RegionBegin, RegionEnd}
+use Rattle.node_endpoint.specs.Called.{Performs}
+use Rattle.node_endpoint.specs.Answer.{Answer}
+use Rattle.node_endpoint.specs.Answer.TheVariants as answers
+use Rattle.node_endpoint.specs.Begun.TheVariants as begun
+use Rattle.node_endpoint.specs.Region.TheVariants as region
+use Rattle.node_endpoint.specs.Sites.{Site, ThreadCall, record_event_of, job_at}
 use Rattle.node_vis.specs.declared.shapes.Way.TheVariants.{Put, Get}
 use Rattle.node_vis.specs.declared.shapes.Piece.{Piece}
 use Rattle.node_vis.specs.declared.shapes.Vis.{Vis}

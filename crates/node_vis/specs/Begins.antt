@@ -1,7 +1,7 @@
 -- What `Plan::begin` does with its caller.
 use Rattle.std.specs.Prelude.{◌≡◌}
-use Rattle.node_caller.specs.declared.caller.Caller.{Ghosts}
-use Rattle.node_caller.specs.Making.{Makes, ForItsNode}
+use Rattle.node_endpoint.specs.declared.caller.Caller.{Ghosts}
+use Rattle.node_endpoint.specs.Making.{Makes, ForItsNode}
 use Rattle.node_vis.specs.declared.shapes.Vis.{Vis}
 use Rattle.node_vis.specs.Beginning.{BeginCall, calls_made, vis_answer}
 

@@ -1,10 +1,10 @@
 -- The parts of `Plan::begin`: serves the code.
 use Rattle.std.specs.Prelude.{ℕ, ◌≡◌, ◌+◌, ◌-◌, List, [], ◌∷◌, take, drop, Option, None, Some, Result, Ok, Err}
 use Rattle.std.specs.Prelude.{unwrap_or}
-use Rattle.node_caller.specs.TransferCalls.{RegionBegin, RegionEnd}
-use Rattle.node_caller.specs.declared.caller.Caller.{Ghosts}
-use Rattle.node_caller.specs.Making.{Makes, ForItsNode, IsAsBefore}
-use Rattle.node_caller.specs.Sites.{answer_at}
+use Rattle.node_endpoint.specs.TransferCalls.{RegionBegin, RegionEnd}
+use Rattle.node_endpoint.specs.declared.caller.Caller.{Ghosts}
+use Rattle.node_endpoint.specs.Making.{Makes, ForItsNode, IsAsBefore}
+use Rattle.node_endpoint.specs.Sites.{answer_at}
 use Rattle.node_vis.specs.declared.shapes.Vis.{Vis}
 use Rattle.node_vis.specs.declared.shapes.Vis.TheVariants as vis
 use Rattle.node_vis.specs.declared.begin.OutOfMemory.{OutOfMemory}

@@ -1,7 +1,7 @@
 //! The beginning of a plan's pieces.
 
 ghost use Rattle.std.specs.Prelude.{◌≡◌, ◌<◌, ◌≤◌, IfSome, length, unwrap_or};
-ghost use Rattle.node_caller.specs.Sites.{IsThere};
+ghost use Rattle.node_endpoint.specs.Sites.{IsThere};
 ghost use Rattle.node_vis.specs.Beginning.{is_refused, vis_by, vis_of};
 ghost use Rattle.node_vis.specs.Begins.{Begins};
 ghost use Rattle.node_vis.specs.Opening.{Closes, IsAlone, Opens, TriesPlan};
@@ -9,7 +9,7 @@ ghost use Rattle.node_vis.specs.declared.shapes.Vis.{Vis as AVis};
 
 use crate::plan::Plan;
 use crate::shapes::Vis;
-use node_caller::{Answer, Begun, Call, Caller, Region, make_call};
+use node_endpoint::{Answer, Begun, Call, Caller, Region, make_call};
 
 /// Memory ran out at a call.
 #[derive(Clone, Copy)]

@@ -6,3 +6,4 @@ pub mod Places
 pub mod SlotsState
 pub mod Outs
 pub mod Stands
+pub mod Regions

@@ -9,8 +9,8 @@ use Rattle.node_rules.specs.declared.answer.Answer.{Answer}
 use Rattle.node_collectives.specs.CollectivesState.{CollectivesState}
 use Rattle.node_collectives.specs.declared.answers.EndAnswer.{EndAnswer}
 use Rattle.node_endpoint.specs.EndpointState.{EndpointState, EndpointStands}
-use Rattle.node_caller.specs.Making.{whole_after}
-use Rattle.node_caller.specs.Sites.{Site, ThreadCall, answer_at, node_in_the_end, node_then}
+use Rattle.node_endpoint.specs.Making.{whole_after}
+use Rattle.node_endpoint.specs.Sites.{Site, ThreadCall, answer_at, node_in_the_end, node_then}
 use Rattle.proc_collective_steps.specs.contracts.last_answer.LastAnswerCaller.TheImpl.{ghosts}
 use Rattle.proc_collective_steps.specs.Outcomes.{Outcome, last_from}
 use Rattle.proc_collective_steps.specs.Tries.{Comes, EndComes, IsSameCore}

@@ -31,7 +31,7 @@ use Rattle.node_collectives.specs.declared.answers.EndAnswer.{EndAnswer}
 use Rattle.node_collectives.specs.declared.answers.EndAnswer.TheVariants as ends
 use Rattle.node_collectives.specs.declared.answers.StartAnswer.{StartAnswer}
 use Rattle.node_collectives.specs.declared.answers.StepAnswer.{StepAnswer}
-use Rattle.node_caller.specs.Sites.{ThreadCall as CallerCall, node_in_the_end, node_then}
+use Rattle.node_endpoint.specs.Sites.{ThreadCall as CallerCall, node_in_the_end, node_then}
 use Rattle.law_traces.specs.Actions.{Part}
 use Rattle.law_traces.specs.Fitting.{KeptFits}
 use Rattle.law_traces.specs.Scripts.{TryContext}

@@ -13,10 +13,10 @@ use Rattle.node_collectives.specs.declared.answers.EndAnswer.{EndAnswer}
 use Rattle.node_collectives.specs.declared.answers.StartAnswer.{StartAnswer}
 use Rattle.node_collectives.specs.declared.answers.StepAnswer.{StepAnswer}
 use Rattle.node_collectives.specs.declared.answers.StepAnswer.TheVariants as steps
-use Rattle.node_caller.specs.declared.caller.Caller.{Ghosts}
-use Rattle.node_caller.specs.Making.{whole_after}
-use Rattle.node_caller.specs.Sites.{Site, ThreadCall, answer_at, node_then}
-use Rattle.node_caller.proofs.Joining.{Follows}
+use Rattle.node_endpoint.specs.declared.caller.Caller.{Ghosts}
+use Rattle.node_endpoint.specs.Making.{whole_after}
+use Rattle.node_endpoint.specs.Sites.{Site, ThreadCall, answer_at, node_then}
+use Rattle.node_endpoint.proofs.Joining.{Follows}
 use Rattle.proc_collective_steps.specs.Outcomes.{Outcome, behind_call, end_by, end_outcome, start_by, start_outcome, step_from}
 use Rattle.proc_collective_steps.specs.Outcomes.{step_outcome, without_calls}
 use Rattle.proc_collective_steps.proofs.Resting.{from_left, from_open, rest_from}

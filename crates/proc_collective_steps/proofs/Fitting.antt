@@ -27,7 +27,7 @@ use Rattle.node_collectives.specs.declared.answers.EndAnswer.TheVariants as ends
 use Rattle.node_collectives.specs.declared.answers.StartAnswer.{StartAnswer}
 use Rattle.node_collectives.specs.declared.answers.StartAnswer.TheVariants as starts
 use Rattle.node_collectives.specs.declared.answers.StepAnswer.{StepAnswer}
-use Rattle.node_caller.specs.Sites.{Site, answer_at, node_then}
+use Rattle.node_endpoint.specs.Sites.{Site, answer_at, node_then}
 use Rattle.law_traces.specs.Fitting.{AreBytes, CallFits, CollectivesFit, KeptFits, PayloadFits}
 use Rattle.law_traces.specs.Scripts.{TryContext}
 use Rattle.law_traces.proofs.Bytes.{bytes_append, bytes_image, bytes_none, bytes_part, bytes_word, high_fits, low_fits}

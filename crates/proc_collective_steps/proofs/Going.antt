@@ -31,7 +31,7 @@ use Rattle.node_collectives.specs.declared.answers.EndAnswer.TheVariants as ends
 use Rattle.node_collectives.specs.declared.answers.StartAnswer.{StartAnswer}
 use Rattle.node_collectives.specs.declared.answers.StepAnswer.{StepAnswer}
 use Rattle.part_collective_area.specs.declared.shape.Shape.{Shape}
-use Rattle.node_caller.specs.Sites.{ThreadCall as CallerCall, node_in_the_end, node_then}
+use Rattle.node_endpoint.specs.Sites.{ThreadCall as CallerCall, node_in_the_end, node_then}
 use Rattle.law_traces.specs.Outgoing.{slot_of_packet, StaysWell}
 use Rattle.law_traces.specs.Scripts.{TryContext}
 use Rattle.law_traces.specs.Turn.{events_of, node_run, node_sends}

@@ -31,7 +31,7 @@ use Rattle.node_collectives.specs.declared.answers.StartAnswer.{StartAnswer}
 use Rattle.node_collectives.specs.declared.answers.StartAnswer.TheVariants as starts
 use Rattle.node_collectives.specs.declared.answers.StepAnswer.{StepAnswer}
 use Rattle.node_endpoint.specs.EndpointState.{EndpointState, EndpointStands}
-use Rattle.node_caller.specs.Sites.{Site, ThreadCall as CallerCall, answer_at, node_in_the_end, node_then}
+use Rattle.node_endpoint.specs.Sites.{Site, ThreadCall as CallerCall, answer_at, node_in_the_end, node_then}
 use Rattle.law_traces.specs.Actions.{Part}
 use Rattle.law_traces.specs.Outgoing.{slot_of_packet, StaysWell}
 use Rattle.law_traces.specs.Scripts.{ThreadCall, TryContext}

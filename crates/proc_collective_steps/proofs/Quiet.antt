@@ -15,7 +15,7 @@ use Rattle.node_collectives.specs.CollectivesState.{CollectivesState, has, progr
 use Rattle.node_collectives.specs.Progress.{first_node, is_left, is_open, has_exhausted}
 use Rattle.node_collectives.specs.Steps.{after_ask, step_call, step_told}
 use Rattle.node_collectives.specs.declared.answers.StepAnswer.{StepAnswer}
-use Rattle.node_caller.specs.Sites.{Site, node_then}
+use Rattle.node_endpoint.specs.Sites.{Site, node_then}
 use Rattle.proc_collective_steps.specs.Outcomes.{Outcome, is_nothing, step_from, step_outcome}
 use Rattle.proc_collective_steps.proofs.Resting.{asked_from, asked_there, from_left, from_open, rest_from}
 

@@ -9,7 +9,7 @@ use Rattle.node_collectives.specs.CollectivesState.{CollectivesState}
 use Rattle.node_collectives.specs.Steps.{after_ask, step_call, step_told}
 use Rattle.node_collectives.specs.declared.answers.StepAnswer.{StepAnswer}
 use Rattle.node_collectives.specs.declared.answers.StepAnswer.TheVariants as steps
-use Rattle.node_caller.specs.Sites.{Site, answer_at, node_then}
+use Rattle.node_endpoint.specs.Sites.{Site, answer_at, node_then}
 use Rattle.proc_collective_steps.specs.Outcomes.{Outcome, behind_call, step_from, without_calls}
 
 -- the rest of a step behind a call that was answered so

@@ -13,7 +13,7 @@ use Rattle.node_collectives.specs.declared.answers.EndAnswer.{EndAnswer}
 use Rattle.node_collectives.specs.declared.answers.StartAnswer.{StartAnswer}
 use Rattle.node_collectives.specs.declared.answers.StepAnswer.{StepAnswer}
 use Rattle.node_endpoint.specs.EndpointState.{EndpointState, EndpointStands, ForItsRecord}
-use Rattle.node_caller.specs.Sites.{node_in_the_end}
+use Rattle.node_endpoint.specs.Sites.{node_in_the_end}
 use Rattle.law_traces.specs.Scripts.{TryContext}
 use Rattle.law_traces.specs.declared.script_answer.ScriptAnswer.TheVariants as said
 use Rattle.proc_collective_steps.specs.Outcomes.{end_outcome, is_nothing, is_started, is_unexhausted, sent_by, start_ends}

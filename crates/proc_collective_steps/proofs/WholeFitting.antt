@@ -6,7 +6,7 @@ use Rattle.part_collective_area.specs.declared.shape.Shape.{Shape}
 use Rattle.node_rules.specs.EndpointLocal.{EndpointLocal}
 use Rattle.node_collectives.specs.CollectivesState.{CollectivesState}
 use Rattle.node_collectives.specs.declared.answers.StepAnswer.{StepAnswer}
-use Rattle.node_caller.specs.Sites.{ThreadCall as CallerCall, node_in_the_end}
+use Rattle.node_endpoint.specs.Sites.{ThreadCall as CallerCall, node_in_the_end}
 use Rattle.spec_node.specs.Record.{Node}
 use Rattle.law_traces.specs.Actions.{IfFar}
 use Rattle.law_traces.specs.Fitting.{CallFits, CollectivesFit, KeptFits}

@@ -18,7 +18,7 @@ use Rattle.node_collectives.specs.declared.answers.StartAnswer.{StartAnswer}
 use Rattle.node_collectives.specs.declared.answers.StartAnswer.TheVariants as starts
 use Rattle.node_collectives.specs.declared.answers.StepAnswer.{StepAnswer}
 use Rattle.node_collectives.specs.declared.answers.StepAnswer.TheVariants as steps
-use Rattle.node_caller.specs.Sites.{Site, ThreadCall, answer_at, node_then}
+use Rattle.node_endpoint.specs.Sites.{Site, ThreadCall, answer_at, node_then}
 
 -- ---- a call of the node's collectives
 

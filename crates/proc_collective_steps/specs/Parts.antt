@@ -9,7 +9,7 @@ use Rattle.node_collectives.specs.Ends.{EndAsked}
 use Rattle.node_collectives.specs.Starts.{StartAsked}
 use Rattle.node_collectives.specs.declared.answers.EndAnswer.{EndAnswer}
 use Rattle.node_collectives.specs.declared.answers.StepAnswer.{StepAnswer}
-use Rattle.node_caller.specs.Sites.{Site, ThreadCall as CallerCall, node_in_the_end}
+use Rattle.node_endpoint.specs.Sites.{Site, ThreadCall as CallerCall, node_in_the_end}
 use Rattle.spec_node.specs.Record.{Node}
 use Rattle.law_traces.specs.Actions.{Part}
 use Rattle.law_traces.specs.Scripts.{ThreadCall, TryContext}

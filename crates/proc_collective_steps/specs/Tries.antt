@@ -10,7 +10,7 @@ use Rattle.node_rules.specs.EndpointRules.{OtherCall, RecordEvent, job_of}
 use Rattle.node_rules.specs.declared.answer.Answer.{Answer}
 use Rattle.node_collectives.specs.CollectivesState.{CollectivesState, IsSameNode}
 use Rattle.node_endpoint.specs.EndpointState.{EndpointState, EndpointStands, ForItsRecord}
-use Rattle.node_caller.specs.Sites.{Site, node_in_the_end}
+use Rattle.node_endpoint.specs.Sites.{Site, node_in_the_end}
 use Rattle.spec_node.specs.NodeStep.{Job}
 use Rattle.law_traces.specs.Actions.{Part}
 use Rattle.law_traces.specs.Outgoing.{slot_of_packet, StaysWell}

@@ -4,7 +4,7 @@ use Rattle.spec_node.specs.Record.{Node}
 use Rattle.node_rules.specs.EndpointLocal.{EndpointLocal}
 use Rattle.node_rules.specs.declared.answer.Answer.{Answer}
 use Rattle.node_endpoint.specs.EndpointState.{EndpointState, EndpointStands}
-use Rattle.node_caller.specs.Sites.{Site, ThreadCall, answer_at, node_then}
+use Rattle.node_endpoint.specs.Sites.{Site, ThreadCall, answer_at, node_then}
 
 -- the record of the node, and how the last call was answered
 pub record LastWhole : Type 0 where

@@ -1,7 +1,6 @@
 //! A caller at an endpoint, which keeps how its last call was answered.
 
-use node_caller::{Called, Caller};
-use node_endpoint::Endpoint;
+use node_endpoint::{Called, Caller, Endpoint};
 use node_rules::{Answer, Call, Event};
 use part_handlers::Handlers;
 use part_segment::Segment;

@@ -25,7 +25,7 @@ use Rattle.node_collectives.specs.declared.answers.StepAnswer.{StepAnswer}
 use Rattle.node_collectives.specs.declared.answers.StepAnswer.TheVariants as steps
 use Rattle.text_steps.specs.declared.steps.CollectiveText.{CollectiveText}
 use Rattle.text_steps.specs.declared.steps.CollectiveText.TheVariants as text
-use Rattle.node_caller.specs.Sites.{Site, ThreadCall as CallerCall, answer_at, node_in_the_end, node_then}
+use Rattle.node_endpoint.specs.Sites.{Site, ThreadCall as CallerCall, answer_at, node_in_the_end, node_then}
 use Rattle.spec_node.specs.Behaviour.{Asking}
 use Rattle.spec_node.specs.Record.{Node}
 use Rattle.law_traces.specs.Actions.{Form, FormMay, Several, StepContext}

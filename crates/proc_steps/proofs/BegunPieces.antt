@@ -24,7 +24,7 @@ use Rattle.text_steps.specs.declared.steps.ScriptStep.{ScriptStep}
 use Rattle.text_steps.specs.declared.steps.ScriptStep.TheVariants as step
 use Rattle.text_vis.specs.declared.vis.VisText.{VisText}
 use Rattle.text_steps.proofs.VisLaws.{vis_from, vis_settings}
-use Rattle.node_caller.specs.Sites.{ThreadCall, node_in_the_end, node_then}
+use Rattle.node_endpoint.specs.Sites.{ThreadCall, node_in_the_end, node_then}
 use Rattle.std.specs.Prelude.{false, is_none, is_some}
 use Rattle.law_traces.specs.Actions.{FormMay, Part, step_part_of}
 use Rattle.law_traces.specs.Outgoing.{slot_of_packet, StaysWell}

@@ -28,7 +28,7 @@ use Rattle.law_traces.specs.Scripts.{ThreadCall, TryResult as FormTried, TryCont
 use Rattle.law_traces.specs.Turn.{node_run, node_sends, events_of, first_answer}
 use Rattle.node_vis.specs.Beginning.{BeginCall, calls_made, vis_answer}
 use Rattle.node_vis.specs.declared.shapes.Vis.{Vis}
-use Rattle.node_caller.specs.Sites.{node_in_the_end}
+use Rattle.node_endpoint.specs.Sites.{node_in_the_end}
 use Rattle.proc_steps.specs.Forms.{is_sent, site_of, step_form}
 use Rattle.proc_steps.specs.declared.trial.Trial.{Trial}
 use Rattle.proc_steps.specs.declared.trial.Tried.{Tried}

@@ -6,8 +6,7 @@ ghost use Rattle.proc_steps.specs.Tries.{HasBegun, TriesForm, context_here, read
 
 use crate::trial::{Trial, Tried};
 use law_traces::ScriptAnswer;
-use node_caller::AtEndpoint;
-use node_endpoint::Endpoint;
+use node_endpoint::{AtEndpoint, Endpoint};
 use node_vis::{Plan, Vis};
 use part_handlers::Handlers;
 use text_vis::VisText;

@@ -10,10 +10,10 @@ use Rattle.node_rules.specs.EndpointRules.{Records}
 use Rattle.node_rules.proofs.CoreKept.{segment_long}
 use Rattle.sim_world.specs.Stands.{WorldStands}
 use Rattle.sim_world.specs.WorldState.{WorldState}
-use Rattle.node_caller.specs.declared.caller.Caller.{Ghosts}
-use Rattle.node_caller.specs.Making.{whole_after}
-use Rattle.node_caller.specs.Sites.{Site, ThreadCall, job_at}
-use Rattle.sim_caller.specs.Wholes.{WorldWhole, events_of}
+use Rattle.node_endpoint.specs.declared.caller.Caller.{Ghosts}
+use Rattle.node_endpoint.specs.Making.{whole_after}
+use Rattle.node_endpoint.specs.Sites.{Site, ThreadCall, job_at}
+use Rattle.sim_world.specs.Wholes.{WorldWhole, events_of}
 use Rattle.node_collectives.specs.declared.answers.EndAnswer.{EndAnswer}
 use Rattle.node_collectives.specs.Progress.{end_refusal}
 use Rattle.node_collectives.specs.CollectivesState.{CollectivesState, IsSameNode, progress_of}

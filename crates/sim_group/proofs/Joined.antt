@@ -13,8 +13,8 @@ use Rattle.spec_node.specs.declared.answer.Asked.TheVariants as told
 use Rattle.spec_node.specs.Behaviour.{Ask}
 use Rattle.spec_network.specs.World.{Asks, world_answer, world_after}
 use Rattle.node_rules.specs.EndpointRules.{asked_answer, timed_event}
-use Rattle.node_caller.specs.Sites.{Site, answer_at, job_at}
-use Rattle.sim_caller.specs.Wholes.{records_then}
+use Rattle.node_endpoint.specs.Sites.{Site, answer_at, job_at}
+use Rattle.sim_world.specs.Wholes.{records_then}
 use Rattle.part_collective_area.specs.Area.{Area}
 use Rattle.node_collectives.specs.declared.answers.StartAnswer.{StartAnswer}
 use Rattle.node_collectives.specs.declared.answers.StepAnswer.TheVariants as step_answers

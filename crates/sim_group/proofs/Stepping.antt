@@ -16,10 +16,10 @@ use Rattle.node_rules.specs.declared.answer.Answer.{Answer}
 use Rattle.law_transfers.specs.Chunks.{EndpointJob}
 use Rattle.sim_world.specs.Stands.{WorldStands}
 use Rattle.sim_world.specs.WorldState.{WorldState}
-use Rattle.node_caller.specs.declared.caller.Caller.{Ghosts}
-use Rattle.node_caller.specs.Making.{MakesOne}
-use Rattle.node_caller.specs.Sites.{Site, ThreadCall, answer_at, job_at}
-use Rattle.sim_caller.specs.Wholes.{WorldWhole, event_of_call, records_then, whole_then}
+use Rattle.node_endpoint.specs.declared.caller.Caller.{Ghosts}
+use Rattle.node_endpoint.specs.Making.{MakesOne}
+use Rattle.node_endpoint.specs.Sites.{Site, ThreadCall, answer_at, job_at}
+use Rattle.sim_world.specs.Wholes.{WorldWhole, event_of_call, records_then, whole_then}
 use Rattle.part_collective_area.specs.Area.{Area}
 use Rattle.node_collectives.specs.declared.answers.StepAnswer.{StepAnswer}
 use Rattle.node_collectives.specs.declared.answers.StepAnswer.TheVariants as step_answers

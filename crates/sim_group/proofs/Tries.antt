@@ -12,8 +12,8 @@ use Rattle.spec_network.specs.World.{Does, OfNode, EventAt, run, world_after, wo
 use Rattle.node_rules.specs.CoreCalls.{Poll, if_allowed}
 use Rattle.node_rules.specs.EndpointRules.{OnCore, OtherCall, Records, timed_event}
 use Rattle.node_rules.specs.declared.answer.Answer.TheVariants as answers
-use Rattle.node_caller.specs.Sites.{Site, job_at}
-use Rattle.sim_caller.specs.Wholes.{events_of}
+use Rattle.node_endpoint.specs.Sites.{Site, job_at}
+use Rattle.sim_world.specs.Wholes.{events_of}
 use Rattle.part_collective_area.specs.Results.{pieces_of}
 use Rattle.node_collectives.specs.declared.answers.EndAnswer.{EndAnswer}
 use Rattle.node_collectives.specs.declared.answers.EndAnswer.TheVariants as end_answers

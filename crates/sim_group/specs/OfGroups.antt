@@ -2,8 +2,8 @@
 use Rattle.std.specs.Prelude.{ℕ, ◌≡◌, ◌≢◌, ◌<◌, Option, None, Some}
 use Rattle.spec_network.specs.World.{Asks, run, world_answer, world_after}
 use Rattle.node_rules.specs.EndpointRules.{timed_event}
-use Rattle.node_caller.specs.Sites.{Site, answer_at, job_at}
-use Rattle.sim_caller.specs.Wholes.{events_of, records_then}
+use Rattle.node_endpoint.specs.Sites.{Site, answer_at, job_at}
+use Rattle.sim_world.specs.Wholes.{events_of, records_then}
 use Rattle.node_collectives.specs.declared.answers.StartAnswer.{StartAnswer}
 use Rattle.node_collectives.specs.declared.answers.EndAnswer.{EndAnswer}
 use Rattle.node_collectives.specs.declared.answers.StepAnswer.{StepAnswer}

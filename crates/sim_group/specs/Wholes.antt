@@ -1,9 +1,9 @@
 -- What a caller at a node of a group stands for, and what calls make of it.
 use Rattle.std.specs.Prelude.{ℕ, ◌≡◌, List, [], ◌∷◌}
-use Rattle.node_caller.specs.Sites.{Site, ThreadCall, node_then}
+use Rattle.node_endpoint.specs.Sites.{Site, ThreadCall, node_then}
 use Rattle.spec_network.specs.MostHeld.{most_then}
-use Rattle.sim_caller.specs.Wholes.{WorldWhole, event_of_call, records_then}
-use Rattle.sim_caller.specs.Following.{follows_then}
+use Rattle.sim_world.specs.Wholes.{WorldWhole, event_of_call, records_then}
+use Rattle.sim_world.specs.Following.{follows_then}
 use Rattle.part_collective_area.specs.Area.{Area}
 use Rattle.law_collectives.specs.Groups.{Group, GroupEvent, Other}
 

@@ -1,7 +1,7 @@
 //! The caller at a node of a group.
 
 use crate::group::Group;
-use node_caller::{Called, Caller};
+use node_endpoint::{Called, Caller};
 use node_rules::Call;
 use part_handlers::Handlers;
 use part_segment::Segment;

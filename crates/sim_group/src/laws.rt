@@ -1,15 +1,15 @@
 //! The laws that join calls of the code with events of groups.
 
 ghost use Rattle.std.specs.Prelude.{◌≡◌, List};
-ghost use Rattle.node_caller.specs.Making.{whole_after};
-ghost use Rattle.node_caller.specs.Sites.{Site, ThreadCall, job_at};
+ghost use Rattle.node_endpoint.specs.Making.{whole_after};
+ghost use Rattle.node_endpoint.specs.Sites.{Site, ThreadCall, job_at};
 ghost use Rattle.law_collectives.specs.Groups.{group_after};
 ghost use Rattle.sim_group.specs.CallsOf.{RunsItsCalls};
 ghost use Rattle.sim_group.specs.OfGroups.{EndIsOfGroup, StartIsOfGroup, StepIsOfGroup};
 ghost use Rattle.sim_group.specs.Wholes.{GroupWhole, others_of};
 
 use crate::at_group::AtGroup;
-use node_caller::Caller;
+use node_endpoint::Caller;
 use part_handlers::Handlers;
 
 /// Carries, for the check alone, what joins the contracts of `node_collectives` with the laws. It has no code.

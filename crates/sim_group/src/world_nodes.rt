@@ -8,8 +8,7 @@ ghost use Rattle.sim_group.specs.Standing.{Does, DoesStart, DoesStep};
 use node_collectives::{Collectives, EndAnswer, StartAnswer, StepAnswer};
 use part_collective_area::Shape;
 use part_handlers::Handlers;
-use sim_caller::AtNode;
-use sim_world::World;
+use sim_world::{AtNode, World};
 
 /// The nodes of a world, and how far each is with its collectives.
 ///

@@ -8,7 +8,7 @@ use Rattle.text_script.specs.ScriptInvariant.{IsWithin, AreWithin}
 use Rattle.sim_world.specs.Settling.{WorldJob}
 use Rattle.sim_world.proofs.Among.{AreAmong, both_among, settle_among}
 use Rattle.node_vis.specs.Beginning.{calls_made}
-use Rattle.node_caller.specs.Sites.{ThreadCall}
+use Rattle.node_endpoint.specs.Sites.{ThreadCall}
 use Rattle.sim_run.specs.Schedules.{Nodes, scheduled_event, line_events, nodes_after, schedule_events, begin_answer}
 use Rattle.sim_run.specs.Schedules.{begin_asked}
 use Rattle.sim_run.specs.Schedules.{call_events}

@@ -11,7 +11,7 @@ use Rattle.node_rules.specs.Called.{event_at}
 use Rattle.sim_world.specs.Settling.{WorldJob, settle_events}
 use Rattle.node_vis.specs.Beginning.{BeginCall, calls_made, vis_answer_by}
 use Rattle.node_vis.specs.declared.shapes.Vis.{Vis}
-use Rattle.node_caller.specs.Sites.{ThreadCall}
+use Rattle.node_endpoint.specs.Sites.{ThreadCall}
 use Rattle.text_job.specs.CollectAreas.{area_of}
 use Rattle.text_job.specs.declared.job.CollectArea.{CollectArea}
 use Rattle.text_steps.specs.declared.steps.CollectiveText.{CollectiveText}

@@ -34,9 +34,8 @@ use base_io::{BufferedSink, Sink};
 use node_collectives::{EndAnswer, StartAnswer, StepAnswer};
 use node_vis::Vis;
 use part_handlers::Handlers;
-use sim_caller::AtNode;
 use sim_group::WorldNodes;
-use sim_world::{World, WorldAnswer, WorldEvent};
+use sim_world::{AtNode, World, WorldAnswer, WorldEvent};
 use std::alloc::{AllocError, Global};
 use text_script::{CollectiveAnswer, Script, write_collective, write_vis};
 

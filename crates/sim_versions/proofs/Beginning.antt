@@ -7,7 +7,7 @@ use Rattle.node_rules.specs.EndpointRules.{OtherCall, OnTransfers}
 use Rattle.node_rules.specs.TransferCalls.{BeginImplicit, RegionBegin}
 use Rattle.node_rules.specs.Called.{Performs}
 use Rattle.node_rules.specs.declared.answer.Answer.{Answer}
-use Rattle.node_caller.specs.Sites.{ThreadCall}
+use Rattle.node_endpoint.specs.Sites.{ThreadCall}
 use Rattle.node_vis.specs.declared.shapes.Piece.{Piece}
 use Rattle.node_vis.specs.Plans.{PlanState}
 use Rattle.node_vis.specs.Beginning.{BeginCall, NodeAt, answer_of_call, record_after_call, first_refused_by, is_refused}

@@ -19,3 +19,4 @@ pub mod FirstOut
 pub mod Moving
 pub mod Turns
 pub mod Among
+pub mod Stepping

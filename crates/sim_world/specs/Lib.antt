@@ -8,3 +8,5 @@ pub mod Events
 pub mod EventScopes
 pub mod Aims
 pub mod Settling
+pub mod Wholes
+pub mod Following

@@ -23,13 +23,22 @@
 //!   buffers after any event so far [`most`], at most the sum over the node's peers of the credits both ways [`few`];
 //!   `accepted` the length of the plain world's list of a pair's requests; `returned` whether a request is back there;
 //!   `first_out` the lowest number of a request of the pair that isn't back there, or the one after the last [`out`].
+//!
+//! - `AtNode` is a `Caller` (`node_endpoint`). The whole for which it stands is the records of all nodes, with the most
+//!   buffers that each held so far; a call is an event of the world. Memory may run out where a call is a request.
+//! - `calls_are_a_run`: calls of a caller at a node, one after another, are as many events of a run of the world, in
+//!   their order. So what holds of every run of a job holds of what a layer above does by its calls.
 #![tactic(auto)]
 
+mod at_node;
 mod event;
 mod exchanges;
+mod laws;
 mod settling;
 mod step;
 mod world;
 
+pub use at_node::AtNode;
 pub use event::{WorldAnswer, WorldEvent};
+pub use laws::calls_are_a_run;
 pub use world::World;

@@ -2,7 +2,7 @@
 use Rattle.std.proofs.Common.{◌≡◌, ◌≤◌, List, length, refl, ap, subst, ◌∙◌}
 use Rattle.text_trace.specs.declared.trace.Trace.{Trace}
 use Rattle.base_turns.specs.declared.entry.Entry.{Entry}
-use Rattle.text_replay.specs.Sending.{Replays}
+use Rattle.text_trace.specs.Sending.{Replays}
 use Rattle.cli_check.proofs.Merged.{recorders}
 use Rattle.cli_check.specs.Recording.{opening_record}
 use Rattle.cli_check.specs.Rejected.{refused_turns, rejected_entries, rejected_trace}

@@ -2,7 +2,7 @@
 use Rattle.std.proofs.Common.{None, ap, refl, sym, subst}
 use Rattle.node_rules.proofs.CoreKept.{segment_long}
 use Rattle.node_collectives.specs.Ends.{EndAsked}
-use Rattle.node_caller.specs.Sites.{Site}
+use Rattle.node_endpoint.specs.Sites.{Site}
 use Rattle.proc_collective_steps.specs.contracts.last_answer.LastAnswerCaller.TheImpl.{ghosts}
 use Rattle.proc_collective_steps.specs.Outcomes.{end_outcome}
 use Rattle.proc_collective_steps.specs.Parts.{site_of}

@@ -1,7 +1,7 @@
 -- The try of a step that starts the next phase.
 use Rattle.std.proofs.Common.{None, ap, refl, sym, subst}
 use Rattle.node_collectives.specs.Starts.{StartAsked}
-use Rattle.node_caller.specs.Sites.{Site}
+use Rattle.node_endpoint.specs.Sites.{Site}
 use Rattle.proc_collective_steps.specs.contracts.last_answer.LastAnswerCaller.TheImpl.{ghosts}
 use Rattle.proc_collective_steps.specs.Outcomes.{start_outcome}
 use Rattle.proc_collective_steps.specs.Parts.{site_of}

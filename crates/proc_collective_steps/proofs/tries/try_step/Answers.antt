@@ -1,6 +1,6 @@
 -- The try of a step that sends the phase that is open on.
 use Rattle.std.proofs.Common.{None, ap, refl, sym, subst}
-use Rattle.node_caller.specs.Sites.{Site}
+use Rattle.node_endpoint.specs.Sites.{Site}
 use Rattle.proc_collective_steps.specs.contracts.last_answer.LastAnswerCaller.TheImpl.{ghosts}
 use Rattle.proc_collective_steps.specs.Outcomes.{step_outcome}
 use Rattle.proc_collective_steps.specs.Parts.{site_of}

@@ -3,7 +3,7 @@ use Rattle.std.proofs.Common.{None, ap, refl, sym, subst}
 use Rattle.part_handlers.specs.Runs.{Meaning}
 use Rattle.node_endpoint.specs.EndpointState.{ForItsRecord}
 use Rattle.node_collectives.specs.Starts.{StartAsked}
-use Rattle.node_caller.specs.Sites.{Site}
+use Rattle.node_endpoint.specs.Sites.{Site}
 use Rattle.law_traces.specs.Scripts.{TryContext}
 use Rattle.proc_collective_steps.specs.contracts.last_answer.LastAnswerCaller.TheImpl.{ghosts}
 use Rattle.proc_collective_steps.specs.Outcomes.{start_outcome}

@@ -4,7 +4,7 @@ use Rattle.part_handlers.specs.Runs.{Meaning}
 use Rattle.node_rules.proofs.CoreKept.{segment_long}
 use Rattle.node_collectives.specs.Ends.{EndAsked}
 use Rattle.node_endpoint.specs.EndpointState.{ForItsRecord}
-use Rattle.node_caller.specs.Sites.{Site}
+use Rattle.node_endpoint.specs.Sites.{Site}
 use Rattle.proc_collective_steps.specs.contracts.last_answer.LastAnswerCaller.TheImpl.{ghosts}
 use Rattle.proc_collective_steps.specs.Outcomes.{end_outcome, step_outcome}
 use Rattle.proc_collective_steps.specs.Parts.{site_of}

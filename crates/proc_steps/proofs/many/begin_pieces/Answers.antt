@@ -4,9 +4,9 @@ use Rattle.spec_node.specs.Record.{Node}
 use Rattle.node_rules.specs.EndpointLocal.{EndpointLocal}
 use Rattle.node_endpoint.specs.EndpointState.{EndpointStands}
 use Rattle.node_vis.specs.Beginning.{BeginCall, calls_made}
-use Rattle.node_caller.specs.Making.{whole_after}
-use Rattle.node_caller.specs.Sites.{Site, ThreadCall, node_in_the_end, node_then}
-use Rattle.node_caller.specs.contracts.at_endpoint.AtEndpointCaller.TheImpl.{ghosts}
+use Rattle.node_endpoint.specs.Making.{whole_after}
+use Rattle.node_endpoint.specs.Sites.{Site, ThreadCall, node_in_the_end, node_then}
+use Rattle.node_endpoint.specs.contracts.at_endpoint.AtEndpointCaller.TheImpl.{ghosts}
 use Rattle.proc_steps.specs.Forms.{site_of}
 use Rattle.proc_steps.specs.Tries.{context_here}
 use Rattle.proc_steps.proofs.many.begin_pieces.Goals as goal

@@ -1,6 +1,6 @@
 use Rattle.std.proofs.Common.{◌≡◌, List, [], ◌∷◌, refl}
-use Rattle.node_caller.specs.Making.{whole_after}
-use Rattle.node_caller.specs.Sites.{Site, ThreadCall, job_at}
+use Rattle.node_endpoint.specs.Making.{whole_after}
+use Rattle.node_endpoint.specs.Sites.{Site, ThreadCall, job_at}
 use Rattle.law_collectives.specs.Groups.{group_after}
 use Rattle.sim_group.specs.Wholes.{GroupWhole, group_then, others_of}
 use Rattle.sim_group.specs.contracts.at_group.AtGroupCaller.TheImpl.{ghosts}

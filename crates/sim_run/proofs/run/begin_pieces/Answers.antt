@@ -5,10 +5,10 @@ use Rattle.spec_network.specs.MostHeld.{most_after}
 use Rattle.node_rules.specs.EndpointRules.{Records}
 use Rattle.sim_world.specs.Stands.{WorldStands}
 use Rattle.sim_world.specs.WorldState.{WorldState}
-use Rattle.node_caller.specs.Making.{whole_after}
-use Rattle.node_caller.specs.Sites.{Site, ThreadCall, job_at}
-use Rattle.sim_caller.specs.Wholes.{WorldWhole, whole_then}
-use Rattle.sim_caller.specs.contracts.at_node.AtNodeCaller.TheImpl.{ghosts}
+use Rattle.node_endpoint.specs.Making.{whole_after}
+use Rattle.node_endpoint.specs.Sites.{Site, ThreadCall, job_at}
+use Rattle.sim_world.specs.Wholes.{WorldWhole, whole_then}
+use Rattle.sim_world.specs.contracts.at_node.AtNodeCaller.TheImpl.{ghosts}
 use Rattle.node_vis.specs.Beginning.{BeginCall, calls_made}
 use Rattle.node_vis.specs.declared.shapes.Vis.{Vis}
 use Rattle.sim_run.specs.ScheduleRun.{IsOfSameJob}

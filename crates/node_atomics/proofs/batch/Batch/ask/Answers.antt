@@ -1,8 +1,8 @@
 use Rattle.std.proofs.Common.{◌≡◌, ap, ap₂, ◌∙◌, subst, ℕ, ℤ, List}
 use Rattle.spec_node.specs.Behaviour.{Lent}
-use Rattle.node_caller.specs.ClientRules.{medium_asking}
-use Rattle.node_caller.specs.Called.{Meant, Requests}
-use Rattle.node_caller.specs.Sites.{ThreadCall, called_by}
+use Rattle.node_endpoint.specs.ClientRules.{medium_asking}
+use Rattle.node_endpoint.specs.Called.{Meant, Requests}
+use Rattle.node_endpoint.specs.Sites.{ThreadCall, called_by}
 use Rattle.node_atomics.specs.Asking.{batch_call}
 use Rattle.node_atomics.specs.BatchRequests.{batch_handler}
 use Rattle.node_atomics.proofs.Asked.{CallsOnce, makes_one}

@@ -1,5 +1,5 @@
 use Rattle.std.proofs.Common.{ℕ, ◌+◌, ◌%◌, ap, ap₂, subst, ◌∙◌}
-use Rattle.node_caller.specs.Sites.{ThreadCall}
+use Rattle.node_endpoint.specs.Sites.{ThreadCall}
 use Rattle.part_collective_area.specs.Area.{data_place}
 use Rattle.part_collective_area.specs.Served.{header_arguments}
 use Rattle.part_collective_area.specs.Shapes.{shape_word}

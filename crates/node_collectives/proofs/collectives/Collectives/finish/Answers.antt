@@ -1,5 +1,5 @@
 use Rattle.std.proofs.Common.{◌<◌, Bool, ap, sym, subst, ◌∙◌}
-use Rattle.node_caller.specs.Sites.{IsThere, Site}
+use Rattle.node_endpoint.specs.Sites.{IsThere, Site}
 use Rattle.node_collectives.specs.Ends.{EndAsked, WritesResult}
 use Rattle.node_collectives.proofs.Trying.{tries_ended, tries_lacks, tries_other}
 use Rattle.node_collectives.proofs.collectives.Collectives.finish.Goals as goal

@@ -1,5 +1,5 @@
 use Rattle.std.proofs.Common.{sym, subst}
-use Rattle.node_caller.specs.Sites.{IsThere}
+use Rattle.node_endpoint.specs.Sites.{IsThere}
 use Rattle.node_collectives.specs.declared.answers.EndAnswer.TheVariants as end_answers
 use Rattle.node_collectives.proofs.Trying.{polls_lacks, polls_told}
 use Rattle.node_collectives.proofs.collectives.Collectives.poll.Goals as goal

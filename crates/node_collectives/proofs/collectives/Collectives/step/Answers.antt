@@ -1,6 +1,6 @@
 use Rattle.std.proofs.Common.{◌≡◌, ◌+◌, ◌-◌, ◌<◌, refl, ap, sym, subst, ◌∙◌, arith}
 use Rattle.std.proofs.lemmas.Bool.{ltb-true}
-use Rattle.node_caller.specs.Sites.{IsThere, Site}
+use Rattle.node_endpoint.specs.Sites.{IsThere, Site}
 use Rattle.part_collective_area.specs.Area.{Area}
 use Rattle.node_collectives.specs.declared.answers.StepAnswer.TheVariants as step_answers
 use Rattle.node_collectives.specs.CollectivesState.{CollectivesState}

@@ -1,5 +1,5 @@
 use Rattle.std.proofs.Common.{ℕ, ◌<◌, ap, sym, subst, ◌∙◌, arith}
-use Rattle.node_caller.specs.Sites.{IsThere, Site}
+use Rattle.node_endpoint.specs.Sites.{IsThere, Site}
 use Rattle.node_collectives.specs.Ends.{EndAsked, HasPiece, WritesPiece}
 use Rattle.node_collectives.proofs.Writing.{writing_all, writing_fails, writing_first, writing_on}
 use Rattle.node_collectives.proofs.collectives.Collectives.write_result.Goals as goal

@@ -1,6 +1,6 @@
 use Rattle.std.proofs.Common.{◌≡◌, ap, sym, ◌∙◌, true, false}
 use Rattle.part_transfers.specs.declared.operation.Mode.TheVariants.{InRegion}
-use Rattle.part_regions.specs.Regions.{has_begun}
+use Rattle.part_transfers.specs.Regions.{has_begun}
 use Rattle.node_rules.specs.TransferCalls.{implicit_mode}
 use Rattle.node_endpoint.proofs.Beginnings.{implicit_begins}
 use Rattle.node_endpoint.proofs.extended.Extended.begin_implicit.Goals as goal

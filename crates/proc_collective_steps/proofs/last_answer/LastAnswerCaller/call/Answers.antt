@@ -1,6 +1,6 @@
 -- A call of a caller that keeps its last answer: a step of its endpoint.
 use Rattle.std.proofs.Common.{refl}
-use Rattle.node_caller.specs.Sites.{Site, called_by}
+use Rattle.node_endpoint.specs.Sites.{Site, called_by}
 use Rattle.proc_collective_steps.proofs.AtLast.{called_so}
 use Rattle.proc_collective_steps.proofs.last_answer.LastAnswerCaller.call.Goals as goal
 

@@ -1,6 +1,6 @@
 use Rattle.std.proofs.Common.{◌≡◌, refl, sym, ap₂, subst, ◌∙◌}
-use Rattle.node_caller.specs.Sites.{Site, called_by}
-use Rattle.sim_caller.proofs.Stepping.{same_told, lacked}
+use Rattle.node_endpoint.specs.Sites.{Site, called_by}
+use Rattle.sim_world.proofs.Stepping.{same_told, lacked}
 use Rattle.sim_group.specs.Standing.{AreAsFar}
 use Rattle.sim_group.specs.Wholes.{world_of}
 use Rattle.sim_group.proofs.at_group.AtGroupCaller.call.Goals as goal

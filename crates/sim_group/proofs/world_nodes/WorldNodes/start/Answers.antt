@@ -1,8 +1,8 @@
 use Rattle.std.proofs.Common.{◌<◌, length, ap, ◌∙◌, arith}
 use Rattle.part_handlers.specs.Runs.{Meaning}
-use Rattle.node_caller.specs.Sites.{Site}
-use Rattle.sim_caller.specs.Wholes.{WorldWhole}
-use Rattle.sim_caller.specs.contracts.at_node.AtNodeCaller.TheImpl.{ghosts}
+use Rattle.node_endpoint.specs.Sites.{Site}
+use Rattle.sim_world.specs.Wholes.{WorldWhole}
+use Rattle.sim_world.specs.contracts.at_node.AtNodeCaller.TheImpl.{ghosts}
 use Rattle.node_collectives.specs.Starts.{StartAsked}
 use Rattle.sim_group.specs.GroupState.{GroupState}
 use Rattle.sim_group.proofs.Nodes.{at_place, group_set}

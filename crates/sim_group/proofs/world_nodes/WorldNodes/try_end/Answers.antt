@@ -1,9 +1,9 @@
 use Rattle.std.proofs.Common.{◌≡◌, ◌<◌, List, [], ◌∷◌, length, refl, ap, ◌∙◌, arith}
 use Rattle.part_handlers.specs.Runs.{Meaning}
-use Rattle.node_caller.specs.Making.{whole_after}
-use Rattle.node_caller.specs.Sites.{Site, ThreadCall}
-use Rattle.sim_caller.specs.Wholes.{WorldWhole, whole_then}
-use Rattle.sim_caller.specs.contracts.at_node.AtNodeCaller.TheImpl.{ghosts}
+use Rattle.node_endpoint.specs.Making.{whole_after}
+use Rattle.node_endpoint.specs.Sites.{Site, ThreadCall}
+use Rattle.sim_world.specs.Wholes.{WorldWhole, whole_then}
+use Rattle.sim_world.specs.contracts.at_node.AtNodeCaller.TheImpl.{ghosts}
 use Rattle.node_collectives.specs.Ends.{EndAsked}
 use Rattle.sim_group.specs.GroupState.{GroupState}
 use Rattle.sim_group.proofs.Ending.{after_calls, end_came, end_does, long_at}

@@ -1,7 +1,0 @@
--- None of the nodes before sent it.
-use Rattle.text_replay.specs.Sending.{IsSentAmong}
-use Rattle.text_replay.proofs.Searching.{NoneBelow}
-use Rattle.text_replay.proofs.sent.is_sent.Given as goal
-
-abbrev pub invariant-loop-replay : goal.invariant-loop-replay
-invariant-loop-replay l = NoneBelow (λ replay. IsSentAmong replay.sent.items l.to l.bytes) l.replays l.replay-index
