@@ -65,34 +65,37 @@ shows_of view bytes coming spells parts told = record {
 no_some : {X : Type 0} (x : X) → None ≡ Some x → ⊥
 no_some x e = cc
 
--- of bytes that were read
-pub peeks_read : (endpoint : EndpointState) (bytes : List ℕ) (coming : Coming) (answer : Delivered) (view : View)
+-- of bytes that were read, in the version of the endpoint
+pub peeks_read : (endpoint : EndpointState) (version : ℕ) (bytes : List ℕ) (coming : Coming) (answer : Delivered)
+    (view : View) → endpoint.core.settings.version ≡ version
     → WouldDeliver endpoint bytes answer → IsAnsweredAlways endpoint bytes answer
-    → ((message : Message) → message.version ≡ endpoint.core.settings.version → Spells message bytes → Shows message (Ok view))
-    → None ≡ first_refusal endpoint.core.settings.version bytes → Spells (viewed_message view) bytes
+    → ((message : Message) → message.version ≡ version → Spells message bytes → Shows message (Ok view))
+    → None ≡ first_refusal version bytes → Spells (viewed_message view) bytes
     → view.words.now ++ view.payload.now ≡ drop 40 bytes → coming.runs ≡ runs_by answer view.handler
     → TellsView view coming → Peeks endpoint bytes coming
-peeks_read endpoint bytes coming answer view would agrees only fine spells parts runs told = record {
+peeks_read endpoint version bytes coming answer view same would agrees only fine spells parts runs told = record {
   answer = answer;
   would = would;
   agrees = agrees;
-  runs = λ message version spelled. runs
-      ∙ ap (λ (m : Message). runs_by answer m.handler) (only message version spelled);
-  shows = λ message version spelled. subst (λ (m : Message). ShowsOf m bytes coming)
-      (only message version spelled) (shows_of view bytes coming spells parts told);
-  unread = λ reason is. absurd (no_some reason (fine ∙ is));
+  runs = λ message of spelled. runs
+      ∙ ap (λ (m : Message). runs_by answer m.handler) (only message (of ∙ same) spelled);
+  shows = λ message of spelled. subst (λ (m : Message). ShowsOf m bytes coming)
+      (only message (of ∙ same) spelled) (shows_of view bytes coming spells parts told);
+  unread = λ reason is. absurd (no_some reason
+      (fine ∙ ap (λ (number : ℕ). first_refusal number bytes) (sym same) ∙ is));
 }
 
 -- of others
-pub peeks_unread : (endpoint : EndpointState) (bytes : List ℕ) (coming : Coming) (answer : Delivered)
+pub peeks_unread : (endpoint : EndpointState) (version : ℕ) (bytes : List ℕ) (coming : Coming) (answer : Delivered)
+    → endpoint.core.settings.version ≡ version
     → WouldDeliver endpoint bytes answer → IsAnsweredAlways endpoint bytes answer
-    → ((message : Message) → message.version ≡ endpoint.core.settings.version → Spells message bytes → ⊥) → coming.runs ≡ 0
+    → ((message : Message) → message.version ≡ version → Spells message bytes → ⊥) → coming.runs ≡ 0
     → Peeks endpoint bytes coming
-peeks_unread endpoint bytes coming answer would agrees never runs = record {
+peeks_unread endpoint version bytes coming answer same would agrees never runs = record {
   answer = answer;
   would = would;
   agrees = agrees;
-  runs = λ message version spelled. absurd (never message version spelled);
-  shows = λ message version spelled. absurd (never message version spelled);
+  runs = λ message of spelled. absurd (never message (of ∙ same) spelled);
+  shows = λ message of spelled. absurd (never message (of ∙ same) spelled);
   unread = λ reason is. runs;
 }
