@@ -4,6 +4,22 @@ use Rattle.text_job.proofs.PairSums.{sum_in_place}
 use Rattle.text_job.proofs.Ranges.{fitting, not_own, is_pair, pair_range, sum_behind}
 use Rattle.text_job.proofs.pair_lines.with_pair.Goals as goal
 
+pub overflow_add-sum : goal.overflow_add-sum
+overflow_add-sum c =
+    let s = c.args.head.settings in
+    let fit = fitting s c.args.pair c.requires.fits in
+    let sums = sum_in_place s c.args.pair fit.from fit.to fit.apart in
+    omega (
+      arith,
+      sums,
+      fit.sum,
+      c.from-own.ensures,
+      c.credits.ensures,
+      c.credits.type_inv,
+      c.from.ensures,
+      c.requires.sum,
+    )
+
 pub overflow_sub-sum : goal.overflow_sub-sum
 overflow_sub-sum c =
     let s = c.args.head.settings in
