@@ -134,6 +134,15 @@ static void limit_messages(struct gasnetl_job *job, uint16_t node, uint32_t mtu)
         job->control.message = most;
 }
 
+/* The MTU of the way to a node: that of an earlier one on its host, where there is one, as the system is slow to tell.
+ */
+static uint32_t mtu_to(const struct gasnetl_job *job, uint16_t node) {
+    for (uint16_t other = 0; other < node; other++)
+        if (other != job->me && gasnetl_places_share_host(&job->network.places, other, node))
+            return job->control.mtu[other];
+    return gasnetl_path_mtu(&job->network, node);
+}
+
 /* Finds what this node can know of the ways to and from the others. */
 static void find_ways(struct gasnetl_job *job) {
     struct gasnetl_control *control = &job->control;
@@ -143,7 +152,7 @@ static void find_ways(struct gasnetl_job *job) {
     for (uint16_t node = 0; node < job->nodes; node++) {
         if (node == job->me)
             continue;
-        control->mtu[node] = job->config.mtu ? job->config.mtu : gasnetl_path_mtu(&job->network, node);
+        control->mtu[node] = job->config.mtu ? job->config.mtu : mtu_to(job, node);
         limit_messages(job, node, control->mtu[node]);
     }
 }

@@ -158,6 +158,10 @@ uint16_t gasnetl_places_find(const struct gasnetl_places *places, const struct s
     return node;
 }
 
+bool gasnetl_places_share_host(const struct gasnetl_places *places, uint16_t one, uint16_t other) {
+    return is_same_host(&places->of[one].address, &places->of[other].address);
+}
+
 void gasnetl_place_write(const struct sockaddr_storage *address, char *text, size_t room) {
     char host[INET6_ADDRSTRLEN] = "?";
     if (address->ss_family == AF_INET)

@@ -39,6 +39,9 @@ const char *gasnetl_place_remedy(int error);
 /* The node with this address: GASNETL_NO_NODE where it is none's. It looks at the nodes of that port alone. */
 uint16_t gasnetl_places_find(const struct gasnetl_places *places, const struct sockaddr_storage *address);
 
+/* Whether two nodes are on one host, by their addresses. */
+bool gasnetl_places_share_host(const struct gasnetl_places *places, uint16_t one, uint16_t other);
+
 /* Writes an address as it is read. */
 void gasnetl_place_write(const struct sockaddr_storage *address, char *text, size_t room);
 

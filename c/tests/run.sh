@@ -118,6 +118,11 @@ check "layouts" 0 "the place of to in gasnet_c_told" bash -c changed_layout
 check "large segments" 0 "" env GASNET_MAX_SEGSIZE=100G bin/gasnetrun -n 2 out/tests/large
 check "many nodes" 0 "" bin/gasnetrun -n 64 out/tests/queries
 check "many nodes, collectives" 0 "^6 collectives were right" bin/gasnetrun -n 64 out/tests/collectives 6
+for n in 64 128 256; do
+    check "scale n=$n" 0 "^$n nodes were right" bin/gasnetrun -n $n out/tests/scale
+done
+check "scale n=256 loss=5" 0 "^256 nodes were right" env GASNET_DROP=5 bin/gasnetrun -n 256 out/tests/scale
+check "scale n=8 loss=5 sanitized" 0 "^8 nodes were right" env GASNET_DROP=5 bin/gasnetrun -n 8 out/sanitized/tests/scale
 # Of two nodes the system takes no stranger's datagram.
 check "strangers are counted" 0 "strays [1-9]" env GASNET_COUNTS=1 bin/gasnetrun -n 3 out/tests/strangers
 
@@ -472,7 +477,7 @@ broken GASNET_CREDITS=33 "GASNET_CREDITS is '33'"
 broken GASNET_MTU=100 "GASNET_MTU is '100'"
 broken GASNET_PROGRESS=never "GASNET_PROGRESS is 'never': set it to 'thread' or to 'poll'"
 broken GASNET_MAX_SEGSIZE=7Q "GASNET_MAX_SEGSIZE is '7Q'"
-broken GASNET_NODES=65 "GASNET_NODES is '65'" GASNET_RANK=0
+broken GASNET_NODES=257 "GASNET_NODES is '257'" GASNET_RANK=0
 broken GASNET_RANK=2 "GASNET_RANK is '2'" GASNET_NODES=2
 broken GASNET_RANK=1 "neither GASNET_ADDRESSES nor GASNET_HOSTS is set" GASNET_NODES=2
 broken GASNET_HOSTS=" , " "GASNET_HOSTS is broken: it has no host" GASNET_RANK=0
@@ -529,7 +534,7 @@ known_names() { ! env GASNET_RESEND=5 GASNET_COUNTS=1 bin/gasnetrun -n 2 out/tes
 export -f known_names
 check "names, known ones alone" 0 "" bash -c known_names
 check "interfaces" 0 "" out/sanitized/tests/interfaces
-check "gasnetrun usage" 64 "usage" bin/gasnetrun -n 65 out/tests/barriers
+check "gasnetrun usage" 64 "usage" bin/gasnetrun -n 257 out/tests/barriers
 check "gasnetrun usage, a long number" 64 "usage" bin/gasnetrun -n 4294967297 out/tests/barriers
 check "gasnetrun of no program" 127 "can't be started" bin/gasnetrun -n 2 out/tests/no-such-program
 
