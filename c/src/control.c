@@ -21,8 +21,16 @@ enum {
     SERVES_PACKS = 16
 };                                             /* flags of a HELLO; the fourth: that the other is ready */
 enum { FORCED = 1, HEARD = 2, IS_ANSWER = 4 }; /* flags of an END */
-/* Microseconds; the first between two hellos. */
-enum { AGAIN = 10000, SETTLED = 100000, NAP = 2000, LATE = 5000000, MILLISECOND = 1000 };
+/* Microseconds; the first two before the second hello, with the latter for each node, and the third between two. */
+enum {
+    AGAIN = 10000,
+    AGAIN_EACH = 300,
+    MOST_AGAIN = 320000,
+    SETTLED = 100000,
+    NAP = 2000,
+    LATE = 5000000,
+    MILLISECOND = 1000
+};
 
 /* A datagram, whose fields go in this order, in network byte order, behind the magic. */
 struct datagram {
@@ -315,20 +323,23 @@ static void judge_settings(struct gasnetl_job *job, uint16_t from, const struct 
 }
 
 /* Tells all nodes, and asks again until it is known of each, or the time is over, if it isn't 0. Whether it is known of
- * each. Where that takes long a line says why, once. */
+ * each. It waits twice as long each time, as all others ask too, and at first longer the more they are. Where it takes
+ * long a line says why, once. */
 static bool exchange(struct gasnetl_job *job, const bool *known, uint64_t time) {
-    uint64_t begun = gasnetl_clock(), asked = begun;
+    uint64_t begun = gasnetl_clock(), asked = begun, again = AGAIN + job->nodes * (uint64_t)AGAIN_EACH;
     bool told = false;
     tell_all(job, known);
     for (;;) {
         uint64_t now = gasnetl_clock();
-        bool asks = now - asked >= AGAIN;
+        bool asks = now - asked >= again;
         if (!ask_unknown(job, known, asks))
             return true;
         if (time && now - begun > time)
             return false;
-        if (asks)
+        if (asks) {
             asked = now;
+            again = again < MOST_AGAIN / 2 ? 2 * again : MOST_AGAIN;
+        }
         if (!told && now - begun > LATE)
             told = gasnetl_absent_tell(job, known, now - begun);
         if (!gasnetl_poll(job, 16))
