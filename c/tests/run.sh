@@ -2,7 +2,7 @@
 # Runs the tests: tests/run.sh [WORD], those whose name has the word. Each has a time limit, and a log in out/logs.
 # Nothing is promised of time, so a test that fails is run once more, with a line that says so; the last line counts those.
 # A test whose own check failed, which is status 1, isn't.
-# GASNET_TEST_QUICK=1 leaves out the loss of 10 % and the eight nodes.
+# GASNET_TEST_QUICK=1 leaves out the loss of 10 %, the eight nodes, and losses among 256.
 cd "$(dirname "$0")/.." || exit 2
 word=${1:-}
 limit=${GASNET_TEST_LIMIT:-150}
@@ -121,7 +121,7 @@ check "many nodes, collectives" 0 "^6 collectives were right" bin/gasnetrun -n 6
 for n in 64 128 256; do
     check "scale n=$n" 0 "^$n nodes were right" bin/gasnetrun -n $n out/tests/scale
 done
-check "scale n=256 loss=5" 0 "^256 nodes were right" env GASNET_DROP=5 bin/gasnetrun -n 256 out/tests/scale
+[ -n "$GASNET_TEST_QUICK" ] || check "scale n=256 loss=5" 0 "^256 nodes were right" env GASNET_DROP=5 bin/gasnetrun -n 256 out/tests/scale
 check "scale n=8 loss=5 sanitized" 0 "^8 nodes were right" env GASNET_DROP=5 bin/gasnetrun -n 8 out/sanitized/tests/scale
 # Of two nodes the system takes no stranger's datagram.
 check "strangers are counted" 0 "strays [1-9]" env GASNET_COUNTS=1 bin/gasnetrun -n 3 out/tests/strangers

@@ -6,7 +6,7 @@
 
 #include <time.h>
 
-enum { EACH = 16384, ROUNDS = 5, LENGTH = 3000, RING = 128, ROOTS = 4 };
+enum { EACH = 16384, ROUNDS = 3, LENGTH = 3000, RING = 128 };
 
 static int came = -1;
 
@@ -67,8 +67,9 @@ static void sum(void) {
 
 static void broadcasts(void) {
     static unsigned char given[LENGTH], got[LENGTH];
-    for (int i = 0; i < ROOTS; i++) {
-        const int root = i * (nodes - 1) / (ROOTS - 1);
+    const int roots[] = { 0, nodes - 1 };
+    for (int i = 0; i < COUNT(roots); i++) {
+        const int root = roots[i];
         if (me == root)
             fill(given, LENGTH, root, i);
         gex_Event_Wait(gex_Coll_BroadcastNB(NULL, (gex_Rank_t)root, got, given, LENGTH, 0));
