@@ -1,5 +1,5 @@
 /* gasnetrun -n N PROGRAM ARGS: starts N nodes of a GASNet program on this host, and ends with the first status that
- * isn't 0. */
+ * isn't 0. Its words are read by options.h, what nodes write is told apart by lines.h. */
 #include <arpa/inet.h>
 #include <errno.h>
 #include <fcntl.h>
@@ -16,23 +16,20 @@
 #include <sys/stat.h>
 #include <sys/wait.h>
 #include <poll.h>
+#include <time.h>
 #include <unistd.h>
 
 #include "gasnet_c.h"
+#include "lines.h"
 #include "network.h"
+#include "options.h"
 #include "runner.h"
 
-enum {
-    NODES = GASNET_C_MAX_NODES,
-    USAGE = 64,
-    REFUSED = 71,
-    GRACE = 1000,
-    MOST_GRACE = 1000000,
-    LAST = 2000,
-    TEXT = 24
-};
+enum { NODES = GASNET_C_MAX_NODES, REFUSED = 71, GRACE = 1000, MOST_GRACE = 1000000, LAST = 2000, TEXT = 24 };
 
 struct run {
+    struct gasnetl_options options;
+    struct gasnetl_lines lines;
     int nodes, alive;
     int grace; /* the milliseconds that the others have where a node failed: GASNET_GRACE */
     int sockets[NODES];
@@ -46,6 +43,7 @@ struct run {
     bool is_settled; /* it is that of the node that ended the job, or of a signal to this process */
     bool is_told;    /* a node told that it ended the job with status 0: that is the job's */
     int ends;        /* 0: no; 1: a node failed, the others may end by themselves; 2: TERM was sent; 3: KILL was */
+    int64_t next;    /* when it goes one step further, in milliseconds, where `ends` isn't 0 */
 };
 
 static _Noreturn void fail(const char *what) {
@@ -53,9 +51,10 @@ static _Noreturn void fail(const char *what) {
     exit(REFUSED);
 }
 
-static int usage(void) {
-    fprintf(stderr, "usage: gasnetrun -n N PROGRAM ARGS    (N from 1 to %d)\n", NODES);
-    return USAGE;
+static int64_t clock_now(void) {
+    struct timespec now;
+    clock_gettime(CLOCK_MONOTONIC, &now);
+    return (int64_t)now.tv_sec * 1000 + now.tv_nsec / 1000000;
 }
 
 /* A socket of each node on this host, at any free port. */
@@ -103,33 +102,55 @@ static void set_job(const struct run *run) {
         fail("there is no memory");
 }
 
-static _Noreturn void become_node(const struct run *run, int node, pid_t parent, char **words) {
+/* Becomes the program; a debugger that starts it, where `is_debugged`. */
+static _Noreturn void become_program(char **words, bool is_debugged) {
+    int count = 0;
+    while (words[count])
+        count++;
+    char *debugger[count + 5];
+    memcpy(debugger, (char *[]){ "sh", "-c", "exec ${GASNET_GDB:-gdb} --args \"$@\"", "gasnetrun" },
+           4 * sizeof(char *));
+    memcpy(debugger + 4, words, (size_t)(count + 1) * sizeof(char *));
+    if (is_debugged)
+        words = debugger;
+    execvp(words[0], words);
+    fprintf(stderr, "gasnetrun: %s can't be started (%s)\n", words[0], strerror(errno));
+    _exit(127);
+}
+
+/* Only what the node is to have stays open in it. The standard input is node 0's, or that of the debugger. */
+static void have_descriptors(const struct run *run, int node) {
+    const int debugged = run->options.debugged;
+    if (node != (debugged < 0 ? 0 : debugged) && !freopen("/dev/null", "r", stdin))
+        exit(REFUSED);
+    if (node != debugged)
+        gasnetl_lines_become(&run->lines, node);
+    fcntl(run->sockets[node], F_SETFD, 0);
+    fcntl(run->lifeline[0], F_SETFD, 0);
+    fcntl(run->reports[1], F_SETFD, 0);
+}
+
+static _Noreturn void become_node(const struct run *run, int node, pid_t parent) {
     sigset_t none;
     prctl(PR_SET_PDEATHSIG, SIGKILL);
     if (getppid() != parent)
         exit(REFUSED);
     sigemptyset(&none);
     sigprocmask(SIG_SETMASK, &none, NULL);
-    if (node && !freopen("/dev/null", "r", stdin)) /* the standard input is node 0's */
-        exit(REFUSED);
+    have_descriptors(run, node);
     set_number("GASNET_RANK", (uint64_t)node);
     set_number("GASNET_SOCKET", (uint64_t)run->sockets[node]);
-    fcntl(run->sockets[node], F_SETFD, 0);
-    fcntl(run->lifeline[0], F_SETFD, 0);
-    fcntl(run->reports[1], F_SETFD, 0);
-    execvp(words[0], words);
-    fprintf(stderr, "gasnetrun: %s can't be started (%s)\n", words[0], strerror(errno));
-    _exit(127);
+    become_program(run->options.words, node == run->options.debugged);
 }
 
-static void start(struct run *run, char **words) {
+static void start(struct run *run) {
     pid_t parent = getpid();
     for (int node = 0; node < run->nodes; node++) {
         pid_t child = fork();
         if (child < 0)
             fail("no process can be had");
         if (!child)
-            become_node(run, node, parent, words);
+            become_node(run, node, parent);
         run->children[node] = child;
         run->alive++;
     }
@@ -137,6 +158,7 @@ static void start(struct run *run, char **words) {
         close(run->sockets[node]);
     close(run->lifeline[0]);
     close(run->reports[1]);
+    gasnetl_lines_start(&run->lines);
 }
 
 static void end_all(struct run *run, int signal) {
@@ -149,6 +171,7 @@ static void end_all(struct run *run, int signal) {
 static void end_more(struct run *run) {
     if (run->ends < 3)
         run->ends++;
+    run->next = clock_now() + (run->ends == 1 ? run->grace : LAST);
     if (run->ends == 2)
         end_all(run, SIGTERM);
     if (run->ends == 3) {
@@ -231,25 +254,36 @@ static void take_signal(struct run *run, int signal) {
     end_more(run);
 }
 
-/* Waits for a signal, of a child or one that ends this process, or for what a node tells. */
-static void wait_once(struct run *run) {
-    struct pollfd ready[2] = { { .fd = run->signals, .events = POLLIN }, { .fd = run->reports[0], .events = POLLIN } };
+/* The milliseconds until the job's end goes one step further; -1 where it doesn't end. */
+static int time_left(const struct run *run) {
+    int64_t left = run->next - clock_now();
+    return !run->ends ? -1 : left < 0 ? 0 : (int)left;
+}
+
+/* Takes a signal to this process, but for those that tell that a child ended. */
+static void take_signals(struct run *run) {
     struct signalfd_siginfo signal;
-    int time = run->ends == 0 ? -1 : run->ends == 1 ? run->grace : LAST;
-    int got = poll(ready, 2, time);
-    if (got == 0)
+    if (read(run->signals, &signal, sizeof signal) == sizeof signal && signal.ssi_signo != SIGCHLD)
+        take_signal(run, (int)signal.ssi_signo);
+}
+
+/* Waits for a signal, of a child or one that ends this process, for what a node tells, or for what it writes. */
+static void wait_once(struct run *run) {
+    struct pollfd ready[2 + GASNETL_STREAMS] = { { .fd = run->signals, .events = POLLIN },
+                                                 { .fd = run->reports[0], .events = POLLIN } };
+    int got = poll(ready, 2 + gasnetl_lines_await(&run->lines, ready + 2), time_left(run));
+    if (!time_left(run))
         end_more(run);
     if (got <= 0)
         return;
+    gasnetl_lines_take(&run->lines, ready + 2);
     take_reports(run);
     if (ready[1].revents & POLLHUP) { /* the nodes closed the pipe, or ended */
         close(run->reports[0]);
         run->reports[0] = -1;
     }
-    if (!(ready[0].revents & POLLIN) || read(run->signals, &signal, sizeof signal) != sizeof signal)
-        return;
-    if (signal.ssi_signo != SIGCHLD)
-        take_signal(run, (int)signal.ssi_signo);
+    if (ready[0].revents & POLLIN)
+        take_signals(run);
 }
 
 /* Whether whoever started this process has it ignore the signal, as nohup does, or a shell where it is in the
@@ -296,28 +330,36 @@ static int read_grace(void) {
         return (int)value;
     fprintf(stderr, "gasnetrun: GASNET_GRACE is '%s': set it to a number from 0 to %d, or unset it\n", text,
             MOST_GRACE);
-    exit(USAGE);
+    exit(GASNETL_USAGE);
+}
+
+/* Has pipes for what the nodes write, where lines are to tell their node. With a debugger no peer is taken for gone
+ * that is stopped in it, and the terminal's interrupt is the debugger's. */
+static void prepare(struct run *run) {
+    if (run->options.debugged >= 0) {
+        signal(SIGINT, SIG_IGN);
+        setenv("GASNET_PEER_TIMEOUT", "0", 0);
+    }
+    if (run->options.prefixes && !gasnetl_lines_open(&run->lines, run->nodes))
+        fail("no pipes can be had");
 }
 
 int main(int argc, char **argv) {
     static struct run run;
-    char *end;
-    if (argc < 4 || strcmp(argv[1], "-n"))
-        return usage();
-    long nodes = strtol(argv[2], &end, 10);
-    if (*end || nodes < 1 || nodes > NODES)
-        return usage();
-    run.nodes = (int)nodes;
+    gasnetl_options_read(&run.options, argc, argv);
+    run.nodes = run.options.nodes;
     run.grace = read_grace();
     fill_streams();
+    prepare(&run);
     catch_signals(&run);
     make_sockets(&run);
     set_job(&run);
-    start(&run, argv + 3);
+    start(&run);
     while (run.alive) {
         wait_once(&run);
         reap(&run);
     }
+    gasnetl_lines_end(&run.lines);
     if (run.status && !run.is_settled && !run.is_told)
         fprintf(stderr, "gasnetrun: the job ended with status %d\n", run.status);
     return run.status;

@@ -568,5 +568,8 @@ else
     check "$launcher ends" 5 "" mpirun --oversubscribe -n 4 out/tests/ends one 5
 fi
 
+# The commands' own words.
+. tests/commands.sh
+
 echo "$passed passed, $failed failed, $skipped skipped, $repeated run twice"
 [ "$failed" = 0 ]

@@ -1,0 +1,38 @@
+# What the commands say of themselves, and how gasnetrun runs nodes by its options. run.sh reads this file.
+for command in gasnetcc gasnetrun caf cafrun; do
+    check "$command --help" 0 "^usage: $command .*" bin/$command --help
+    check "$command --version" 0 "^$command 0\.0\.0 " bin/$command --version
+done
+check "gasnetrun --env" 0 "^GASNET_RESEND  *7  *2000  *the longest" env GASNET_RESEND=7 bin/gasnetrun --env
+listed() { # the variables are those of the page's table
+    diff <(bin/gasnetrun --env | grep -o '^GASNET_[A-Z_]*' | sort) \
+        <(sed -n '/^## Variables/,/^A variable that/p' ../docs/GASNET.md | grep '^| `GASNET' | cut -d '|' -f 2 | grep -o 'GASNET_[A-Z_]*' | sort)
+}
+export -f listed
+check "gasnetrun --env, as in GASNET.md" 0 "" bash -c listed
+check "gasnetrun of an unknown option" 64 "usage" bin/gasnetrun -n 2 --no-such-thing out/tests/barriers
+check "gasnetrun --gdb of no node" 64 "usage" bin/gasnetrun -n 2 --gdb 2 out/tests/barriers
+
+# Each line has its node's rank in front, whole, on either stream; so has one without an end, and one that its node's end cuts.
+prefixed() {
+    local log
+    log=$(bin/gasnetrun -n 3 --prefix-output bash -c 'for i in {1..200}; do echo "$GASNET_RANK out $i"; echo "$GASNET_RANK err $i" >&2; done
+        printf "%s last" "$GASNET_RANK"' 2>&1)
+    [ "$(wc -l <<<"$log")" = 1203 ] && ! grep -v -E '^([0-2]): \1 (out [0-9]+|err [0-9]+|last)$' <<<"$log"
+}
+long_lines() { # one of 65,536 bytes and more goes in pieces
+    bin/gasnetrun -n 1 --prefix-output head -c 100000 /dev/zero | tr '\0' x >out/long
+    [ "$(wc -l <out/long)" = 2 ] && [ "$(tr -d 'x0: \n' <out/long | wc -c)" = 0 ] && [ "$(tr -cd x <out/long | wc -c)" = 100000 ]
+}
+fails_while_others_write() { # a node that fails ends the others, though they write all the time
+    timeout 20 bin/gasnetrun -n 2 --prefix-output bash -c '[ "$GASNET_RANK" = 0 ] && exit 5; exec yes' >/dev/null
+}
+export -f prefixed long_lines fails_while_others_write
+check "gasnetrun --prefix-output" 0 "" bash -c prefixed
+check "gasnetrun --prefix-output, long lines" 0 "" bash -c long_lines
+check "gasnetrun --prefix-output, an end" 5 "node 0 ended with status 5" bash -c fails_while_others_write
+if command -v gdb >/dev/null; then
+    check "gasnetrun --gdb" 0 "node 1 of 2.*\|Inferior 1 .* exited normally" env GASNET_GDB="gdb -q -batch -ex run" bin/gasnetrun -n 2 --gdb 1 out/hello
+else
+    skip "gasnetrun --gdb" "there is no gdb"
+fi
