@@ -568,8 +568,9 @@ else
     check "$launcher ends" 5 "" mpirun --oversubscribe -n 4 out/tests/ends one 5
 fi
 
-# The commands' own words.
+# The commands' own words, what `make install` puts down, and how they are used from there.
 . tests/commands.sh
+. tests/install.sh
 
 echo "$passed passed, $failed failed, $skipped skipped, $repeated run twice"
 [ "$failed" = 0 ]
