@@ -81,3 +81,10 @@ for test in messages transfers collectives locks; do
 done
 check "install, shared object, a signal's call" 0 "" bash -c "client_shared ends alarm 0"
 check "install, uninstalled" 0 "" bash -c uninstall
+if [ -n "$GASNET_TEST_QUICK" ]; then
+    skip "install, Debian's packages" "GASNET_TEST_QUICK is set"
+elif ! command -v dh >/dev/null || ! command -v lintian >/dev/null || ! command -v dpkg-buildpackage >/dev/null || [ "$(id -u)" != 0 ]; then
+    skip "install, Debian's packages" "there is no debhelper, lintian or dpkg-dev, or this isn't root"
+else
+    limit=600 check "install, Debian's packages" 0 "node 3 has 2 from the node before it" tests/package.sh
+fi
