@@ -275,6 +275,7 @@ static void request_there(struct gasnetl_job *job, gasnet_c_ask *ask, const stru
     gasnet_c_told told = ask_once(job, ask);
     if (told.code == GASNET_C_NOT_YET) {
         job->peers.of[ask->to].asking++;
+        gasnetl_thread.stack.to = (uint16_t)(ask->to + 1);
         do {
             gasnetl_wait(job, &turn);
             told = ask_once(job, ask);
@@ -318,9 +319,14 @@ int gasnet_AMPoll(void) {
     return GASNET_OK;
 }
 
+/* The turn is 0 the first time, and one more than that of gasnetl_wait behind it, so that the whole is one wait. */
 void gasnetl_block(unsigned *turn) {
+    const uint64_t since = *turn ? gasnetl_thread.stack.since : 0;
+    unsigned empty = *turn ? *turn - 1 : 0;
     struct gasnetl_job *job = gasnetl_enter("GASNET_BLOCKUNTIL");
-    gasnetl_wait(job, turn);
+    gasnetl_thread.stack.since = since;
+    gasnetl_wait(job, &empty);
+    *turn = empty + 1;
     gasnetl_leave(job);
     pthread_testcancel();
 }

@@ -264,6 +264,7 @@ static gasnet_c_told ask(struct gasnetl_job *job, struct gasnetl_block *block) {
     if (told.code != GASNET_C_NOT_YET)
         return told;
     job->peers.of[block->to].asking++;
+    gasnetl_thread.stack.to = (uint16_t)(block->to + 1);
     do {
         gasnetl_wait(job, &turn);
         told = ask_if_free(job, block);

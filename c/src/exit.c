@@ -50,6 +50,8 @@ static bool all_heard(const struct gasnetl_job *job) {
 /* Tells the peers of the end, and serves them, until the time is over, or all that is asked of them came. */
 static bool serve_to_end(struct gasnetl_job *job, bool forced, uint64_t time) {
     uint64_t begun = gasnetl_clock(), told = 0, heard = begun;
+    gasnetl_thread.stack.call = "gasnet_exit";
+    gasnetl_thread.stack.since = begun;
     for (;;) {
         uint64_t now = gasnetl_clock();
         bool left = are_all_set(job, job->control.has_left);

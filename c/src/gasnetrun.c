@@ -38,6 +38,7 @@ struct run {
     int lifeline[2]; /* a pipe whose writing end, until it is -1, this process alone has: the nodes end as it does */
     int reports[2];  /* a pipe by which nodes tell how they end (runner.h) */
     bool is_by_peer[NODES]; /* a node told that another one ended it */
+    pid_t tellers[NODES];   /* the process of a node that tells by SIGUSR2 where its threads wait; 0 for none */
     int signals;
     int status;      /* the first that isn't 0 */
     bool is_settled; /* it is that of the node that ended the job, or of a signal to this process */
@@ -200,6 +201,7 @@ static void note_end(struct run *run, int node, int how) {
     int status = WIFSIGNALED(how) ? 128 + WTERMSIG(how) : WEXITSTATUS(how);
     bool is_first = !is_of_another(run, node, how);
     run->children[node] = 0;
+    run->tellers[node] = 0;
     run->alive--;
     if (!status || run->is_settled || run->is_told)
         return;
@@ -229,6 +231,8 @@ static void take_reports(struct run *run) {
             run->is_by_peer[report.node] = true;
         if (report.kind == GASNETL_ENDED_WELL)
             take_told(run);
+        if (report.kind == GASNETL_TELLS_STACKS && report.node < run->nodes)
+            run->tellers[report.node] = report.process;
     }
 }
 
@@ -260,10 +264,41 @@ static int time_left(const struct run *run) {
     return !run->ends ? -1 : left < 0 ? 0 : (int)left;
 }
 
-/* Takes a signal to this process, but for those that tell that a child ended. */
+/* Whether a process is stopped, by a signal or a debugger, by what Linux says of it. */
+static bool is_stopped(pid_t process) {
+    char path[TEXT + 8], state = 0;
+    snprintf(path, sizeof path, "/proc/%d/stat", process);
+    FILE *file = fopen(path, "r");
+    if (file && fscanf(file, "%*d (%*[^)]) %c", &state) != 1)
+        state = 0;
+    if (file)
+        fclose(file);
+    return state == 'T' || state == 't';
+}
+
+/* Has each node tell where its threads wait. Of one that can't it tells why. */
+static void ask_stacks(const struct run *run) {
+    for (int node = 0; node < run->nodes; node++) {
+        const pid_t teller = run->tellers[node];
+        if (!run->children[node])
+            fprintf(stderr, "gasnetrun: node %d has ended\n", node);
+        else if (!teller)
+            fprintf(stderr, "gasnetrun: node %d hasn't called gasnet_init, or handles SIGUSR2 itself\n", node);
+        else if (is_stopped(teller))
+            fprintf(stderr, "gasnetrun: node %d (process %d) is stopped, by a signal or a debugger\n", node, teller);
+        else
+            kill(teller, SIGUSR2);
+    }
+}
+
+/* Takes a signal to this process. */
 static void take_signals(struct run *run) {
     struct signalfd_siginfo signal;
-    if (read(run->signals, &signal, sizeof signal) == sizeof signal && signal.ssi_signo != SIGCHLD)
+    if (read(run->signals, &signal, sizeof signal) != sizeof signal)
+        return;
+    if (signal.ssi_signo == SIGUSR2)
+        ask_stacks(run);
+    else if (signal.ssi_signo != SIGCHLD)
         take_signal(run, (int)signal.ssi_signo);
 }
 
@@ -300,6 +335,7 @@ static void catch_signals(struct run *run) {
     sigemptyset(&set);
     signal(SIGCHLD, SIG_DFL);
     sigaddset(&set, SIGCHLD);
+    sigaddset(&set, SIGUSR2);
     for (int i = 0; i < 3; i++)
         if (!is_ignored(ends[i]))
             sigaddset(&set, ends[i]);

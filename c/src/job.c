@@ -93,6 +93,7 @@ static int start(struct gasnetl_job *job, int threaded) {
     gasnetl_transfers_start(&job->transfers, job->nodes);
     if (!gasnetl_exit_start(job))
         return gasnetl_refuse(GASNET_ERR_RESOURCE, "there is no memory");
+    gasnetl_stacks_start(job);
     return GASNET_OK;
 }
 
@@ -204,6 +205,7 @@ int gasnet_attach(gasnet_handlerentry_t *table, int numentries, uintptr_t segsiz
     if (job->attached) /* the calling thread may have the turn, in a handler */
         return judge_attach(job, segsize);
     gasnetl_take_turn(&job->turns);
+    gasnetl_thread.stack = (struct gasnetl_stack){ "gasnet_attach", gasnetl_clock(), 0, 0 };
     int code = judge_attach(job, segsize);
     if (code == GASNET_OK) {
         job->attaches = true;

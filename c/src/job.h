@@ -24,6 +24,7 @@
 #include "progress_thread.h"
 #include "recovery.h"
 #include "segment.h"
+#include "stacks.h"
 #include "threads.h"
 #include "transfers.h"
 
@@ -65,6 +66,7 @@ struct gasnetl_job {
     struct gasnetl_control control;
     struct gasnetl_kept kept;
     struct gasnetl_progress_thread thread;
+    struct gasnetl_stacks stacks;
 };
 
 /* The one job. Only the functions of gasnet.h, and those that end a process, name it. */

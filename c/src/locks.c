@@ -1,6 +1,10 @@
 /* Handler-safe locks, and sections without interrupts. Handlers run in polls alone, so nothing interrupts a thread: a
  * lock is a mutex among the client's threads, and a section is a rule that is checked. */
+#include <errno.h>
+#include <time.h>
+
 #include "errors.h"
+#include "progress.h"
 #include "threads.h"
 
 static struct gasnetl_thread *self(void) { return &gasnetl_thread; }
@@ -25,10 +29,35 @@ static void took(gasnet_hsl_t *hsl) {
     self()->locks = hsl;
 }
 
+enum { LOOK_EACH = 100000000, SECOND = 1000000000 }; /* nanoseconds */
+
+/* Waits for the lock so long that somebody may have asked where threads wait. */
+static int wait_for_lock(gasnet_hsl_t *hsl) {
+    struct timespec until;
+    clock_gettime(CLOCK_MONOTONIC, &until);
+    until.tv_nsec += LOOK_EACH;
+    until.tv_sec += until.tv_nsec / SECOND;
+    until.tv_nsec %= SECOND;
+    return pthread_mutex_clocklock(&hsl->mutex, CLOCK_MONOTONIC, &until);
+}
+
+/* Takes the lock that another thread has. Answers an error's number; 0 where it took it. */
+static int lock_later(gasnet_hsl_t *hsl) {
+    struct gasnetl_stack stack = gasnetl_stacks_of_lock();
+    int error;
+    while ((error = wait_for_lock(hsl)) == ETIMEDOUT)
+        gasnetl_stacks_look_at_lock(&stack);
+    self()->stack.told = stack.told;
+    return error;
+}
+
 void gasnet_hsl_lock(gasnet_hsl_t *hsl) {
     if (owner_of(hsl) == self())
         gasnetl_stop(GASNETL_MISUSE, "gasnet_hsl_lock: the thread holds the lock already");
-    if (pthread_mutex_lock(&hsl->mutex))
+    int error = pthread_mutex_trylock(&hsl->mutex);
+    if (error == EBUSY)
+        error = lock_later(hsl);
+    if (error)
         gasnetl_stop(GASNETL_MISUSE, "gasnet_hsl_lock: this is no lock");
     took(hsl);
 }

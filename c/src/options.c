@@ -1,16 +1,19 @@
 #include "options.h"
 
+#include <limits.h>
 #include <stdio.h>
 #include <stdlib.h>
 #include <string.h>
 
 #include "gasnet.h"
 #include "names.h"
+#include "running.h"
 
 static const char help[] =
     "  -n N               how many nodes, from 1 to 64\n"
     "  --prefix-output    begins each line that a node writes with its rank, as '3: '\n"
     "  --gdb RANK         starts that node in a debugger: gdb, or what GASNET_GDB names\n"
+    "  --stacks [PID]     has the nodes of a running gasnetrun, of this process number, tell where their threads wait\n"
     "  --env              prints the variables that count, with their values and defaults\n"
     "  --help             prints this\n"
     "  --version          prints the version\n"
@@ -52,6 +55,10 @@ static int read_number(const char *text, int least, int most) {
     return (int)number;
 }
 
+static _Noreturn void ask_running(const char *process) {
+    exit(gasnetl_running_ask(process ? read_number(process, 1, INT_MAX) : 0));
+}
+
 /* Reads the option at `at`, and answers the place of the next word. */
 static char **read_option(struct gasnetl_options *options, char **at) {
     if (!strcmp(*at, "-n"))
@@ -60,6 +67,8 @@ static char **read_option(struct gasnetl_options *options, char **at) {
         options->debugged = read_number(*++at, 0, GASNET_MAXNODES - 1);
     else if (!strcmp(*at, "--prefix-output"))
         options->prefixes = true;
+    else if (!strcmp(*at, "--stacks"))
+        ask_running(at[1]);
     else if (!strcmp(*at, "--env"))
         print_variables();
     else if (!strcmp(*at, "--help") || !strcmp(*at, "-h"))

@@ -112,6 +112,7 @@ static void blocking(const struct pieces *all) {
     struct gasnetl_job *job = gasnetl_enter(all->call);
     struct gasnetl_op op = { 0 };
     unsigned turn = 0;
+    gasnetl_thread.stack.to = (uint16_t)(all->node + 1);
     begin_all(job, &op, all, true);
     while (!gasnetl_op_is_complete(&op))
         gasnetl_wait(job, &turn);

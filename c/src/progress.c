@@ -277,6 +277,8 @@ bool gasnetl_poll(struct gasnetl_job *job, int most) {
     size_t length;
     uint16_t from;
     gasnetl_read_clock(job);
+    if (atomic_load_explicit(&job->stacks.asked, memory_order_relaxed) != gasnetl_thread.stack.told)
+        gasnetl_stacks_tell(job);
     progress->since_poll = 0;
     if (!progress->keeps)
         gasnetl_progress_thread_polled(&job->thread, progress->now);
@@ -330,6 +332,8 @@ void gasnetl_wait(struct gasnetl_job *job, unsigned *turn) {
         return;
     }
     ++*turn;
+    if (!gasnetl_thread.stack.since)
+        gasnetl_thread.stack.since = progress->now;
     int mode = atomic_load_explicit(&progress->wait_mode, memory_order_relaxed);
     bool sleeps = mode == GASNET_WAIT_BLOCK || (mode == GASNET_WAIT_SPINBLOCK && *turn >= progress->spin);
     if (sleeps && gasnetl_transfers_ask_all(job))

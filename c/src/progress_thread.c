@@ -143,6 +143,7 @@ static void *run(void *at) {
     gasnetl_thread.is_own = true;
     while (!is_over(job)) {
         end_where_left(&job->thread, &next_look);
+        gasnetl_stacks_watch(job);
         if (why != CALLED && take_turn(job)) {
             why = watch(job, why);
             time = LEAST_NAP;

@@ -24,7 +24,7 @@ void gasnetl_runner_start(void) {
 }
 
 void gasnetl_runner_tell(uint8_t kind, unsigned node) {
-    const struct gasnetl_report report = { kind, (uint8_t)node };
+    const struct gasnetl_report report = { kind, (uint8_t)node, (int32_t)getpid() };
     int pipe = find_pipe();
     if (pipe >= 0 && write(pipe, &report, sizeof report) != sizeof report)
         perror("gasnet: gasnetrun can't be told how this node ends");

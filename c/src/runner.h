@@ -7,12 +7,14 @@
 
 enum {
     GASNETL_ENDED_BY_PEER = 'p', /* this node ends since another one ended the job */
-    GASNETL_ENDED_WELL = '0'     /* this node ended the job, with status 0 */
+    GASNETL_ENDED_WELL = '0',    /* this node ended the job, with status 0 */
+    GASNETL_TELLS_STACKS = 's'   /* SIGUSR2 has this node tell where its threads wait (stacks.h) */
 };
 
 /* What goes through the pipe. */
 struct gasnetl_report {
     uint8_t kind, node;
+    int32_t process; /* the node's */
 };
 
 /* Keeps the pipe from the programs that this node starts. */

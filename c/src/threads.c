@@ -196,6 +196,7 @@ static _Noreturn void stop_misuse(const char *call) {
 static void know_thread(struct gasnetl_thread *self) {
     if (gasnetl_job.turns.threaded)
         pthread_setspecific(gasnetl_job.turns.ends, self);
+    self->stack.told = gasnetl_job.stacks.asked;
     self->is_known = true;
 }
 
@@ -206,6 +207,9 @@ struct gasnetl_job *gasnetl_enter(const char *call) {
     if (self->is_calling && gasnetl_job.ender != self)
         stop_within(call);
     self->is_calling = true;
+    self->stack.call = call;
+    self->stack.since = 0;
+    self->stack.to = 0;
     if (!self->is_known)
         know_thread(self);
     if (!gasnetl_may_call(&gasnetl_job.turns) && gasnetl_job.initialised)

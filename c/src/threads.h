@@ -15,6 +15,7 @@
 
 #include "gasnet.h"
 #include "operations.h"
+#include "stacks.h"
 
 struct gasnetl_job;
 
@@ -42,6 +43,7 @@ struct gasnetl_thread {
     bool is_calling;                /* it is in a call of the layer's, from gasnetl_enter to gasnetl_leave */
     bool is_known;                  /* the layer is told as it ends, where there are several */
     bool is_own;                    /* it is the layer's (progress_thread.h) */
+    struct gasnetl_stack stack;     /* what is told of the call that it is in */
     bool ends_itself;               /* the layer ends the job: no signal of the client's interrupted a call */
     struct gasnetl_op *puts, *gets; /* its implicit operations, or NULL; pieces may lead to them still as it ends */
     struct gasnetl_op *region;      /* the access region that it has begun */

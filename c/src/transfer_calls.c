@@ -58,6 +58,7 @@ void gasnetl_begin(struct gasnetl_job *job, struct gasnetl_op *op, const struct 
     }
     bool begun = false;
     unsigned turn = 0;
+    gasnetl_thread.stack.to = (uint16_t)(asked->node + 1);
     gasnetl_transfer(job, op, &move, &begun);
     while (!begun)
         gasnetl_wait(job, &turn);
@@ -67,6 +68,7 @@ static void move_now(const struct gasnetl_asked *asked) {
     struct gasnetl_job *job = gasnetl_enter(asked->call);
     struct gasnetl_op op = { 0 };
     unsigned turn = 0;
+    gasnetl_thread.stack.to = (uint16_t)(asked->node + 1);
     gasnetl_begin(job, &op, asked);
     while (!gasnetl_op_is_complete(&op))
         gasnetl_wait(job, &turn);

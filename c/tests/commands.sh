@@ -6,7 +6,7 @@ done
 check "gasnetrun --env" 0 "^GASNET_RESEND  *7  *2000  *the longest" env GASNET_RESEND=7 bin/gasnetrun --env
 listed() { # the variables are those of the page's table
     diff <(bin/gasnetrun --env | grep -o '^GASNET_[A-Z_]*' | sort) \
-        <(sed -n '/^## Variables/,/^A variable that/p' ../docs/GASNET.md | grep '^| `GASNET' | cut -d '|' -f 2 | grep -o 'GASNET_[A-Z_]*' | sort)
+        <(sed -n '/^## Variables/,/^## What/p' ../docs/GASNET.md | grep '^| `GASNET' | cut -d '|' -f 2 | grep -o 'GASNET_[A-Z_]*' | sort)
 }
 export -f listed
 check "gasnetrun --env, as in GASNET.md" 0 "" bash -c listed

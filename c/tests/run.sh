@@ -570,6 +570,7 @@ fi
 
 # The commands' own words, what `make install` puts down, and how they are used from there.
 . tests/commands.sh
+. tests/stacks.sh
 . tests/install.sh
 
 echo "$passed passed, $failed failed, $skipped skipped, $repeated run twice"
