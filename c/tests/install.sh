@@ -41,6 +41,12 @@ client_pkg_config() { # (pkg-config writes a space in a path as `\ `, which a sh
 client_shared() { # TEST: one of the tests, over the shared object
     gcc -O2 -std=c11 -D_GNU_SOURCE -I"$moved/include" "tests/$1.c" -o "out/clients/$1" "$moved/lib/libgasnet.so" -lpthread && run_moved "out/clients/$@"
 }
+client_plugin() { # the archive within another shared object
+    gcc -shared -fPIC -I"$moved/include" -x c - -o out/clients/plugin.so -x none "$moved/lib/libgasnet.a" $(sed -n 's/^Libs.private: //p' "$moved/lib/pkgconfig/gasnet.pc") <<<'#include <gasnet.h>
+int plugin(int *argc, char ***argv) { return gasnet_init(argc, argv) || gasnet_attach(NULL, 0, GASNET_PAGESIZE, 0) ? -1 : gasnet_nodes(); }' &&
+        gcc -x c - -x none out/clients/plugin.so -o out/clients/plugged <<<'int plugin(int *, char ***);
+int main(int argc, char **argv) { return plugin(&argc, &argv); }' && ! "$moved/bin/gasnetrun" -n 1 out/clients/plugged
+}
 client_cmake() {
     mkdir -p out/clients/cmake && cp examples/ring.c out/clients/cmake/ && cat >out/clients/cmake/CMakeLists.txt <<'END'
 cmake_minimum_required(VERSION 3.13)
@@ -58,7 +64,7 @@ uninstall() {
     mkdir -p "$staged/opt" && make install DESTDIR="$staged" PREFIX=/opt/gasnet && make uninstall DESTDIR="$staged" PREFIX=/opt/gasnet &&
         ! find "$staged" -type f -o -type l | grep .
 }
-export -f install_and_move is_whole exports run_moved client_c client_cxx client_fortran client_pkg_config client_shared client_cmake uninstall
+export -f install_and_move is_whole exports run_moved client_c client_cxx client_fortran client_pkg_config client_shared client_plugin client_cmake uninstall
 
 client() { # NAME TOOL PATTERN FUNCTION: skipped where the tool isn't there
     if command -v "$2" >/dev/null; then
@@ -80,6 +86,7 @@ for test in messages transfers collectives locks; do
     client "shared object, $test" gcc "" "client_shared $test"
 done
 check "install, shared object, a signal's call" 0 "" bash -c "client_shared ends alarm 0"
+client "the archive in a shared object" gcc "" client_plugin
 check "install, uninstalled" 0 "" bash -c uninstall
 if [ -n "$GASNET_TEST_QUICK" ]; then
     skip "install, Debian's packages" "GASNET_TEST_QUICK is set"
