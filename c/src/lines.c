@@ -4,8 +4,9 @@
 #include <stdio.h>
 #include <stdlib.h>
 #include <string.h>
-#include <sys/uio.h>
 #include <unistd.h>
+
+enum { FRONT = 16, LAST_READS = 4 };
 
 /* A node's output is an even stream, its error the next one. */
 static int node_of(int stream) { return stream / 2; }
@@ -46,18 +47,19 @@ nfds_t gasnetl_lines_await(const struct gasnetl_lines *lines, struct pollfd *rea
     return (nfds_t)(2 * lines->nodes);
 }
 
-/* Writes a line of so many bytes, without its end, behind the rank of its node; by one call, where the system takes it
- * whole. */
+static void write_whole(int to, const char *bytes, size_t length) {
+    ssize_t written = 1;
+    for (size_t at = 0; at < length && written > 0; at += (size_t)written)
+        written = write(to, bytes + at, length - at);
+}
+
+/* Writes a line of so many bytes, without its end, behind the rank of its node. */
 static void write_line(int stream, const char *bytes, size_t length) {
-    char front[16];
-    int count = snprintf(front, sizeof front, "%d: ", node_of(stream));
-    const struct iovec parts[] = { { front, (size_t)count }, { (char *)bytes, length }, { "\n", 1 } };
-    size_t whole = (size_t)count + length + 1;
-    ssize_t written = writev(target_of(stream), parts, 3);
-    for (size_t at = written > 0 ? (size_t)written : 0; written > 0 && at < whole; at += (size_t)written) {
-        const char *rest = at < whole - 1 ? bytes + (at - (size_t)count) : "\n";
-        written = write(target_of(stream), rest, at < whole - 1 ? whole - 1 - at : 1);
-    }
+    char line[GASNETL_LINES_MOST + FRONT + 1];
+    size_t count = (size_t)snprintf(line, FRONT, "%d: ", node_of(stream));
+    memcpy(line + count, bytes, length);
+    line[count + length] = '\n';
+    write_whole(target_of(stream), line, count + length + 1);
 }
 
 /* Writes the lines that are whole, and a full buffer, and keeps the rest. */
@@ -98,8 +100,8 @@ void gasnetl_lines_take(struct gasnetl_lines *lines, const struct pollfd *ready)
 
 void gasnetl_lines_end(struct gasnetl_lines *lines) {
     for (int stream = 0; stream < 2 * lines->nodes; stream++) {
-        while (lines->of[stream].reads >= 0 && take(lines, stream))
-            ;
+        for (int reads = 0; reads < LAST_READS && lines->of[stream].reads >= 0 && take(lines, stream);)
+            reads++;
         if (lines->of[stream].length)
             write_line(stream, lines->of[stream].bytes, lines->of[stream].length);
     }

@@ -40,7 +40,8 @@ nfds_t gasnetl_lines_await(const struct gasnetl_lines *lines, struct pollfd *rea
 /* Takes what came, by what poll made of these entries, and writes the lines that are whole. */
 void gasnetl_lines_take(struct gasnetl_lines *lines, const struct pollfd *ready);
 
-/* Takes what the nodes wrote before they ended, without waiting for more, and writes it all. */
+/* Takes what the nodes wrote before they ended, and writes it all. It waits for no more, though a process that a node
+ * left behind may write still. */
 void gasnetl_lines_end(struct gasnetl_lines *lines);
 
 #endif

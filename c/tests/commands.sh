@@ -27,10 +27,14 @@ long_lines() { # one of 65,536 bytes and more goes in pieces
 fails_while_others_write() { # a node that fails ends the others, though they write all the time
     timeout 20 bin/gasnetrun -n 2 --prefix-output bash -c '[ "$GASNET_RANK" = 0 ] && exit 5; exec yes' >/dev/null
 }
-export -f prefixed long_lines fails_while_others_write
+left_behind() { # a process that a node leaves behind, and that writes without end, isn't waited for
+    timeout 20 bin/gasnetrun -n 2 --prefix-output bash -c '(timeout 5 yes &) ; sleep 0.2; echo last' | grep -c last
+}
+export -f left_behind prefixed long_lines fails_while_others_write
 check "gasnetrun --prefix-output" 0 "" bash -c prefixed
 check "gasnetrun --prefix-output, long lines" 0 "" bash -c long_lines
 check "gasnetrun --prefix-output, an end" 5 "node 0 ended with status 5" bash -c fails_while_others_write
+check "gasnetrun --prefix-output, left behind" 0 "^2$" bash -c left_behind
 if command -v gdb >/dev/null; then
     check "gasnetrun --gdb" 0 "node 1 of 2.*\|Inferior 1 .* exited normally" env GASNET_GDB="gdb -q -batch -ex run" bin/gasnetrun -n 2 --gdb 1 out/hello
 else

@@ -39,7 +39,7 @@ client_pkg_config() { # (pkg-config writes a space in a path as `\ `, which a sh
         readelf -d out/clients/ring_shared | grep -q libgasnet.so.0 && run_moved out/clients/ring_static >/dev/null && run_moved out/clients/ring_shared
 }
 client_shared() { # TEST: one of the tests, over the shared object
-    gcc -O2 -std=c11 -D_GNU_SOURCE -I"$moved/include" "tests/$1.c" -o "out/clients/$1" "$moved/lib/libgasnet.so" -lpthread && run_moved "out/clients/$@"
+    gcc -O2 -std=c11 -D_GNU_SOURCE -I"$moved/include" "tests/$1.c" -o "out/clients/$1" "$moved/lib/libgasnet.so" -lpthread && run_moved "out/clients/$1" "${@:2}"
 }
 client_plugin() { # the archive within another shared object
     gcc -shared -fPIC -I"$moved/include" -x c - -o out/clients/plugin.so -x none "$moved/lib/libgasnet.a" $(sed -n 's/^Libs.private: //p' "$moved/lib/pkgconfig/gasnet.pc") <<<'#include <gasnet.h>
