@@ -10,7 +10,7 @@
 #include "running.h"
 
 static const char help[] =
-    "  -n N               how many nodes, from 1 to 64\n"
+    "  -n N               how many nodes\n"
     "  --prefix-output    begins each line that a node writes with its rank, as '3: '\n"
     "  --gdb RANK         starts that node in a debugger: gdb, or what GASNET_GDB names\n"
     "  --stacks [PID]     has the nodes of a running gasnetrun, of this process number, tell where their threads wait\n"
