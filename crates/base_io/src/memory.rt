@@ -149,6 +149,7 @@ impl MemorySink {
 }
 
 impl Sink for MemorySink {
+    ghost use Rattle.std.specs.Prelude.{Some};
 
     ghost taken = { λ s. Some s.taken };
 

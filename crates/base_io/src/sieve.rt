@@ -184,7 +184,7 @@ fn divides(step: u32, number: u64) -> bool
 }
 
 impl<L: Link> Link for Sieve<L> {
-    ghost use Rattle.std.specs.Prelude.{if◌then◌else◌};
+    ghost use Rattle.std.specs.Prelude.{if◌then◌else◌, None};
     ghost use Rattle.base_io.specs.Sieve.{is_plain_sieve};
 
     ghost bound = { λ s. L.bound s.inner };

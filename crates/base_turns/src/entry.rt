@@ -52,6 +52,7 @@ pub struct Journal {
 }
 
 impl Model for Journal {
+    ghost use Rattle.std.specs.Prelude.{List};
     ghost use Rattle.base_turns.specs.declared.entry.Entry.{Entry};
 
     ghost Value = { List Entry };

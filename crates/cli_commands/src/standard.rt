@@ -58,6 +58,7 @@ pub struct WriterSink<W> {
 }
 
 impl<W> Model for WriterSink<W> {
+    ghost use Rattle.cli_commands.specs.Standard.{DeviceWithFaults};
 
     ghost Value = { DeviceWithFaults W };
 

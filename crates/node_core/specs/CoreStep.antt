@@ -1,7 +1,7 @@
 -- What the parts of a core's calls do, as values.
 use Rattle.spec_node.specs.Invariant.{address_in}
 use Rattle.std.specs.Prelude.{ℕ, pos, Bool, false, nat_le, not, ◌==◌, ◌≡◌, ◌+◌, ◌<◌, ◌⊎◌, ◌∷◌}
-use Rattle.std.specs.Prelude.{map, replicate, IfSome, Option, None, Some, slice_get, List, [], true}
+use Rattle.std.specs.Prelude.{map, replicate, IfSome, Option, None, Some, slice_get, List, [], true, false}
 use Rattle.std.specs.Prelude.{if◌then◌else◌, Result, Ok, Err}
 use Rattle.wire_message.specs.Parameters.{Parameters, credits_of}
 use Rattle.wire_message.specs.Message.{Message, IsMessage, spelling, code, is_ack}

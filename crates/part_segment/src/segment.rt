@@ -102,7 +102,7 @@ impl Drop for Segment {
 }
 
 impl Segment {
-    ghost use Rattle.std.specs.Prelude.{◌⊎◌, ◌%◌, ◌<◌, replicate, IfOk, IfErr};
+    ghost use Rattle.std.specs.Prelude.{◌⊎◌, ℕ, ◌%◌, ◌<◌, length, replicate, IfOk, IfErr, IfSome};
     ghost use Rattle.std.specs.Prelude.{IfNone, OnErr, OnOk};
     ghost use Rattle.std.specs.Borrow.{sem, Lends, Array, u8 as byte};
     ghost use Rattle.part_segment.specs.Bytes.{IsInside, part, with_part, refill, with_lent};

@@ -77,6 +77,7 @@ pub struct Block {
 }
 
 impl Model for Block {
+    ghost use Rattle.std.specs.Prelude.{List, ℕ};
     ghost use Rattle.part_window.specs.Blocks.{parts_of, IsPlaced};
     ghost use Rattle.std.specs.Prelude.{vec_len, vec_capacity};
 

@@ -184,6 +184,7 @@ impl CreditSlots {
 impl CreditSlots {
     ghost use Rattle.part_window.specs.SlotsState.{IsOpenedAt, opened_bytes_at, with_slot_changed};
     ghost use Rattle.part_window.specs.SlotsState.{with_written, as_committed, slot_count};
+    ghost use Rattle.part_window.specs.CreditLending.{table_row};
 
     // The buffer of an opened slot.
     fn buffer_mut(&mut self, to: u16, slot: u16) -> &mut [u8]
@@ -215,7 +216,8 @@ impl CreditSlots {
 
 impl CreditSlots {
     ghost use Rattle.part_window.specs.SlotsState.{committed_message_at, committed_number_at, with_slot, IsTakenAt};
-    ghost use Rattle.part_window.specs.SlotsState.{vacant_count, is_exhausted, held_count};
+    ghost use Rattle.part_window.specs.SlotsState.{vacant_count, is_exhausted, slot_count, held_count};
+    ghost use Rattle.part_window.specs.SlotsState.{Vacant};
 
     /// Gives a credit back: true, and the slot is vacant, exactly where that slot of the node `to` is taken by the
     /// request with that number. Otherwise nothing changes.
@@ -296,6 +298,7 @@ impl CreditSlots {
 }
 
 impl CreditSlots {
+    ghost use Rattle.part_window.specs.SlotsState.{slot_count, with_slot_changed};
     ghost use Rattle.part_window.specs.Due.{IsDueNext, IsDue, IsNextDue, as_retransmitted};
 
     /// Finds the request that is to be sent again at `now`, and notes that it is sent then: its node and its slot,
@@ -362,7 +365,10 @@ pub struct Claimed<'a> {
 }
 
 impl<'a> Claimed<'a> {
-    ghost use Rattle.part_window.specs.CreditLending.{claimed_row, with_claim_written};
+    ghost use Rattle.part_window.specs.SlotsState.{slot_count, opened_bytes_at, IsOpenedAt};
+    ghost use Rattle.part_window.specs.SlotsState.{with_slot_changed, as_committed};
+    ghost use Rattle.part_window.specs.CreditLending.{claimed_row, with_claim_written, table_of};
+    ghost use Rattle.part_window.specs.CreditLending.{node_of, slot_of};
 
     /// The slot's buffer, of `BUFFER_BYTES` bytes, to write the message at its prefix.
     pub fn buffer(&mut self) -> &mut [u8]

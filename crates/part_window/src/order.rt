@@ -260,7 +260,7 @@ pub(crate) struct Order {
 }
 
 impl Model for Order {
-    ghost use Rattle.std.specs.Prelude.{Option, map};
+    ghost use Rattle.std.specs.Prelude.{List, Option, map};
     ghost use Rattle.part_window.specs.Order.{due_view, IsOrder};
     ghost use Rattle.part_window.specs.declared.order.Due.{Due};
 

@@ -146,7 +146,7 @@ impl ReplySlots {
 
 impl ReplySlots {
     ghost use Rattle.part_window.specs.RepliesState.{IsOpenedAt, opened_bytes_at, with_slot_changed};
-    ghost use Rattle.part_window.specs.RepliesState.{with_written, as_committed};
+    ghost use Rattle.part_window.specs.RepliesState.{with_written, as_committed, slot_count, Places};
     ghost use Rattle.part_window.specs.ReplyLending.{replies_row};
 
     fn open(&mut self, from: u16, slot: u16, number: u64)
@@ -188,7 +188,10 @@ pub struct Place<'a> {
 }
 
 impl<'a> Place<'a> {
-    ghost use Rattle.part_window.specs.ReplyLending.{place_row, with_place_written};
+    ghost use Rattle.part_window.specs.RepliesState.{slot_count, opened_bytes_at, IsOpenedAt};
+    ghost use Rattle.part_window.specs.RepliesState.{with_slot_changed, as_committed};
+    ghost use Rattle.part_window.specs.ReplyLending.{place_row, with_place_written, table_of, node_of};
+    ghost use Rattle.part_window.specs.ReplyLending.{slot_of};
 
     /// The slot's buffer, of `BUFFER_BYTES` bytes, to write the reply at its prefix.
     pub fn buffer(&mut self) -> &mut [u8]

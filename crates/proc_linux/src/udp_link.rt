@@ -153,6 +153,7 @@ fn is_loss(error: &io::Error) -> bool
 }
 
 impl<R: Net> Link for UdpLink<'_, R> {
+    ghost use Rattle.std.specs.Prelude.{None};
     ghost use Rattle.std.specs.Option.{option_map};
     ghost use Rattle.proc_linux.specs.Arrivals.{told_bound};
 

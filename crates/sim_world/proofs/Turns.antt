@@ -22,7 +22,7 @@ use Rattle.sim_world.specs.WorldState.{WorldState}
 use Rattle.spec_network.specs.World.{RequestComes, ReplyComes, EventAt, request_event, reply_event, after_at}
 use Rattle.spec_network.specs.World.{world_after, run}
 use Rattle.node_rules.specs.EndpointRules.{OtherCall, Records, timed_event}
-use Rattle.spec_network.specs.Plain.{IsFirstOut}
+use Rattle.spec_network.specs.Plain.{IsFirstOut, plain_of, is_back}
 use Rattle.spec_network.proofs.PlainReadings.{is_back_says}
 use Rattle.sim_world.specs.Settling.{AreBack, WorldJob, Moves, exchange_events, turn_events, open_numbers}
 use Rattle.spec_network.specs.MostHeld.{most_after}

@@ -9,10 +9,13 @@ use Rattle.std.proofs.lemmas.Option.{same_Some}
 use Rattle.base_lists.proofs.Cases.{none_some, option_or_none}
 use Rattle.spec_node.specs.Record.{Run}
 use Rattle.spec_node.specs.Executed.{greatest, run_at, has_run, slots_run}
-use Rattle.std.proofs.Common.{◌⊎◌}
+use Rattle.std.proofs.Common.{◌≡◌, ◌⊎◌, inl, inr, ℕ, zero, suc, ◌<◌, ◌≤◌, true, false, true≢false, cond, List}
+use Rattle.std.proofs.Common.{[], ◌∷◌, ◌++◌, Some, refl, sym, ap, ◌∙◌, arith, eqb}
+use Rattle.std.specs.List.{slice_get}
 use Rattle.std.proofs.lemmas.Bool.Decides.{nat_tests}
-use Rattle.std.proofs.lemmas.Bool.{cases_lt}
-use Rattle.spec_node.specs.Executed.{run_of}
+use Rattle.std.proofs.lemmas.Bool.{cases_Bool, cases_eq, cases_lt}
+use Rattle.spec_node.specs.Record.{Run}
+use Rattle.spec_node.specs.Executed.{greatest, run_of}
 
 -- ---- which run is found
 

@@ -60,6 +60,7 @@ pub struct BoxedLong {
 }
 
 impl Model for BoxedLong {
+    ghost use Rattle.std.specs.Box.{box_value};
     ghost use Rattle.text_calls.specs.declared.scheduled.LongText.{LongText};
 
     ghost Value = { LongText };
@@ -74,6 +75,7 @@ pub struct BoxedTransfer {
 }
 
 impl Model for BoxedTransfer {
+    ghost use Rattle.std.specs.Box.{box_value};
     ghost use Rattle.part_transfers.specs.declared.operation.Transfer.{Transfer};
 
     ghost Value = { Transfer };
@@ -115,6 +117,8 @@ pub struct BoxedBatch {
 }
 
 impl Model for BoxedBatch {
+    ghost use Rattle.std.specs.Box.{box_value};
+    ghost use Rattle.text_calls.specs.Batches.{BatchWords};
 
     ghost Value = { BatchWords };
 

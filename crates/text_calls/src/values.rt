@@ -51,7 +51,7 @@ pub struct Registers {
 }
 
 impl Model for Registers {
-    ghost use Rattle.std.specs.Prelude.{ℕ};
+    ghost use Rattle.std.specs.Prelude.{◌≤◌, ℕ, List, length};
 
     ghost Value = { List ℕ };
 

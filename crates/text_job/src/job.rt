@@ -50,6 +50,7 @@ pub struct ScriptSteps {
 }
 
 impl Model for ScriptSteps {
+    ghost use Rattle.std.specs.Prelude.{◌≡◌, List};
     ghost use Rattle.text_job.specs.StepPieces.{steps_pieces};
     ghost use Rattle.text_steps.specs.declared.steps.ScriptStep.{ScriptStep};
 
@@ -79,7 +80,7 @@ pub struct NodeScripts {
 }
 
 impl Model for NodeScripts {
-    ghost use Rattle.std.specs.Prelude.{◌≤◌};
+    ghost use Rattle.std.specs.Prelude.{◌≡◌, ◌≤◌, List};
     ghost use Rattle.text_job.specs.PlanPieces.{scripts_pieces};
     ghost use Rattle.text_job.specs.declared.job.NodeScript.{NodeScript};
     ghost use Rattle.text_job.specs.declared.plan_pieces.TheConstants.{PIECES};
@@ -98,6 +99,7 @@ pub struct Body {
 }
 
 impl Model for Body {
+    ghost use Rattle.std.specs.Prelude.{List};
     ghost use Rattle.text_steps.specs.declared.steps.Action.{Action};
 
     ghost Value = { List Action };
@@ -125,6 +127,7 @@ pub struct HandlerTexts {
 }
 
 impl Model for HandlerTexts {
+    ghost use Rattle.std.specs.Prelude.{List};
     ghost use Rattle.text_job.specs.declared.job.HandlerText.{HandlerText};
 
     ghost Value = { List HandlerText };
@@ -139,6 +142,7 @@ pub struct Schedule {
 }
 
 impl Model for Schedule {
+    ghost use Rattle.std.specs.Prelude.{List};
     ghost use Rattle.text_steps.specs.declared.steps.TimedEvent.{TimedEvent};
 
     ghost Value = { List TimedEvent };

@@ -26,6 +26,7 @@ impl<'a> Datagram<'a> {
 }
 
 impl<'a> PartialEq for Datagram<'a> {
+    ghost use Rattle.text_trace.specs.Datagrams.{datagram_bytes};
 
     ghost eq = { λ x y. pointwise nat_eq (datagram_bytes x) (datagram_bytes y) };
 
@@ -37,11 +38,13 @@ impl<'a> PartialEq for Datagram<'a> {
 }
 
 impl<'a> Eq for Datagram<'a> {
+    ghost use Rattle.text_trace.specs.Datagrams.{datagram_bytes};
 
     ghost laws = { on_equiv datagram_bytes nat_list_eq_equiv };
 }
 
 impl<'a> Hash for Datagram<'a> {
+    ghost use Rattle.text_trace.specs.Datagrams.{datagram_bytes};
 
     ghost hash_input = { λ d. fed.str (datagram_bytes d) };
 

@@ -29,7 +29,7 @@ pub struct SegmentRanges {
 }
 
 impl Model for SegmentRanges {
-    ghost use Rattle.std.specs.Prelude.{ℕ};
+    ghost use Rattle.std.specs.Prelude.{◌≤◌, ℕ, List, length};
 
     ghost Value = { List (ℕ × ℕ) };
 
