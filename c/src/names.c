@@ -14,7 +14,7 @@ struct variable {
 /* Those that the library, gasnetrun, cafrun and gasnetcc read. docs/GASNET.md ("Variables") says more. */
 static const struct variable variables[] = {
     { "GASNET_RANK", "none", "which node this is, from 0" },
-    { "GASNET_NODES", "by the hosts", "how many nodes there are, 1 to 64" },
+    { "GASNET_NODES", "by the hosts", "how many nodes there are, 1 to 256" },
     { "GASNET_HOSTS", "none", "the host of each node, in the order of ranks" },
     { "GASNET_HOSTS_FILE", "none", "a file that has what GASNET_HOSTS has" },
     { "GASNET_PORT", "21000", "the node of rank R has this port + R" },
