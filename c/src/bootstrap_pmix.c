@@ -26,7 +26,7 @@ void gasnetl_pmix_abort(int status) { (void)status; }
 #include <sys/random.h>
 
 #include "interfaces.h"
-#include "network.h"
+#include "sockets.h"
 
 static pmix_proc_t own;
 
@@ -78,7 +78,7 @@ static bool bind_own(struct gasnetl_start *start, char *text) {
     struct gasnetl_place place = { .length = 0 };
     if (!own_place(start, &place))
         return false;
-    start->socket = gasnetl_network_bind((struct sockaddr *)&place.address, place.length);
+    start->socket = gasnetl_socket_bind((struct sockaddr *)&place.address, place.length);
     if (start->socket < 0 || getsockname(start->socket, (struct sockaddr *)&place.address, &place.length)) {
         fprintf(stderr, "gasnet: node %u can't have a socket (%s)\n", start->me, strerror(errno));
         return false;

@@ -60,7 +60,8 @@ static const uint32_t layout =
 
 /* Another version's magic differs in its last byte alone. */
 bool gasnetl_control_is(const uint8_t *bytes, size_t length) {
-    return length >= FRONT && !memcmp(bytes, magic, MAGIC - 1) && bytes[4] <= END;
+    return gasnetl_is_sealed(bytes, length) ||
+           (length >= FRONT && !memcmp(bytes, magic, MAGIC - 1) && bytes[MAGIC] <= END);
 }
 
 static void write_datagram(uint8_t *bytes, const struct datagram *datagram) {
@@ -246,6 +247,7 @@ static void take_base(struct gasnetl_job *job, uint16_t from, const struct datag
     job->segment.bases[from] = (uint8_t *)(uintptr_t)hello->second;
     job->packs.serves[from] = hello->flags & SERVES_PACKS;
     job->control.knows_base[from] = true;
+    gasnetl_seals_confirm(&job->network.seals, from); /* it is placed since it knows all sizes, this node's too */
 }
 
 /* An answer tells how long the way there and back is. */
@@ -418,6 +420,7 @@ static void take_stale(struct gasnetl_job *job, uint16_t from, const struct data
 static void take_fresh(struct gasnetl_job *job, uint16_t from, const struct datagram *datagram) {
     gasnetl_absent_came(&job->control, from, GASNETL_CAME_FRESH);
     job->control.runs[from] = datagram->run;
+    gasnetl_seals_settle(&job->network.seals, from);
     gasnetl_peer_heard(job, from);
     judge_settings(job, from, datagram);
     if (datagram->kind == HELLO)
@@ -427,10 +430,12 @@ static void take_fresh(struct gasnetl_job *job, uint16_t from, const struct data
 }
 
 void gasnetl_control_take(struct gasnetl_job *job, uint16_t from, const uint8_t *bytes, size_t length) {
+    if (gasnetl_is_sealed(bytes, length)) {
+        gasnetl_absent_came(&job->control, from, GASNETL_CAME_SEALED);
+        return;
+    }
     if (bytes[MAGIC - 1] != magic[MAGIC - 1])
         gasnetl_absent_came(&job->control, from, GASNETL_CAME_OTHER_VERSION);
-    else if (length == LENGTH + GASNETL_TAG_BYTES && !job->network.key.is_set)
-        gasnetl_absent_came(&job->control, from, GASNETL_CAME_SEALED);
     if (bytes[MAGIC - 1] != magic[MAGIC - 1] || length != LENGTH)
         return;
     const struct datagram datagram = read_datagram(bytes);

@@ -161,6 +161,8 @@ static bool leave(struct gasnetl_job *job, struct leaving *leaving) {
     job->control.code = leaving->status;
     if (leaving->is_cut)
         gasnetl_network_forget(&job->network);
+    if (leaving->is_cut || leaving->is_signal)
+        job->network.seals.is_fixed = true;
     if (gasnetl_thread.token || leaving->is_cut || leaving->is_signal)
         detach(job); /* its message is never delivered, or its call never ends, or the endpoint may want memory */
     if (!gasnetl_thread.is_own && !leaving->is_signal) /* exit flushes the others: a thread may hold one, as it reads */

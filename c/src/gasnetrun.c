@@ -21,9 +21,9 @@
 
 #include "gasnet_c.h"
 #include "lines.h"
-#include "network.h"
 #include "options.h"
 #include "runner.h"
+#include "sockets.h"
 
 enum { NODES = GASNET_C_MAX_NODES, REFUSED = 71, GRACE = 1000, MOST_GRACE = 1000000, LAST = 2000, TEXT = 24 };
 
@@ -64,7 +64,7 @@ static void make_sockets(struct run *run) {
     for (int node = 0; node < run->nodes; node++) {
         struct sockaddr_in address = { .sin_family = AF_INET, .sin_addr.s_addr = htonl(INADDR_LOOPBACK) };
         socklen_t size = sizeof address;
-        run->sockets[node] = gasnetl_network_bind((struct sockaddr *)&address, size);
+        run->sockets[node] = gasnetl_socket_bind((struct sockaddr *)&address, size);
         if (run->sockets[node] < 0 || getsockname(run->sockets[node], (struct sockaddr *)&address, &size))
             fail("no socket can be had");
         length +=

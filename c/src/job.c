@@ -78,7 +78,7 @@ static int start(struct gasnetl_job *job, int threaded) {
     bool has_launcher = job->start.by_pmix || getenv("GASNET_RUNNER");
     if (!job->me || !has_launcher) /* what a launcher hands on, one node tells for all */
         gasnetl_warn_of_names();
-    if (job->nodes > 1 && !gasnetl_network_open(&job->network, &job->config, job->me, job->start.socket))
+    if (job->nodes > 1 && !gasnetl_network_open(&job->network, &job->config, &job->start))
         return GASNET_ERR_RESOURCE;
     if (!gasnetl_control_start(job))
         return gasnetl_refuse(GASNET_ERR_RESOURCE, "the system has no random numbers (%s)", strerror(errno));

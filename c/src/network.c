@@ -10,7 +10,7 @@
 #include <sys/syscall.h>
 #include <unistd.h>
 
-#include "descriptors.h"
+#include "sockets.h"
 
 /* What the C library has of these is a point of cancellation: that costs where the process has a second thread. */
 static ssize_t send_message(int socket, const struct msghdr *message) {
@@ -30,29 +30,7 @@ static ssize_t send_to(int socket, const void *bytes, size_t length, const struc
                    place ? place->length : 0);
 }
 
-/* Asks for wide buffers. The system may give less. */
-static void widen_buffers(int socket) {
-    int bytes = GASNETL_RECEIVE_BYTES;
-    if (setsockopt(socket, SOL_SOCKET, SO_RCVBUFFORCE, &bytes, sizeof bytes))
-        setsockopt(socket, SOL_SOCKET, SO_RCVBUF, &bytes, sizeof bytes);
-    if (setsockopt(socket, SOL_SOCKET, SO_SNDBUFFORCE, &bytes, sizeof bytes))
-        setsockopt(socket, SOL_SOCKET, SO_SNDBUF, &bytes, sizeof bytes);
-}
-
-int gasnetl_network_bind(const struct sockaddr *address, socklen_t length) {
-    int made = gasnetl_above_streams(socket(address->sa_family, SOCK_DGRAM | SOCK_CLOEXEC, 0));
-    if (made < 0)
-        return -1;
-    widen_buffers(made);
-    if (!bind(made, address, length))
-        return made;
-    int why = errno;
-    close(made);
-    errno = why;
-    return -1;
-}
-
-enum { FRONT = 64 }; /* the bytes of a refused datagram that are looked at */
+enum { FRONT = 96 }; /* the bytes of a refused datagram that are looked at */
 
 /* Whether an entry of the error queue says that nobody has the socket. Others say what is wrong with the way. */
 static bool is_refusal(struct msghdr *message) {
@@ -65,6 +43,13 @@ static bool is_refusal(struct msghdr *message) {
         return error.ee_errno == ECONNREFUSED;
     }
     return false;
+}
+
+/* Hands on the front of a datagram that came back, as it was before it was sealed. */
+static void hand_back(struct gasnetl_network *network, uint16_t node, uint8_t *front, size_t length) {
+    const uint8_t *bytes = network->seals.is_set ? gasnetl_uncover(&network->seals, node, front, &length) : front;
+    if (bytes)
+        network->came_back(network->job, node, bytes, length);
 }
 
 /* Takes ICMP's messages: port unreachable, with the front of the datagram that was refused. */
@@ -85,7 +70,7 @@ static void take_refusals(struct gasnetl_network *network) {
             return;
         uint16_t node = gasnetl_places_find(&network->places, &address);
         if (node != GASNETL_NO_NODE && network->came_back && is_refusal(&message))
-            network->came_back(network->job, node, front, (size_t)got);
+            hand_back(network, node, front, (size_t)got);
     }
 }
 
@@ -125,7 +110,7 @@ static bool take_socket(struct gasnetl_network *network, int socket) {
     char text[80];
     if (socket >= 0)
         return take_given(network, socket);
-    network->socket = gasnetl_network_bind((const struct sockaddr *)&own->address, own->length);
+    network->socket = gasnetl_socket_bind((const struct sockaddr *)&own->address, own->length);
     if (network->socket >= 0)
         return true;
     int why = errno;
@@ -152,17 +137,19 @@ static void connect_to_only_peer(struct gasnetl_network *network) {
     network->is_connected = !connect(network->socket, (const struct sockaddr *)&peer->address, peer->length);
 }
 
-bool gasnetl_network_open(struct gasnetl_network *network, const struct gasnetl_config *config, uint16_t me,
-                          int socket) {
-    network->me = me;
-    if (!gasnetl_key_read(&network->key) || !take_socket(network, socket))
+bool gasnetl_network_open(struct gasnetl_network *network, const struct gasnetl_config *config,
+                          const struct gasnetl_start *start) {
+    network->me = start->me;
+    if (!gasnetl_key_read(&network->seals) ||
+        !gasnetl_seals_start(&network->seals, start->me, start->nodes, start->job) ||
+        !take_socket(network, start->socket))
         return false;
     tell_refusals(network);
     ask_for_groups(network);
     connect_to_only_peer(network);
-    if (gasnetl_faults_start(&network->faults, config, me))
+    if (gasnetl_faults_start(&network->faults, config, start->me))
         return true;
-    fprintf(stderr, "gasnet: node %u has no memory\n", me);
+    fprintf(stderr, "gasnet: node %u has no memory\n", start->me);
     return false;
 }
 
@@ -253,7 +240,7 @@ uint8_t *gasnetl_network_room(struct gasnetl_network *network) {
     const struct gasnetl_going *going = &network->going;
     if (sizeof going->bytes - going->end < GASNETL_DATAGRAM)
         gasnetl_network_flush(network);
-    return network->going.bytes + going->end;
+    return network->going.bytes + going->end + (network->seals.is_set ? GASNETL_SEAL_FRONT : 0);
 }
 
 /* Whether a datagram of so many bytes may go with those that wait. */
@@ -271,8 +258,10 @@ static void put_behind(void *at, uint16_t to, const void *bytes, size_t length) 
     uint8_t *place = gasnetl_network_room(network);
     if (bytes != place)
         memcpy(place, bytes, length);
-    if (network->key.is_set)
-        length = gasnetl_seal(&network->key, place, length);
+    if (network->seals.is_set && !(length = gasnetl_seal(&network->seals, to, going->bytes + going->end, length))) {
+        network->unsent++;
+        return;
+    }
     if (going->count && !may_join(network, to, length))
         send_waiting(network);
     if (!going->count++) {
@@ -393,16 +382,16 @@ static bool receive_more(struct gasnetl_network *network) {
     return is_error || got >= 0;
 }
 
-/* How many bytes a datagram has without its tag, where a key is set; 0 where the key didn't seal it. */
-static size_t open_sealed(struct gasnetl_network *network, uint16_t from, const uint8_t *bytes, size_t got) {
-    if (!network->key.is_set)
-        return got;
-    size_t length = gasnetl_open(&network->key, bytes, got);
-    if (!length) {
+/* Where a datagram stands that came, where a key is set: NULL where it didn't seal it. */
+static uint8_t *open_sealed(struct gasnetl_network *network, uint16_t from, uint8_t *bytes, size_t *length) {
+    if (!network->seals.is_set)
+        return bytes;
+    uint8_t *inside = gasnetl_open(&network->seals, from, bytes, length);
+    if (!inside) {
         network->unsealed++;
         network->is_unsealed[from] = true;
     }
-    return length;
+    return inside;
 }
 
 /* The arrival that is taken from; NULL where all were taken. */
@@ -431,12 +420,13 @@ const uint8_t *gasnetl_network_receive(struct gasnetl_network *network, size_t *
         struct gasnetl_arrival *arrival = next_arrival(network);
         if (!arrival)
             return NULL;
-        const uint8_t *bytes = arrival->bytes + arrival->first;
-        size_t left = arrival->end - arrival->first, got = left < arrival->each ? left : arrival->each;
-        arrival->first += got;
-        *length = open_sealed(network, arrival->from, bytes, got);
+        uint8_t *bytes = arrival->bytes + arrival->first;
+        const size_t left = arrival->end - arrival->first;
+        *length = left < arrival->each ? left : arrival->each;
+        arrival->first += *length;
         *from = arrival->from;
-        if (!*length)
+        bytes = open_sealed(network, arrival->from, bytes, length);
+        if (!bytes)
             continue;
         if (*length > GASNETL_DATAGRAM)
             *length = GASNETL_DATAGRAM;

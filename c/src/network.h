@@ -6,15 +6,15 @@
 #include <stddef.h>
 #include <stdint.h>
 
+#include "bootstrap.h"
 #include "config.h"
 #include "faults.h"
 #include "places.h"
 #include "seal.h"
 
 enum {
-    GASNETL_RECEIVE_BYTES = 4 << 20,
-    GASNETL_DATAGRAM = GASNET_C_ROOM + GASNETL_TAG_BYTES, /* the bytes of a datagram of ours at most */
-    GASNETL_GROUP = 64,                                   /* the datagrams of a group at most, and their bytes */
+    GASNETL_DATAGRAM = GASNET_C_ROOM + GASNETL_SEAL_BYTES, /* the bytes of a datagram of ours at most */
+    GASNETL_GROUP = 64,                                    /* the datagrams of a group at most, and their bytes */
     GASNETL_GROUP_BYTES = 65000,
     GASNETL_ARRIVALS = 16,                            /* what one call of the system receives at most */
     GASNETL_TRAIN_BYTES = 1 << 16,                    /* the bytes of one of these at most */
@@ -61,19 +61,16 @@ struct gasnetl_network {
     struct gasnetl_job *job;      /* what it is handed */
     bool *is_unsealed;            /* of each node: a datagram without a right tag came from its address */
     size_t *single_from;          /* the way to the node has no groups of datagrams of so many bytes */
-    struct gasnetl_key key;       /* where one is set, datagrams are sealed under it */
+    struct gasnetl_seals seals;   /* where a key is set, all datagrams are sealed */
     struct gasnetl_going going;
     struct gasnetl_coming coming;
     uint64_t sent, received, strays, unsealed, unsent;
 };
 
-/* Makes a socket for the node's own address, or takes the one of this number where it isn't -1. The places are read
- * already. False where that fails: a line on standard error has said why. */
-bool gasnetl_network_open(struct gasnetl_network *network, const struct gasnetl_config *config, uint16_t me,
-                          int socket);
-
-/* Makes a datagram socket for this address, with a wide receive buffer. -1 where that fails, with errno. */
-int gasnetl_network_bind(const struct sockaddr *address, socklen_t length);
+/* Makes a socket for the node's own address, or takes the one that the start names, and reads the key. The places are
+ * read already. False where that fails: a line on standard error has said why. */
+bool gasnetl_network_open(struct gasnetl_network *network, const struct gasnetl_config *config,
+                          const struct gasnetl_start *start);
 
 /* Where the next datagram may be written, of GASNET_C_ROOM bytes at most, before it is sent. It stays there until
  * something is sent. */

@@ -56,8 +56,8 @@ uint32_t gasnetl_path_mtu(const struct gasnetl_network *network, uint16_t node) 
 /* The greatest payload that stands behind so many bytes of a message in a packet. */
 static uint32_t payload_behind(const struct gasnetl_network *network, uint16_t node, uint32_t mtu, uint32_t front) {
     front += (is_ipv6(network, node) ? IPV6_HEADER : IPV4_HEADER) + UDP_HEADER;
-    if (network->key.is_set)
-        front += GASNETL_TAG_BYTES;
+    if (network->seals.is_set)
+        front += GASNETL_SEAL_BYTES;
     uint32_t payload = mtu > front ? (mtu - front) / GRAIN * GRAIN : 0;
     if (payload < LEAST_CHUNK)
         return LEAST_CHUNK;

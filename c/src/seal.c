@@ -5,131 +5,17 @@
 #include <stdio.h>
 #include <stdlib.h>
 #include <string.h>
+#include <sys/random.h>
 #include <sys/stat.h>
 
-enum { BLOCK = 64 };
+#include "words.h"
 
-/* SHA-256's constants (FIPS 180-4, 4.2.2). */
-static const uint32_t constants[64] = {
-    0x428a2f98, 0x71374491, 0xb5c0fbcf, 0xe9b5dba5, 0x3956c25b, 0x59f111f1, 0x923f82a4, 0xab1c5ed5,
-    0xd807aa98, 0x12835b01, 0x243185be, 0x550c7dc3, 0x72be5d74, 0x80deb1fe, 0x9bdc06a7, 0xc19bf174,
-    0xe49b69c1, 0xefbe4786, 0x0fc19dc6, 0x240ca1cc, 0x2de92c6f, 0x4a7484aa, 0x5cb0a9dc, 0x76f988da,
-    0x983e5152, 0xa831c66d, 0xb00327c8, 0xbf597fc7, 0xc6e00bf3, 0xd5a79147, 0x06ca6351, 0x14292967,
-    0x27b70a85, 0x2e1b2138, 0x4d2c6dfc, 0x53380d13, 0x650a7354, 0x766a0abb, 0x81c2c92e, 0x92722c85,
-    0xa2bfe8a1, 0xa81a664b, 0xc24b8b70, 0xc76c51a3, 0xd192e819, 0xd6990624, 0xf40e3585, 0x106aa070,
-    0x19a4c116, 0x1e376c08, 0x2748774c, 0x34b0bcb5, 0x391c0cb3, 0x4ed8aa4a, 0x5b9cca4f, 0x682e6ff3,
-    0x748f82ee, 0x78a5636f, 0x84c87814, 0x8cc70208, 0x90befffa, 0xa4506ceb, 0xbef9a3f7, 0xc67178f2
-};
+enum { SEALED = 192, GREETING = 2, KINDS = 3, NUMBER_BYTES = 7 };
 
-static const uint32_t first_state[8] = { 0x6a09e667, 0xbb67ae85, 0x3c6ef372, 0xa54ff53a,
-                                         0x510e527f, 0x9b05688c, 0x1f83d9ab, 0x5be0cd19 };
+/* No number is taken twice: where none is left nothing is sealed. */
+static const uint64_t most_numbers = (uint64_t)1 << 8 * NUMBER_BYTES;
 
-static uint32_t turn(uint32_t x, int n) { return x >> n | x << (32 - n); }
-
-/* The words of a block, and those that follow from them (6.2.2, step 1). */
-static void schedule(const uint8_t *block, uint32_t words[64]) {
-    for (int t = 0; t < 16; t++)
-        words[t] = (uint32_t)block[4 * t] << 24 | (uint32_t)block[4 * t + 1] << 16 | (uint32_t)block[4 * t + 2] << 8 |
-                   block[4 * t + 3];
-    for (int t = 16; t < 64; t++) {
-        uint32_t x = words[t - 15], y = words[t - 2];
-        words[t] =
-            (turn(y, 17) ^ turn(y, 19) ^ y >> 10) + words[t - 7] + (turn(x, 7) ^ turn(x, 18) ^ x >> 3) + words[t - 16];
-    }
-}
-
-static void take_block(uint32_t state[8], const uint8_t *block) {
-    uint32_t words[64];
-    uint32_t a = state[0], b = state[1], c = state[2], d = state[3], e = state[4], f = state[5], g = state[6],
-             h = state[7];
-    schedule(block, words);
-    for (int t = 0; t < 64; t++) {
-        uint32_t one = h + (turn(e, 6) ^ turn(e, 11) ^ turn(e, 25)) + ((e & f) ^ (~e & g)) + constants[t] + words[t];
-        uint32_t two = (turn(a, 2) ^ turn(a, 13) ^ turn(a, 22)) + ((a & b) ^ (a & c) ^ (b & c));
-        h = g, g = f, f = e, e = d + one;
-        d = c, c = b, b = a, a = one + two;
-    }
-    state[0] += a, state[1] += b, state[2] += c, state[3] += d;
-    state[4] += e, state[5] += f, state[6] += g, state[7] += h;
-}
-
-static void begin(struct gasnetl_hash *hash) {
-    memcpy(hash->state, first_state, sizeof hash->state);
-    hash->length = 0;
-}
-
-static void feed(struct gasnetl_hash *hash, const void *bytes, size_t length) {
-    const uint8_t *from = bytes;
-    while (length) {
-        size_t at = hash->length % BLOCK, take = BLOCK - at < length ? BLOCK - at : length;
-        memcpy(hash->block + at, from, take);
-        hash->length += take;
-        from += take;
-        length -= take;
-        if (at + take == BLOCK)
-            take_block(hash->state, hash->block);
-    }
-}
-
-static void end(struct gasnetl_hash *hash, uint8_t digest[GASNETL_HASH_BYTES]) {
-    static const uint8_t padding[BLOCK] = { 0x80 };
-    uint64_t bits = 8 * hash->length;
-    uint8_t size[8];
-    for (int i = 0; i < 8; i++)
-        size[i] = (uint8_t)(bits >> (56 - 8 * i));
-    feed(hash, padding, 1 + (BLOCK + 55 - hash->length % BLOCK) % BLOCK);
-    feed(hash, size, sizeof size);
-    for (int i = 0; i < GASNETL_HASH_BYTES; i++)
-        digest[i] = (uint8_t)(hash->state[i / 4] >> (24 - 8 * (i % 4)));
-}
-
-void gasnetl_key_make(struct gasnetl_key *key, const void *bytes, size_t length) {
-    uint8_t block[BLOCK] = { 0 }, pad[BLOCK];
-    struct gasnetl_hash hash;
-    if (length > BLOCK) {
-        begin(&hash);
-        feed(&hash, bytes, length);
-        end(&hash, block);
-    } else if (length) {
-        memcpy(block, bytes, length);
-    }
-    for (int i = 0; i < BLOCK; i++)
-        pad[i] = block[i] ^ 0x36;
-    begin(&key->inner);
-    feed(&key->inner, pad, BLOCK);
-    for (int i = 0; i < BLOCK; i++)
-        pad[i] = block[i] ^ 0x5c;
-    begin(&key->outer);
-    feed(&key->outer, pad, BLOCK);
-    key->is_set = true;
-}
-
-void gasnetl_key_code(const struct gasnetl_key *key, const void *message, size_t length,
-                      uint8_t code[GASNETL_HASH_BYTES]) {
-    struct gasnetl_hash inner = key->inner, outer = key->outer;
-    feed(&inner, message, length);
-    end(&inner, code);
-    feed(&outer, code, GASNETL_HASH_BYTES);
-    end(&outer, code);
-}
-
-size_t gasnetl_seal(const struct gasnetl_key *key, uint8_t *datagram, size_t length) {
-    uint8_t code[GASNETL_HASH_BYTES];
-    gasnetl_key_code(key, datagram, length, code);
-    memcpy(datagram + length, code, GASNETL_TAG_BYTES);
-    return length + GASNETL_TAG_BYTES;
-}
-
-size_t gasnetl_open(const struct gasnetl_key *key, const uint8_t *sealed, size_t length) {
-    uint8_t code[GASNETL_HASH_BYTES], differ = 0;
-    if (length < GASNETL_TAG_BYTES)
-        return 0;
-    length -= GASNETL_TAG_BYTES;
-    gasnetl_key_code(key, sealed, length, code);
-    for (int i = 0; i < GASNETL_TAG_BYTES; i++)
-        differ |= code[i] ^ sealed[length + i];
-    return differ ? 0 : length;
-}
+/* ---- The file's key. */
 
 /* The value of a hexadecimal digit; -1 for another letter. */
 static int digit(char letter) {
@@ -154,29 +40,210 @@ static bool read_digits(FILE *file, uint8_t bytes[GASNETL_KEY_BYTES]) {
 }
 
 /* Why the key of a file can't be had; NULL where it was read. */
-static const char *read_file(struct gasnetl_key *key, FILE *file) {
+static const char *read_file(struct gasnetl_seals *seals, FILE *file) {
     struct stat about;
-    uint8_t bytes[GASNETL_KEY_BYTES];
     if (fstat(fileno(file), &about))
         return strerror(errno);
     if (about.st_mode & 077)
         return "others than its owner may use it: take their rights from it";
-    if (!read_digits(file, bytes))
+    if (!read_digits(file, seals->key))
         return "it isn't 64 hexadecimal digits";
-    gasnetl_key_make(key, bytes, sizeof bytes);
     return NULL;
 }
 
-bool gasnetl_key_read(struct gasnetl_key *key) {
+/* The same by the file's name. */
+static const char *read_path(struct gasnetl_seals *seals, const char *path) {
+    if (!gasnetl_aead_is_there())
+        return "this library was built without OpenSSL's libcrypto, which datagrams are sealed by: install it (Debian: "
+               "libssl-dev) and build the library again, or unset the variable, and nothing is sealed";
+    FILE *file = fopen(path, "r");
+    if (!file)
+        return strerror(errno);
+    const char *why = read_file(seals, file);
+    fclose(file);
+    return why;
+}
+
+bool gasnetl_key_read(struct gasnetl_seals *seals) {
     const char *path = getenv("GASNET_KEY_FILE");
-    key->is_set = false;
+    seals->is_set = false;
     if (!path)
         return true;
-    FILE *file = fopen(path, "r");
-    const char *why = file ? read_file(key, file) : strerror(errno);
-    if (file)
-        fclose(file);
+    const char *why = read_path(seals, path);
+    seals->is_set = !why;
     if (why)
         fprintf(stderr, "gasnet: GASNET_KEY_FILE is '%s': %s\n", path, why);
     return !why;
+}
+
+/* ---- The keys that are derived from it. */
+
+/* What a key is for: the direction from one rank to another, by its sender's cipher. */
+struct direction {
+    uint16_t from, to;
+    enum gasnetl_cipher cipher;
+    const uint8_t *sender, *receiver; /* the processes' numbers; the second is NULL for greetings */
+};
+
+static bool derive(const struct gasnetl_seals *seals, const struct direction *way, struct gasnetl_secret *secret) {
+    static const char greeting[] = "gasnet greeting", message[] = "gasnet message";
+    uint8_t salt[2 * GASNETL_PROCESS_BYTES] = { 0 }, info[sizeof greeting + 13], bytes[sizeof *secret];
+    const size_t named = strlen(way->receiver ? message : greeting);
+    memcpy(salt, way->sender, GASNETL_PROCESS_BYTES);
+    if (way->receiver)
+        memcpy(salt + GASNETL_PROCESS_BYTES, way->receiver, GASNETL_PROCESS_BYTES);
+    memcpy(info, way->receiver ? message : greeting, named);
+    uint8_t *at = gasnetl_word_write(info + named, (uint64_t)way->cipher, 1);
+    at = gasnetl_word_write(at, way->from, 2);
+    at = gasnetl_word_write(at, way->to, 2);
+    at = gasnetl_word_write(at, way->receiver ? seals->job : 0, 8); /* a greeting of another job is told of as such */
+    const bool is_derived = gasnetl_derive((struct gasnetl_span){ seals->key, sizeof seals->key },
+                                           (struct gasnetl_span){ salt, sizeof salt },
+                                           (struct gasnetl_span){ info, (size_t)(at - info) }, bytes, sizeof bytes);
+    memcpy(secret->key, bytes, sizeof secret->key);
+    memcpy(secret->nonce, bytes + sizeof secret->key, sizeof secret->nonce);
+    return is_derived;
+}
+
+static bool seal_by(struct gasnetl_seals *seals, uint16_t to, const uint8_t *receiver,
+                    struct gasnetl_sealing *sealing) {
+    const struct direction way = { seals->me, to, seals->cipher, seals->process, receiver };
+    struct gasnetl_secret secret;
+    sealing->next = 0;
+    return derive(seals, &way, &secret) && gasnetl_aead_seals_by(&sealing->aead, seals->cipher, &secret);
+}
+
+static bool open_by(struct gasnetl_seals *seals, uint16_t from, const uint8_t *receiver, struct gasnetl_aead *aead) {
+    const struct gasnetl_sealed_peer *peer = &seals->peers[from];
+    const struct direction way = { from, seals->me, peer->cipher, peer->process, receiver };
+    struct gasnetl_secret secret;
+    return derive(seals, &way, &secret) && gasnetl_aead_opens_by(aead, peer->cipher, &secret);
+}
+
+static bool start_peer(struct gasnetl_seals *seals, uint16_t node) {
+    struct gasnetl_sealed_peer *peer = &seals->peers[node];
+    return gasnetl_aead_start(&peer->greetings.aead) && gasnetl_aead_start(&peer->messages.aead) &&
+           gasnetl_aead_start(&peer->greeted) && gasnetl_aead_start(&peer->told) &&
+           seal_by(seals, node, NULL, &peer->greetings);
+}
+
+bool gasnetl_seals_start(struct gasnetl_seals *seals, uint16_t me, uint16_t nodes, uint64_t job) {
+    if (!seals->is_set)
+        return true;
+    seals->me = me;
+    seals->job = job;
+    seals->cipher = gasnetl_aead_fastest();
+    seals->peers = calloc(nodes, sizeof *seals->peers);
+    bool starts = seals->peers && getrandom(seals->process, sizeof seals->process, 0) == sizeof seals->process;
+    for (uint16_t node = 0; starts && node < nodes; node++)
+        starts = node == me || start_peer(seals, node);
+    if (!starts)
+        fprintf(stderr, "gasnet: node %u: libcrypto can't make the keys of GASNET_KEY_FILE\n", me);
+    return starts;
+}
+
+void gasnetl_seals_settle(struct gasnetl_seals *seals, uint16_t from) {
+    if (!seals->is_set || seals->is_fixed || seals->peers[from].is_settled || !seals->peers[from].is_greeted)
+        return;
+    struct gasnetl_sealed_peer *peer = &seals->peers[from];
+    peer->is_settled =
+        seal_by(seals, from, peer->process, &peer->messages) && open_by(seals, from, seals->process, &peer->told);
+}
+
+void gasnetl_seals_confirm(struct gasnetl_seals *seals, uint16_t from) {
+    if (seals->is_set)
+        seals->peers[from].is_confirmed = seals->peers[from].is_settled;
+}
+
+/* ---- What is sealed. */
+
+/* The number is taken before it is used: whoever is interrupted in between takes it no second time. */
+static size_t seal_as(struct gasnetl_sealing *sealing, unsigned kind, uint8_t *place, size_t front, size_t length) {
+    const uint64_t number = sealing->next;
+    if (number >= most_numbers)
+        return 0;
+    sealing->next = number + 1;
+    place[0] = (uint8_t)kind;
+    gasnetl_word_write(place + 1, number, NUMBER_BYTES);
+    return gasnetl_aead_seal(&sealing->aead, number, place, front, length) ? front + length + GASNETL_TAG_BYTES : 0;
+}
+
+static size_t seal_greeting(struct gasnetl_seals *seals, uint16_t to, uint8_t *place, size_t length) {
+    if (length > GASNETL_GREETING_MOST)
+        return 0;
+    memmove(place + GASNETL_GREETING_FRONT, place + GASNETL_SEAL_FRONT, length);
+    memcpy(place + GASNETL_SEAL_FRONT, seals->process, GASNETL_PROCESS_BYTES);
+    return seal_as(&seals->peers[to].greetings, SEALED + GREETING + (unsigned)seals->cipher, place,
+                   GASNETL_GREETING_FRONT, length);
+}
+
+size_t gasnetl_seal(struct gasnetl_seals *seals, uint16_t to, uint8_t *place, size_t length) {
+    struct gasnetl_sealed_peer *peer = &seals->peers[to];
+    if (!peer->is_confirmed)
+        return seal_greeting(seals, to, place, length);
+    return seal_as(&peer->messages, SEALED + (unsigned)seals->cipher, place, GASNETL_SEAL_FRONT, length);
+}
+
+/* ---- What is opened. */
+
+bool gasnetl_is_sealed(const uint8_t *bytes, size_t length) {
+    return length > GASNETL_SEAL_BYTES && (bytes[0] & ~KINDS) == SEALED;
+}
+
+static bool is_greeting(const uint8_t *sealed) { return sealed[0] & GREETING; }
+
+/* Has greetings of this process opened: false where it isn't the peer's, or no key for it can be made now. */
+static bool meet_process(struct gasnetl_seals *seals, uint16_t from, const uint8_t *sealed) {
+    struct gasnetl_sealed_peer *peer = &seals->peers[from];
+    const enum gasnetl_cipher cipher = sealed[0] & GASNETL_CHACHA20_POLY1305;
+    const uint8_t *process = sealed + GASNETL_SEAL_FRONT;
+    if (peer->is_greeted && peer->cipher == cipher && !memcmp(peer->process, process, GASNETL_PROCESS_BYTES))
+        return true;
+    if (peer->is_settled || seals->is_fixed)
+        return false;
+    memcpy(peer->process, process, GASNETL_PROCESS_BYTES);
+    peer->cipher = cipher;
+    peer->is_greeted = false;
+    return open_by(seals, from, NULL, &peer->greeted);
+}
+
+static uint8_t *open_greeting(struct gasnetl_seals *seals, uint16_t from, uint8_t *sealed, size_t *length) {
+    const size_t more = GASNETL_GREETING_FRONT + GASNETL_TAG_BYTES;
+    if (*length <= more || *length > more + GASNETL_GREETING_MOST || !meet_process(seals, from, sealed))
+        return NULL;
+    *length -= more;
+    if (!gasnetl_aead_open(&seals->peers[from].greeted, gasnetl_word_read(sealed + 1, NUMBER_BYTES), sealed,
+                           GASNETL_GREETING_FRONT, *length))
+        return NULL;
+    seals->peers[from].is_greeted = true;
+    return sealed + GASNETL_GREETING_FRONT;
+}
+
+static uint8_t *open_message(struct gasnetl_seals *seals, uint16_t from, uint8_t *sealed, size_t *length) {
+    struct gasnetl_sealed_peer *peer = &seals->peers[from];
+    if (!peer->is_settled || (sealed[0] & GASNETL_CHACHA20_POLY1305) != peer->cipher)
+        return NULL;
+    *length -= GASNETL_SEAL_BYTES;
+    if (!gasnetl_aead_open(&peer->told, gasnetl_word_read(sealed + 1, NUMBER_BYTES), sealed, GASNETL_SEAL_FRONT,
+                           *length))
+        return NULL;
+    return sealed + GASNETL_SEAL_FRONT;
+}
+
+uint8_t *gasnetl_open(struct gasnetl_seals *seals, uint16_t from, uint8_t *sealed, size_t *length) {
+    if (!gasnetl_is_sealed(sealed, *length) || *length > GASNET_C_ROOM + GASNETL_SEAL_BYTES)
+        return NULL;
+    return is_greeting(sealed) ? open_greeting(seals, from, sealed, length) : open_message(seals, from, sealed, length);
+}
+
+const uint8_t *gasnetl_uncover(struct gasnetl_seals *seals, uint16_t to, uint8_t *front, size_t *length) {
+    struct gasnetl_sealed_peer *peer = &seals->peers[to];
+    if (*length <= GASNETL_GREETING_FRONT || !gasnetl_is_sealed(front, *length) ||
+        (!is_greeting(front) && !peer->is_settled))
+        return NULL;
+    struct gasnetl_sealing *sealing = is_greeting(front) ? &peer->greetings : &peer->messages;
+    const size_t clear = is_greeting(front) ? GASNETL_GREETING_FRONT : GASNETL_SEAL_FRONT;
+    *length -= clear;
+    const uint64_t number = gasnetl_word_read(front + 1, NUMBER_BYTES);
+    return gasnetl_aead_uncover(&sealing->aead, number, front + clear, *length) ? front + clear : NULL;
 }

@@ -1,5 +1,18 @@
-/* Sealed datagrams: each has a tag of 16 bytes behind it, the front of HMAC-SHA-256 (RFC 2104, FIPS 180-4) of the
- * datagram under the key of the job. */
+/* Sealed datagrams, where GASNET_KEY_FILE names a key: encrypted, and of no use where one of their bytes was altered.
+ *
+ * Each process draws a number of 128 random bits as it starts, and tells it in its greetings. A greeting is sealed
+ * under a key of the file's, for its sender's number and the two ranks. Once a peer's greeting names this process's own
+ * random number (control.h), each direction between the two has a key for the job's number, both ranks and both
+ * processes' numbers. What was sealed for another job, another rank or an earlier process opens under none of these.
+ *
+ * On the network a sealed datagram is
+ *
+ *   1 byte     192, + 2 where it is a greeting, + 1 where its cipher is ChaCha20-Poly1305 and not AES-256-GCM
+ *   7 bytes    its number: how many this process sealed under the key before; its nonce is made of that
+ *   16 bytes   of a greeting: the sender's number
+ *              the datagram, encrypted
+ *   16 bytes   the tag, of all before
+ */
 #ifndef GASNETL_SEAL_H
 #define GASNETL_SEAL_H
 
@@ -7,36 +20,73 @@
 #include <stddef.h>
 #include <stdint.h>
 
-enum { GASNETL_TAG_BYTES = 16, GASNETL_KEY_BYTES = 32, GASNETL_HASH_BYTES = 32 };
+#include "aead.h"
+#include "gasnet_c.h"
 
-/* A hash of SHA-256 that isn't ended. */
-struct gasnetl_hash {
-    uint32_t state[8];
-    uint64_t length; /* of what it was fed, in bytes */
-    uint8_t block[64];
+enum {
+    GASNETL_SEAL_FRONT = 8,                                      /* the bytes before a datagram that is sealed */
+    GASNETL_SEAL_BYTES = GASNETL_SEAL_FRONT + GASNETL_TAG_BYTES, /* what it has more than before */
+    GASNETL_PROCESS_BYTES = 16,                                  /* a process's number */
+    GASNETL_GREETING_FRONT = GASNETL_SEAL_FRONT + GASNETL_PROCESS_BYTES,
+    GASNETL_GREETING_MOST = 256 /* the bytes of a greeting, before it is sealed */
 };
 
-/* A key, as the two hashes with which each code begins. */
-struct gasnetl_key {
-    bool is_set;
-    struct gasnetl_hash inner, outer;
+/* A key that this process seals under. */
+struct gasnetl_sealing {
+    struct gasnetl_aead aead;
+    uint64_t next; /* the number of the next datagram */
 };
 
-/* The key with these bytes. */
-void gasnetl_key_make(struct gasnetl_key *key, const void *bytes, size_t length);
+/* What is sealed for a peer, and comes from it. */
+struct gasnetl_sealed_peer {
+    struct gasnetl_sealing greetings, messages; /* to it */
+    struct gasnetl_aead greeted, told;          /* what opens its greetings, and the rest */
+    uint8_t process[GASNETL_PROCESS_BYTES];     /* the number for which its greetings are opened, and their cipher */
+    enum gasnetl_cipher cipher;
+    bool is_greeted;   /* one was opened for it */
+    bool is_settled;   /* the keys for both directions are known: of no other process anything is opened */
+    bool is_confirmed; /* the peer has them too */
+};
+
+struct gasnetl_seals {
+    bool is_set;   /* there is a key */
+    bool is_fixed; /* no further key is derived: that allocates */
+    uint16_t me;
+    uint64_t job;
+    uint8_t key[GASNETL_KEY_BYTES]; /* the file's */
+    uint8_t process[GASNETL_PROCESS_BYTES];
+    enum gasnetl_cipher cipher;        /* by which this process seals */
+    struct gasnetl_sealed_peer *peers; /* of each node, where there is a key */
+};
 
 /* Reads the key of the file that GASNET_KEY_FILE names: 64 hexadecimal digits, readable by its owner alone. Without the
  * variable none is set. False where it can't be had: a line on standard error has said why. */
-bool gasnetl_key_read(struct gasnetl_key *key);
+bool gasnetl_key_read(struct gasnetl_seals *seals);
 
-/* HMAC-SHA-256 of a message. */
-void gasnetl_key_code(const struct gasnetl_key *key, const void *message, size_t length,
-                      uint8_t code[GASNETL_HASH_BYTES]);
+/* Draws this process's number, and makes the keys of its greetings, where a key is set. False where that fails: a line
+ * on standard error has said why. */
+bool gasnetl_seals_start(struct gasnetl_seals *seals, uint16_t me, uint16_t nodes, uint64_t job);
 
-/* Writes the tag of a datagram behind it. How many bytes both have. */
-size_t gasnetl_seal(const struct gasnetl_key *key, uint8_t *datagram, size_t length);
+/* Seals a datagram to a peer in its place: it stands behind GASNETL_SEAL_FRONT bytes, and has room for so many more
+ * behind it, or, where it is a greeting, for GASNETL_GREETING_FRONT bytes and a tag in all. It is a greeting as long as
+ * the peer may lack the other key. How many bytes it has then; 0 where it can't be sealed, and isn't sent. */
+size_t gasnetl_seal(struct gasnetl_seals *seals, uint16_t to, uint8_t *place, size_t length);
 
-/* How many bytes stand before the tag; 0 where it isn't the right one. It looks at all bytes, whichever differ. */
-size_t gasnetl_open(const struct gasnetl_key *key, const uint8_t *sealed, size_t length);
+/* Opens a datagram from a peer in its place: where it stands, and, in `length`, how many bytes it has. NULL where it
+ * isn't sealed, or for another process, or was altered. */
+uint8_t *gasnetl_open(struct gasnetl_seals *seals, uint16_t from, uint8_t *sealed, size_t *length);
+
+/* The peer's last greeting names this process: both directions have keys from now on. */
+void gasnetl_seals_settle(struct gasnetl_seals *seals, uint16_t from);
+
+/* The peer says what it can say only behind a greeting that names it: it has these keys too. */
+void gasnetl_seals_confirm(struct gasnetl_seals *seals, uint16_t from);
+
+/* Reads the front of a datagram that this process sealed for a peer, and that came back: where it stands, and, in
+ * `length`, what is left of it. NULL where it is too short. Nothing says that it wasn't altered. */
+const uint8_t *gasnetl_uncover(struct gasnetl_seals *seals, uint16_t to, uint8_t *front, size_t *length);
+
+/* Whether a datagram is sealed, by its front. */
+bool gasnetl_is_sealed(const uint8_t *bytes, size_t length);
 
 #endif

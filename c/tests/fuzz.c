@@ -6,6 +6,7 @@
  *   forge SEED          some datagrams go before each that differ in a way in which they may be believed, as whoever is
  *                       on the path, and has no key to guess, can send them: from the first greeting on. Nothing is
  *                       promised of what the job does then, but that it touches no memory beyond its own
+ *   count SEED          none; each datagram that is sent has a number above all before it under its key
  *   record FILE CODE    node 1 writes what it sends to a file, and ends the job with this code
  *   replay FILE         node 1 sends that again as it begins, in a job with the same addresses and number
  */
@@ -299,6 +300,28 @@ static bool is_node_1(void) {
     return rank && atoi(rank) == 1;
 }
 
+/* ---- Numbers of what is sealed (c/src/seal.h). */
+
+/* The ports of the peers, and the numbers below which no further one may be: of messages, and of greetings. */
+static struct {
+    in_port_t port;
+    uint64_t next[2];
+} counted[GASNET_MAXNODES];
+
+static void check_number(const struct caught *one) {
+    const in_port_t port = one->to_length ? ((const struct sockaddr_in *)(const void *)&one->to)->sin_port : 1;
+    const bool is_greeting = one->bytes[0] & 2;
+    uint64_t number = 0;
+    int peer = 0;
+    while (counted[peer].port && counted[peer].port != port)
+        peer++;
+    counted[peer].port = port;
+    for (int i = 1; i < 8; i++)
+        number = number << 8 | one->bytes[i];
+    CHECK(one->bytes[0] >> 2 == 48 && number >= counted[peer].next[is_greeting]);
+    counted[peer].next[is_greeting] = number + 1;
+}
+
 static void was_sent(int socket, const void *bytes, size_t length, const void *to, socklen_t to_length) {
     struct caught *one = &ring[caught++ % RING];
     one->length = length < MOST ? length : MOST;
@@ -306,6 +329,8 @@ static void was_sent(int socket, const void *bytes, size_t length, const void *t
     note_address(one, to, to_length);
     if (file)
         fwrite(one, sizeof *one, 1, file);
+    if (!strcmp(way, "count"))
+        check_number(one);
     if (!strcmp(way, "replay") && is_node_1() && !is_replayed)
         replay(socket, one);
     if (strcmp(way, "mutate"))

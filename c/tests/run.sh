@@ -56,6 +56,15 @@ skip() {
     echo "skipped $1: $2"
 }
 
+# The same of what needs a key, where the library has any.
+keyed() {
+    if grep -q crypto out/gasnet.pc; then
+        check "$@"
+    else
+        skip "$1" "libgasnet was built without libcrypto (Debian: libssl-dev)"
+    fi
+}
+
 # What the specification says, call by call, over clean and lossy networks, with and without sanitizers.
 sizes="1 2 4 8" losses="0 10 30"
 [ -n "$GASNET_TEST_QUICK" ] && sizes="1 2 4" losses="0 30"
@@ -135,7 +144,9 @@ for build in out out/sanitized; do
     for seed in 1 2 3; do
         check "fuzz $seed$kind" 0 "" bin/gasnetrun -n 3 $build/tests/fuzz mutate $seed
     done
-    check "fuzz with a key$kind" 0 "" env GASNET_KEY_FILE=out/key bin/gasnetrun -n 3 $build/tests/fuzz mutate 4
+    keyed "fuzz with a key$kind" 0 "" env GASNET_KEY_FILE=out/key bin/gasnetrun -n 3 $build/tests/fuzz mutate 4
+    keyed "fuzz, numbers of what is sealed$kind" 0 "" env GASNET_KEY_FILE=out/key GASNET_DROP=10 GASNET_TWICE=10 GASNET_SWAP=10 \
+        GASNET_RESEND=20 bin/gasnetrun -n 3 $build/tests/fuzz count 5
 done
 # Datagrams that may be believed: whoever is on the path, and has no key to guess, ends the job or spoils its results, and no more.
 forged() { # SEED..: no node touches memory beyond its own, or finds the endpoint and the layer at odds
@@ -170,7 +181,7 @@ former() { # CODE: node 1 of a run that ends with it is recorded, and what it se
 export -f alone former
 for code in 0 3; do
     check "former run that ended with $code" 0 "" bash -c "former $code"
-    check "former run with a key that ended with $code" 0 "" env GASNET_KEY_FILE=out/key bash -c "former $code"
+    keyed "former run with a key that ended with $code" 0 "" env GASNET_KEY_FILE=out/key bash -c "former $code"
 done
 
 # Refusals by ICMP that wait on a node's socket, whoever made them, keep back nothing that it sends.
@@ -193,19 +204,60 @@ else
     skip "network" "${why:-there is no python3}"
 fi
 
-# Sealed: with one key all goes as without, over a lossy network too; with two keys the nodes don't hear each other.
 check "round trips and windows" 0 "" out/sanitized/tests/windows
 check "runs of pieces" 0 "" out/sanitized/tests/runs
-check "codes of RFC 4231" 0 "" out/sanitized/tests/seals
+
+# Sealed: with one key all goes as without, over a lossy network too; with two keys the nodes don't hear each other. What a
+# processor has by OPENSSL_ia32cap libcrypto takes for what it has: these two have no instructions for AES.
+no_aes="OPENSSL_ia32cap=~0x200000200000000"
+keyed "seals by AES-256-GCM" 0 "^AES-256-GCM: [0-9]\{6\}" out/sanitized/tests/seals
+keyed "seals by ChaCha20-Poly1305" 0 "^ChaCha20-Poly1305: [0-9]\{6\}" env "$no_aes" out/sanitized/tests/seals
 (umask 077; printf '6b%.0s' {1..32} >out/key; printf '7c%.0s' {1..32} >out/other-key; cp out/key out/open-key; chmod 640 out/open-key)
-for test in messages transfers barriers; do
-    check "sealed $test" 0 "" env GASNET_KEY_FILE=out/key GASNET_DROP=10 GASNET_TWICE=10 GASNET_SWAP=10 GASNET_RESEND=20 \
-        bin/gasnetrun -n 2 out/tests/$test
+for build in out out/sanitized; do
+    kind=${build#out}
+    kind=${kind:+ sanitized}
+    for test in messages transfers barriers threads collectives; do
+        keyed "sealed $test$kind" 0 "" env GASNET_KEY_FILE=out/key GASNET_DROP=10 GASNET_TWICE=10 GASNET_SWAP=10 GASNET_RESEND=20 \
+            bin/gasnetrun -n 3 $build/tests/$test
+    done
+    keyed "sealed in small packets$kind" 0 "" env GASNET_KEY_FILE=out/key GASNET_MTU=1500 bin/gasnetrun -n 2 $build/tests/transfers
+    keyed "sealed by both ciphers$kind" 0 "" env GASNET_KEY_FILE=out/key bin/gasnetrun -n 3 \
+        bash -c "[ \$GASNET_RANK = 0 ] && export $no_aes; exec $build/tests/messages"
 done
-check "sealed strangers are counted" 0 "unsealed [0-9]" env GASNET_KEY_FILE=out/key GASNET_COUNTS=1 bin/gasnetrun -n 2 out/tests/strangers
-check "sealed by two keys" 69 "didn.t come to gasnet_attach" env GASNET_PEER_TIMEOUT=2 bin/gasnetrun -n 2 \
+keyed "sealed strangers are counted" 0 "unsealed [0-9]" env GASNET_KEY_FILE=out/key GASNET_COUNTS=1 bin/gasnetrun -n 2 out/tests/strangers
+keyed "sealed by two keys" 69 "didn.t come to gasnet_attach" env GASNET_PEER_TIMEOUT=2 bin/gasnetrun -n 2 \
     bash -c '[ "$GASNET_RANK" = 0 ] && key=out/key || key=out/other-key; GASNET_KEY_FILE=$key exec out/tests/messages'
-check "sealed by an open key" 0 "others than its owner" bash -c 'GASNET_KEY_FILE=out/open-key bin/gasnetrun -n 2 out/tests/messages; [ $? != 0 ]; echo'
+keyed "sealed by an open key" 0 "others than its owner" bash -c 'GASNET_KEY_FILE=out/open-key bin/gasnetrun -n 2 out/tests/messages; [ $? != 0 ]; echo'
+for way in "one 5" "all 3" "alarm 7" "handler 6"; do
+    keyed "sealed end $way" "${way#* }" "" env GASNET_KEY_FILE=out/key bin/gasnetrun -n 3 out/sanitized/tests/ends $way
+done
+# A layer that is built without libcrypto refuses the variable.
+without_crypto() {
+    mkdir -p out/keyless
+    for source in src/*.c; do
+        [ $source = src/gasnetrun.c ] || ${CC:-gcc} -std=c11 -D_GNU_SOURCE -Wall -Wextra -Werror -Iinclude -Isrc -c $source \
+            -o out/keyless/$(basename $source .c).o || return
+    done
+    ${CC:-gcc} -std=c11 -D_GNU_SOURCE -Iinclude tests/barriers.c out/keyless/*.o -Lout -lgasnet -lpthread -o out/keyless/barriers &&
+        bin/gasnetrun -n 2 out/keyless/barriers && ! GASNET_KEY_FILE=out/key bin/gasnetrun -n 2 out/keyless/barriers
+}
+export -f without_crypto
+check "sealed by no library" 0 "GASNET_KEY_FILE is 'out/key': this library was built without OpenSSL" bash -c without_crypto
+# A put of a MiB under a key beside one without, as medians of runs that take turns: about a half where the machine does nothing
+# else (bench), and a fifth where the processor's instructions for AES aren't used.
+sealed_speed() {
+    local plain=() sealed=() rate
+    for _ in {1..9}; do
+        plain+=("$(bin/gasnetrun -n 2 out/tests/rates)")
+        sealed+=("$(GASNET_KEY_FILE=out/key bin/gasnetrun -n 2 out/tests/rates)")
+    done
+    median() { printf '%s\n' "$@" | sort -n | sed -n 5p; }
+    rate=$(echo "$(median "${plain[@]}") $(median "${sealed[@]}")" | awk '{ printf "%d", 100 * $2 / $1 }')
+    echo "a sealed put goes at $rate % of another: ${sealed[*]} MB/s, ${plain[*]}"
+    [ "$rate" -ge 30 ] || return 3
+}
+export -f sealed_speed
+keyed "sealed puts of a MiB" 0 "" bash -c sealed_speed
 
 # Each rule that is broken ends the job with a line.
 for rule in request-in-handler put-in-handler get-in-handler poll-in-handler barrier-in-handler sync-in-handler \
@@ -255,7 +307,7 @@ for build in out out/sanitized; do
     done
     check "packs of 1,500 bytes with loss$kind" 0 "" env GASNET_MTU=1500 GASNET_DROP=5 GASNET_TWICE=5 GASNET_SWAP=5 GASNET_RESEND=5 \
         bin/gasnetrun -n 3 $build/tests/packs
-    check "packs under a key$kind" 0 "" env GASNET_KEY_FILE=out/key GASNET_DROP=20 GASNET_RESEND=5 bin/gasnetrun -n 2 $build/tests/packs
+    keyed "packs under a key$kind" 0 "" env GASNET_KEY_FILE=out/key GASNET_DROP=20 GASNET_RESEND=5 bin/gasnetrun -n 2 $build/tests/packs
     for node in -1 0 2; do
         check "packs, the client's index on node $node$kind" 0 "" bin/gasnetrun -n 3 $build/tests/packs own $node
     done
@@ -421,6 +473,7 @@ gone() { # SIGNAL WAY
 }
 export -f gone
 check "peer killed" 69 "node 1 (127.0.0.1:[0-9]*) is gone" bash -c 'gone KILL'
+keyed "sealed, and a peer is killed" 69 "node 1 (127.0.0.1:[0-9]*) is gone" env GASNET_KEY_FILE=out/key bash -c 'gone KILL'
 check "peer killed, SIGQUIT" 9 "^quit" bash -c 'gone KILL watch'
 check "peer stopped" 69 "node 1 (127.0.0.1:[0-9]*) didn't answer for [0-9.]* s" env GASNET_PEER_TIMEOUT=5 bash -c 'gone STOP'
 absent() {
@@ -453,8 +506,8 @@ told() { # REASON_OF_3 ARGUMENTS..
     done
 }
 export -f missing told
-check "peers missing" 0 "" bash -c 'told "what came is sealed, and this node has no key" "" out/key'
-check "peers missing, with a key" 0 "" bash -c 'told "what came has no right tag" out/key out/other-key'
+keyed "peers missing" 0 "" bash -c 'told "what came is sealed, and this node has no key" "" out/key'
+keyed "peers missing, with a key" 0 "" bash -c 'told "what came has no right tag" out/key out/other-key'
 
 # Nodes that are started one by one, each by a list of the hosts.
 by_hosts() { # VARIABLE TEXT
