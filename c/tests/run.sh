@@ -626,5 +626,27 @@ fi
 . tests/stacks.sh
 . tests/install.sh
 
+# By Debian's Slurm, of which a test has one of its own: by PMIx, and by the number that srun gives each task.
+by_srun() { # COMMAND..: four tasks, which find one another by a list of hosts
+    # shellcheck disable=SC2016
+    exec env GASNET_PORT=$((20000 + RANDOM % 10000)) GASNET_JOB=7 GASNET_HOSTS="127.0.0.1 127.0.0.1 127.0.0.1 127.0.0.1" tests/slurm \
+        srun -n 4 sh -c 'GASNET_RANK=$SLURM_PROCID exec "$@"' sh "$@"
+}
+export -f by_srun
+if why=$(tests/slurm --can); then
+    check "srun by ranks" 0 "node 3 of 4: the squares' sum is 86" bash -c 'by_srun out/hello'
+    check "srun by ranks ends" 5 "" bash -c 'by_srun out/tests/ends one 5'
+    if grep -q pmix out/gasnet.pc; then
+        check "srun hello" 0 "node 3 of 4: the squares' sum is 86" tests/slurm srun --mpi=pmix -n 4 out/hello
+        check "srun transfers" 0 "" env ASAN_OPTIONS=detect_leaks=0 tests/slurm srun --mpi=pmix -n 4 out/sanitized/tests/transfers
+        check "srun ends" 5 "" tests/slurm srun --mpi=pmix -n 4 out/tests/ends one 5
+        keyed "srun with a key" 0 "" env GASNET_KEY_FILE=out/key tests/slurm srun --mpi=pmix -n 4 out/tests/barriers
+    else
+        skip "srun by PMIx" "libgasnet was built without PMIx (Debian: libpmix-dev)"
+    fi
+else
+    skip "srun" "$why"
+fi
+
 echo "$passed passed, $failed failed, $skipped skipped, $repeated run twice"
 [ "$failed" = 0 ]
