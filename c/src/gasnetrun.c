@@ -1,5 +1,6 @@
 /* gasnetrun -n N PROGRAM ARGS: starts N nodes of a GASNet program on this host, and ends with the first status that
- * isn't 0. Its words are read by options.h, what nodes write is told apart by lines.h. */
+ * isn't 0. Its words are read by options.h, what nodes write is told apart by lines.h. With --hosts its children are no
+ * nodes, but start a part of them elsewhere (parts.h), where this program runs with --part. */
 #include <arpa/inet.h>
 #include <errno.h>
 #include <fcntl.h>
@@ -22,29 +23,41 @@
 #include "gasnet_c.h"
 #include "lines.h"
 #include "options.h"
+#include "parts.h"
 #include "runner.h"
 #include "sockets.h"
 
-enum { NODES = GASNET_C_MAX_NODES, REFUSED = 71, GRACE = 1000, MOST_GRACE = 1000000, LAST = 2000, TEXT = 24 };
+enum {
+    NODES = GASNET_C_MAX_NODES,
+    REFUSED = 71,
+    SSH_FAILED = 255,
+    GRACE = 1000,
+    MOST_GRACE = 1000000,
+    LAST = 2000,
+    TEXT = 24
+};
+enum { OWN = 3, BEHIND = 300000 }; /* what is awaited beside what nodes write; microseconds */
 
 struct run {
     struct gasnetl_options options;
     struct gasnetl_lines lines;
-    int nodes, alive;
-    int grace; /* the milliseconds that the others have where a node failed: GASNET_GRACE */
+    struct gasnetl_parts parts; /* those on other hosts: the children are these, and no nodes */
+    int first, nodes, alive;    /* the rank of the first child, how many there were, and are */
+    int grace;                  /* the milliseconds that the others have where a node failed: GASNET_GRACE */
     int sockets[NODES];
     char addresses[NODES * TEXT];
     pid_t children[NODES];
-    int lifeline[2]; /* a pipe whose writing end, until it is -1, this process alone has: the nodes end as it does */
+    int lifeline[2]; /* a pipe whose writing end, until it is -1, this process alone has: the children end as it does */
     int reports[2];  /* a pipe by which nodes tell how they end (runner.h) */
     bool is_by_peer[NODES]; /* a node told that another one ended it */
     pid_t tellers[NODES];   /* the process of a node that tells by SIGUSR2 where its threads wait; 0 for none */
     int signals;
-    int status;      /* the first that isn't 0 */
-    bool is_settled; /* it is that of the node that ended the job, or of a signal to this process */
-    bool is_told;    /* a node told that it ended the job with status 0: that is the job's */
-    int ends;        /* 0: no; 1: a node failed, the others may end by themselves; 2: TERM was sent; 3: KILL was */
-    int64_t next;    /* when it goes one step further, in milliseconds, where `ends` isn't 0 */
+    bool is_watching; /* the standard input of a part, whose end ends its nodes */
+    int status;       /* the first that isn't 0 */
+    bool is_settled;  /* it is that of the node that ended the job, or of a signal to this process */
+    bool is_told;     /* a node told that it ended the job with status 0: that is the job's */
+    int ends;         /* 0: no; 1: a node failed, the others may end by themselves; 2: TERM was sent; 3: KILL was */
+    int64_t next;     /* when it goes one step further, in milliseconds, where `ends` isn't 0 */
 };
 
 static _Noreturn void fail(const char *what) {
@@ -58,10 +71,13 @@ static int64_t clock_now(void) {
     return (int64_t)now.tv_sec * 1000 + now.tv_nsec / 1000000;
 }
 
-/* A socket of each node on this host, at any free port. */
+/* A socket of each node on this host, at any free port; none where the job has several hosts. */
 static void make_sockets(struct run *run) {
     size_t length = 0;
     for (int node = 0; node < run->nodes; node++) {
+        run->sockets[node] = -1;
+        if (run->parts.count || run->options.part >= 0)
+            continue;
         struct sockaddr_in address = { .sin_family = AF_INET, .sin_addr.s_addr = htonl(INADDR_LOOPBACK) };
         socklen_t size = sizeof address;
         run->sockets[node] = gasnetl_socket_bind((struct sockaddr *)&address, size);
@@ -91,16 +107,22 @@ static void set_runner(const struct run *run) {
         fail("there is no memory");
 }
 
+/* What is said of the whole job: a part of it was told. */
 static void set_job(const struct run *run) {
     uint64_t job;
     if (getrandom(&job, sizeof job, 0) != sizeof job)
         fail("no random number can be had");
     set_number("GASNET_JOB", job);
-    set_number("GASNET_NODES", (uint64_t)run->nodes);
+    set_number("GASNET_NODES", (uint64_t)run->options.nodes);
+    if (run->parts.count ? !gasnetl_parts_name(&run->parts) : setenv("GASNET_ADDRESSES", run->addresses, 1))
+        fail("there is no memory");
+}
+
+static void set_pipes(const struct run *run) {
+    if (run->parts.count)
+        return;
     set_number("GASNET_LIFELINE", (uint64_t)run->lifeline[0]);
     set_runner(run);
-    if (setenv("GASNET_ADDRESSES", run->addresses, 1))
-        fail("there is no memory");
 }
 
 /* Becomes the program; a debugger that starts it, where `is_debugged`. */
@@ -119,29 +141,46 @@ static _Noreturn void become_program(char **words, bool is_debugged) {
     _exit(127);
 }
 
-/* Only what the node is to have stays open in it. The standard input is node 0's, or that of the debugger. */
+/* Only what the node is to have stays open in it. The standard input is node 0's, or that of the debugger; over several
+ * hosts it is nobody's. */
 static void have_descriptors(const struct run *run, int node) {
     const int debugged = run->options.debugged;
-    if (node != (debugged < 0 ? 0 : debugged) && !freopen("/dev/null", "r", stdin))
+    const bool reads = node == (debugged < 0 ? 0 : debugged) && run->options.part < 0;
+    if (!reads && !freopen("/dev/null", "r", stdin))
         exit(REFUSED);
     if (node != debugged)
         gasnetl_lines_become(&run->lines, node);
-    fcntl(run->sockets[node], F_SETFD, 0);
+    if (run->sockets[node] >= 0)
+        fcntl(run->sockets[node], F_SETFD, 0);
     fcntl(run->lifeline[0], F_SETFD, 0);
     fcntl(run->reports[1], F_SETFD, 0);
 }
 
-static _Noreturn void become_node(const struct run *run, int node, pid_t parent) {
+static _Noreturn void become_node(const struct run *run, int node) {
+    have_descriptors(run, node);
+    set_number("GASNET_RANK", (uint64_t)(run->first + node));
+    if (run->sockets[node] >= 0)
+        set_number("GASNET_SOCKET", (uint64_t)run->sockets[node]);
+    become_program(run->options.words, node == run->options.debugged);
+}
+
+/* The end of the lifeline is the end of the part's standard input. */
+static _Noreturn void become_part(const struct run *run, int part) {
+    if (dup2(run->lifeline[0], STDIN_FILENO) < 0)
+        exit(REFUSED);
+    gasnetl_part_become(&run->parts.of[part], &run->options);
+}
+
+static _Noreturn void become_child(const struct run *run, int child, pid_t parent) {
     sigset_t none;
     prctl(PR_SET_PDEATHSIG, SIGKILL);
     if (getppid() != parent)
         exit(REFUSED);
     sigemptyset(&none);
     sigprocmask(SIG_SETMASK, &none, NULL);
-    have_descriptors(run, node);
-    set_number("GASNET_RANK", (uint64_t)node);
-    set_number("GASNET_SOCKET", (uint64_t)run->sockets[node]);
-    become_program(run->options.words, node == run->options.debugged);
+    if (run->parts.count)
+        become_part(run, child);
+    become_node(run, child);
 }
 
 static void start(struct run *run) {
@@ -151,15 +190,22 @@ static void start(struct run *run) {
         if (child < 0)
             fail("no process can be had");
         if (!child)
-            become_node(run, node, parent);
+            become_child(run, node, parent);
         run->children[node] = child;
         run->alive++;
     }
     for (int node = 0; node < run->nodes; node++)
-        close(run->sockets[node]);
+        if (run->sockets[node] >= 0)
+            close(run->sockets[node]);
     close(run->lifeline[0]);
     close(run->reports[1]);
     gasnetl_lines_start(&run->lines);
+}
+
+static void cut_lifeline(struct run *run) {
+    if (run->lifeline[1] >= 0)
+        close(run->lifeline[1]);
+    run->lifeline[1] = -1;
 }
 
 static void end_all(struct run *run, int signal) {
@@ -168,19 +214,25 @@ static void end_all(struct run *run, int signal) {
             kill(run->children[node], signal);
 }
 
-/* Goes one step further in ending the job. */
+/* Goes one step further in ending the job. Parts end their nodes by both signals as the lifeline is cut. */
 static void end_more(struct run *run) {
     if (run->ends < 3)
         run->ends++;
-    run->next = clock_now() + (run->ends == 1 ? run->grace : LAST);
-    if (run->ends == 2)
+    run->next = clock_now() + (run->ends == 1 ? run->grace : run->parts.count ? 2 * LAST : LAST);
+    if (run->ends == (run->parts.count ? 2 : 3))
+        cut_lifeline(run);
+    if (run->ends == 2 && !run->parts.count)
         end_all(run, SIGTERM);
-    if (run->ends == 3) {
-        if (run->lifeline[1] >= 0)
-            close(run->lifeline[1]);
-        run->lifeline[1] = -1;
+    if (run->ends == 3)
         end_all(run, SIGKILL);
-    }
+}
+
+/* A part told of its nodes. That there was none is told here. */
+static void tell_part_end(const struct gasnetl_part *part, int how) {
+    if (WIFSIGNALED(how) || WEXITSTATUS(how) == SSH_FAILED)
+        fprintf(stderr, "gasnetrun: what starts node %d and so on at %s ended with %s %d; the others are ended\n",
+                part->first, part->host, WIFSIGNALED(how) ? "signal" : "status",
+                WIFSIGNALED(how) ? WTERMSIG(how) : WEXITSTATUS(how));
 }
 
 static void tell_end(int node, int how) {
@@ -193,6 +245,8 @@ static void tell_end(int node, int how) {
 
 /* Whether the end is another's doing: that of the node that ended this one, or of this process. */
 static bool is_of_another(const struct run *run, int node, int how) {
+    if (run->parts.count && WIFEXITED(how) && WEXITSTATUS(how) == GASNETL_PART_ENDED)
+        return true;
     return run->is_by_peer[node] || (run->ends > 1 && WIFSIGNALED(how));
 }
 
@@ -207,12 +261,14 @@ static void note_end(struct run *run, int node, int how) {
         return;
     if (is_first || !run->status)
         run->status = status;
-    if (is_first)
-        tell_end(node, how);
+    if (is_first && run->parts.count)
+        tell_part_end(&run->parts.of[node], how);
+    else if (is_first)
+        tell_end(run->first + node, how);
     run->is_settled = is_first;
     if (!run->ends)
         end_more(run);
-    if (WIFSIGNALED(how) && run->ends < 2) /* it can't have told the others */
+    if (status > 128 && run->ends < 2) /* it can't have told the others */
         end_more(run);
 }
 
@@ -227,12 +283,13 @@ static void take_told(struct run *run) {
 static void take_reports(struct run *run) {
     struct gasnetl_report report;
     while (read(run->reports[0], &report, sizeof report) == sizeof report) {
-        if (report.kind == GASNETL_ENDED_BY_PEER && report.node < run->nodes)
-            run->is_by_peer[report.node] = true;
+        const int node = report.node - run->first;
+        if (report.kind == GASNETL_ENDED_BY_PEER && node >= 0 && node < run->nodes)
+            run->is_by_peer[node] = true;
         if (report.kind == GASNETL_ENDED_WELL)
             take_told(run);
-        if (report.kind == GASNETL_TELLS_STACKS && report.node < run->nodes)
-            run->tellers[report.node] = report.process;
+        if (report.kind == GASNETL_TELLS_STACKS && node >= 0 && node < run->nodes)
+            run->tellers[node] = report.process;
     }
 }
 
@@ -252,6 +309,20 @@ static void reap(struct run *run) {
 static void take_signal(struct run *run, int signal) {
     if (!run->status)
         run->status = 128 + signal;
+    run->is_settled = true;
+    if (run->ends < 2)
+        run->ends = 1;
+    end_more(run);
+}
+
+/* Takes the end of a part's standard input: who started it is gone, or ends the job. */
+static void take_input(struct run *run) {
+    char byte;
+    if (read(STDIN_FILENO, &byte, 1) > 0)
+        return;
+    run->is_watching = false;
+    if (!run->is_settled)
+        run->status = GASNETL_PART_ENDED;
     run->is_settled = true;
     if (run->ends < 2)
         run->ends = 1;
@@ -278,14 +349,17 @@ static bool is_stopped(pid_t process) {
 
 /* Has each node tell where its threads wait. Of one that can't it tells why. */
 static void ask_stacks(const struct run *run) {
-    for (int node = 0; node < run->nodes; node++) {
+    if (run->parts.count)
+        fprintf(stderr, "gasnetrun: the nodes are on other hosts: there gasnetrun --stacks asks those of the host\n");
+    for (int node = 0; node < run->nodes && !run->parts.count; node++) {
         const pid_t teller = run->tellers[node];
+        const int rank = run->first + node;
         if (!run->children[node])
-            fprintf(stderr, "gasnetrun: node %d has ended\n", node);
+            fprintf(stderr, "gasnetrun: node %d has ended\n", rank);
         else if (!teller)
-            fprintf(stderr, "gasnetrun: node %d hasn't called gasnet_init, or handles SIGUSR2 itself\n", node);
+            fprintf(stderr, "gasnetrun: node %d hasn't called gasnet_init, or handles SIGUSR2 itself\n", rank);
         else if (is_stopped(teller))
-            fprintf(stderr, "gasnetrun: node %d (process %d) is stopped, by a signal or a debugger\n", node, teller);
+            fprintf(stderr, "gasnetrun: node %d (process %d) is stopped, by a signal or a debugger\n", rank, teller);
         else
             kill(teller, SIGUSR2);
     }
@@ -304,14 +378,15 @@ static void take_signals(struct run *run) {
 
 /* Waits for a signal, of a child or one that ends this process, for what a node tells, or for what it writes. */
 static void wait_once(struct run *run) {
-    struct pollfd ready[2 + GASNETL_STREAMS] = { { .fd = run->signals, .events = POLLIN },
-                                                 { .fd = run->reports[0], .events = POLLIN } };
-    int got = poll(ready, 2 + gasnetl_lines_await(&run->lines, ready + 2), time_left(run));
+    struct pollfd ready[OWN + GASNETL_STREAMS] = { { .fd = run->signals, .events = POLLIN },
+                                                   { .fd = run->reports[0], .events = POLLIN },
+                                                   { .fd = run->is_watching ? STDIN_FILENO : -1, .events = POLLIN } };
+    int got = poll(ready, OWN + gasnetl_lines_await(&run->lines, ready + OWN), time_left(run));
     if (!time_left(run))
         end_more(run);
     if (got <= 0)
         return;
-    gasnetl_lines_take(&run->lines, ready + 2);
+    gasnetl_lines_take(&run->lines, ready + OWN);
     take_reports(run);
     if (ready[1].revents & POLLHUP) { /* the nodes closed the pipe, or ended */
         close(run->reports[0]);
@@ -319,6 +394,8 @@ static void wait_once(struct run *run) {
     }
     if (ready[0].revents & POLLIN)
         take_signals(run);
+    if (ready[2].revents)
+        take_input(run);
 }
 
 /* Whether whoever started this process has it ignore the signal, as nohup does, or a shell where it is in the
@@ -376,27 +453,52 @@ static void prepare(struct run *run) {
         signal(SIGINT, SIG_IGN);
         setenv("GASNET_PEER_TIMEOUT", "0", 0);
     }
-    if (run->options.prefixes && !gasnetl_lines_open(&run->lines, run->nodes))
+    if (run->options.prefixes && !run->parts.count && !gasnetl_lines_open(&run->lines, run->first, run->nodes))
         fail("no pipes can be had");
+}
+
+/* The children are nodes of this host, or parts on others. */
+static void share_out(struct run *run) {
+    run->nodes = run->options.nodes;
+    run->is_watching = run->options.part >= 0;
+    run->first = run->is_watching ? run->options.part : 0;
+    if (!run->options.hosts)
+        return;
+    if (!gasnetl_parts_read(&run->parts, run->options.hosts, run->nodes)) {
+        fprintf(stderr, "gasnetrun: --hosts has no host, or one that begins with '-': name hosts as h0,h1\n");
+        exit(GASNETL_USAGE);
+    }
+    run->nodes = run->parts.count;
+}
+
+/* The status of this process. A part whose nodes others ended ends behind that of the node which did it. */
+static int judge(const struct run *run) {
+    if (!run->status || run->is_settled || run->is_told)
+        return run->status;
+    if (run->options.part >= 0)
+        usleep(BEHIND);
+    else
+        fprintf(stderr, "gasnetrun: the job ended with status %d\n", run->status);
+    return run->status;
 }
 
 int main(int argc, char **argv) {
     static struct run run;
     gasnetl_options_read(&run.options, argc, argv);
-    run.nodes = run.options.nodes;
+    share_out(&run);
     run.grace = read_grace();
     fill_streams();
     prepare(&run);
     catch_signals(&run);
     make_sockets(&run);
-    set_job(&run);
+    if (!run.is_watching)
+        set_job(&run);
+    set_pipes(&run);
     start(&run);
     while (run.alive) {
         wait_once(&run);
         reap(&run);
     }
     gasnetl_lines_end(&run.lines);
-    if (run.status && !run.is_settled && !run.is_told)
-        fprintf(stderr, "gasnetrun: the job ended with status %d\n", run.status);
-    return run.status;
+    return judge(&run);
 }

@@ -9,7 +9,6 @@
 enum { FRONT = 16, LAST_READS = 4 };
 
 /* A node's output is an even stream, its error the next one. */
-static int node_of(int stream) { return stream / 2; }
 static int target_of(int stream) { return stream % 2 ? STDERR_FILENO : STDOUT_FILENO; }
 
 static bool open_stream(struct gasnetl_stream *stream) {
@@ -22,7 +21,8 @@ static bool open_stream(struct gasnetl_stream *stream) {
     return true;
 }
 
-bool gasnetl_lines_open(struct gasnetl_lines *lines, int nodes) {
+bool gasnetl_lines_open(struct gasnetl_lines *lines, int first, int nodes) {
+    lines->first = first;
     lines->nodes = nodes;
     for (int stream = 0; stream < 2 * nodes; stream++)
         if (!open_stream(&lines->of[stream]))
@@ -54,9 +54,9 @@ static void write_whole(int to, const char *bytes, size_t length) {
 }
 
 /* Writes a line of so many bytes, without its end, behind the rank of its node. */
-static void write_line(int stream, const char *bytes, size_t length) {
+static void write_line(const struct gasnetl_lines *lines, int stream, const char *bytes, size_t length) {
     char line[GASNETL_LINES_MOST + FRONT + 1];
-    size_t count = (size_t)snprintf(line, FRONT, "%d: ", node_of(stream));
+    size_t count = (size_t)snprintf(line, FRONT, "%d: ", lines->first + stream / 2);
     memcpy(line + count, bytes, length);
     line[count + length] = '\n';
     write_whole(target_of(stream), line, count + length + 1);
@@ -67,14 +67,14 @@ static void write_lines(struct gasnetl_lines *lines, int stream) {
     struct gasnetl_stream *of = &lines->of[stream];
     char *begins = of->bytes, *ends;
     while ((ends = memchr(begins, '\n', of->length))) {
-        write_line(stream, begins, (size_t)(ends - begins));
+        write_line(lines, stream, begins, (size_t)(ends - begins));
         of->length -= (size_t)(ends + 1 - begins);
         begins = ends + 1;
     }
     memmove(of->bytes, begins, of->length);
     if (of->length < GASNETL_LINES_MOST)
         return;
-    write_line(stream, of->bytes, of->length);
+    write_line(lines, stream, of->bytes, of->length);
     of->length = 0;
 }
 
@@ -103,6 +103,6 @@ void gasnetl_lines_end(struct gasnetl_lines *lines) {
         for (int reads = 0; reads < LAST_READS && lines->of[stream].reads >= 0 && take(lines, stream);)
             reads++;
         if (lines->of[stream].length)
-            write_line(stream, lines->of[stream].bytes, lines->of[stream].length);
+            write_line(lines, stream, lines->of[stream].bytes, lines->of[stream].length);
     }
 }

@@ -21,12 +21,12 @@ struct gasnetl_stream {
 };
 
 struct gasnetl_lines {
-    int nodes; /* 0 where nothing is to tell its node */
+    int first, nodes; /* the first rank, and how many there are: 0 where nothing is to tell its node */
     struct gasnetl_stream of[GASNETL_STREAMS];
 };
 
-/* Has pipes for so many nodes. False where the system has none. */
-bool gasnetl_lines_open(struct gasnetl_lines *lines, int nodes);
+/* Has pipes for so many nodes, of the rank `first` and of those behind it. False where the system has none. */
+bool gasnetl_lines_open(struct gasnetl_lines *lines, int first, int nodes);
 
 /* In the process that becomes the node: it writes to the pipes. */
 void gasnetl_lines_become(const struct gasnetl_lines *lines, int node);

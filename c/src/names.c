@@ -43,6 +43,7 @@ static const struct variable variables[] = {
     { "GASNET_SEED", "1", "the seed of these faults" },
     { "GASNET_CC", "gcc", "the compiler of gasnetcc" },
     { "GASNET_GDB", "gdb", "the debugger of gasnetrun --gdb" },
+    { "GASNET_SSH", "ssh", "with its options: what gasnetrun --hosts runs a command on a host by" },
     /* These are gasnet_cli's, and those of the build and of the tests. */
     { "GASNET_AGENT", NULL, NULL },
     { "GASNET_C_LIB", NULL, NULL },

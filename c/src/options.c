@@ -11,13 +11,15 @@
 
 static const char help[] =
     "  -n N               how many nodes\n"
+    "  --hosts H0,H1      starts the nodes by ssh (GASNET_SSH) on these hosts, as many in a row on each\n"
     "  --prefix-output    begins each line that a node writes with its rank, as '3: '\n"
     "  --gdb RANK         starts that node in a debugger: gdb, or what GASNET_GDB names\n"
     "  --stacks [PID]     has the nodes of a running gasnetrun, of this process number, tell where their threads wait\n"
     "  --env              prints the variables that count, with their values and defaults\n"
     "  --help             prints this\n"
     "  --version          prints the version\n"
-    "PROGRAM runs as N nodes of one job on this host. The status is that of the node that ended the job.\n";
+    "PROGRAM runs as N nodes of one job on this host, or on those hosts. The status is that of the node that ended the "
+    "job.\n";
 
 static void print_usage(FILE *to) {
     fprintf(to, "usage: gasnetrun -n N [OPTIONS] PROGRAM ARGS    (N from 1 to %d)\n", GASNET_MAXNODES);
@@ -65,6 +67,10 @@ static char **read_option(struct gasnetl_options *options, char **at) {
         options->nodes = read_number(*++at, 1, GASNET_MAXNODES);
     else if (!strcmp(*at, "--gdb"))
         options->debugged = read_number(*++at, 0, GASNET_MAXNODES - 1);
+    else if (!strcmp(*at, "--part"))
+        options->part = read_number(*++at, 0, GASNET_MAXNODES - 1);
+    else if (!strcmp(*at, "--hosts"))
+        options->hosts = *++at;
     else if (!strcmp(*at, "--prefix-output"))
         options->prefixes = true;
     else if (!strcmp(*at, "--stacks"))
@@ -82,10 +88,11 @@ static char **read_option(struct gasnetl_options *options, char **at) {
 
 void gasnetl_options_read(struct gasnetl_options *options, int argc, char **argv) {
     char **at = argv + (argc > 0);
-    *options = (struct gasnetl_options){ .debugged = -1 };
+    *options = (struct gasnetl_options){ .debugged = -1, .part = -1 };
     while (*at && **at == '-')
         at = read_option(options, at);
+    const bool is_apart = options->hosts || options->part >= 0;
     options->words = at;
-    if (!options->nodes || !*at || options->debugged >= options->nodes)
+    if (!options->nodes || !*at || options->debugged >= options->nodes || (is_apart && options->debugged >= 0))
         refuse();
 }

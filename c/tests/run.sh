@@ -197,7 +197,7 @@ check "refusals that wait sanitized" 0 "" bash -c "refused out/sanitized"
 
 # On networks of namespaces, where they can be had: queues, packets of 1,500 bytes, loss, and nodes that compute.
 if why=$(tests/network can 2>&1); then
-    for test in incast loss phases stall icmp complete; do
+    for test in incast loss phases stall icmp complete hosts; do
         check "network $test" 0 "" tests/network "$test"
     done
 else
