@@ -597,6 +597,13 @@ check "hello" 0 "node 3 of 4: the squares' sum is 86" bin/gasnetrun -n 4 out/hel
 check "hello alone" 0 "node 0 of 1" out/hello
 check "gasnetcc ring" 0 "" bin/gasnetcc -Wall -Wextra -Werror examples/ring.c -o out/ring
 check "ring" 0 "node 3 has 2 from the node before it" bin/gasnetrun -n 4 out/ring
+for example in "mediums:26 words in 4 lines, by 4 nodes" "atomics:200 of 200 tickets are drawn" \
+    "regions:node 3 has numbers of 4 threads, whose sum is 20200"; do
+    name=${example%%:*}
+    check "example $name, gasnetcc" 0 "" bin/gasnetcc -Wall -Wextra -Werror "examples/$name.c" -o "out/$name"
+    check "example $name" 0 "${example#*:}" bin/gasnetrun -n 4 "out/$name"
+    check "example $name with loss" 0 "${example#*:}" env GASNET_DROP=20 bin/gasnetrun -n 4 "out/$name"
+done
 # The commands work by a link from another folder, and where their path has a space.
 mkdir -p out/links "out/a space/out"
 for command in gasnetcc gasnetrun; do ln -sf "../../bin/$command" out/links/; done
@@ -619,6 +626,11 @@ else
     check "$launcher by no interface" 0 "GASNET_INTERFACE is 'nowhere0': set it to an interface" \
         bash -c '! GASNET_INTERFACE=nowhere0 mpirun --oversubscribe -n 2 out/hello'
     check "$launcher ends" 5 "" mpirun --oversubscribe -n 4 out/tests/ends one 5
+    if [ -x out/tests/comex ] && [ -x out/sanitized/tests/comex ]; then
+        check "libcomex" 0 "all tests passed" comex/run-tests
+    else
+        skip "libcomex" "its tests aren't built: make comex-test GA=FOLDER, with the source of Global Arrays"
+    fi
 fi
 
 # The commands' own words, what `make install` puts down, and how they are used from there.
