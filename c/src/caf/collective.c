@@ -540,13 +540,6 @@ void _gfortran_caf_co_reduce(struct caf_descriptor *array, void *(*operation)(vo
     reduce(&combiner, array, result_image, &report, "co_reduce");
 }
 
-/* gfortran 12 sets neither the offset nor the span of the array that it makes for an object's component. */
-static void mend_span(struct caf_descriptor *array) {
-    const struct caf_bounds *dim = array->dim;
-    if (array->dtype.rank == 1 && array->offset != (size_t) - (dim->lower * dim->stride))
-        array->span = (ptrdiff_t)array->dtype.elem_len;
-}
-
 /* A barrier; the collective has its code, unless it had one before. */
 static void meet(struct caf_operation *operation) {
     int code = caf_barrier(operation->team);
@@ -576,13 +569,18 @@ static void broadcast_to_all(struct caf_operation *operation, int source, const 
         caf_all_images_broadcast(operation, source, part->bytes, part->length);
 }
 
+/* A component that has no memory has no elements. That changes nothing where the source has none (Fortran 2018,
+ * 16.9.46); where the source has some all images end, by the lengths. */
 void _gfortran_caf_co_broadcast(struct caf_descriptor *array, int source_image, CAF_ERRORS) {
     const struct caf_report report = report_of(stat, errmsg, errmsg_len);
     if (array->dtype.type == CAF_VOID ||
         !is_image(&report, "co_broadcast", source_image, 1)) /* not the tokens of an object */
         return;
+    struct caf_descriptor none = caf_without_elements(array);
+    if (!array->base)
+        array = &none;
     struct caf_operation operation = begin("co_broadcast", array);
-    mend_span(array);
+    caf_mend_span(array);
     struct part part = part_of(array, true, "co_broadcast");
     bool is_of_all = caf_all_images_broadcasts(operation.team, part.length);
     (is_of_all ? broadcast_to_all : broadcast_by_tree)(&operation, source_image - 1, &part);

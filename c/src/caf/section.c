@@ -27,6 +27,19 @@ static size_t extent(ptrdiff_t first, ptrdiff_t last, ptrdiff_t stride) {
     return is_empty ? 0 : (size_t)count;
 }
 
+void caf_mend_span(struct caf_descriptor *array) {
+    const struct caf_bounds *dim = array->dim;
+    if (array->dtype.rank == 1 && array->offset != (size_t) - (dim->lower * dim->stride))
+        array->span = (ptrdiff_t)array->dtype.elem_len;
+}
+
+struct caf_descriptor caf_without_elements(struct caf_descriptor *array) {
+    struct caf_descriptor none = { .base = array, .dtype = array->dtype, .dim[0] = { 1, 1, 0 } };
+    none.dtype.rank = 1;
+    none.span = (ptrdiff_t)array->dtype.elem_len;
+    return none;
+}
+
 struct caf_section caf_section_of(const struct caf_descriptor *array, uintptr_t base) {
     struct caf_section section = caf_section_bytes(base, array->dtype.elem_len);
     for (int k = 0; k < array->dtype.rank; k++)

@@ -27,6 +27,12 @@ struct caf_section {
 /* Consecutive bytes. */
 struct caf_section caf_section_bytes(uintptr_t base, size_t length);
 
+/* gfortran 12 sets neither the offset nor the span of the array that it makes for an object's component: sets that. */
+void caf_mend_span(struct caf_descriptor *array);
+
+/* An array of this one's type without elements. Nothing is read at its base. */
+struct caf_descriptor caf_without_elements(struct caf_descriptor *array);
+
 /* The elements of an array whose first one lies at base. */
 struct caf_section caf_section_of(const struct caf_descriptor *array, uintptr_t base);
 

@@ -26,6 +26,10 @@ module parts
     integer :: number
     integer, allocatable :: list(:), one
   end type
+  type rows
+    integer :: number
+    integer, allocatable :: list(:)
+  end type
 contains
   integer function hello(this)
    class(b), intent(in) :: this
@@ -71,10 +75,37 @@ program o
   call co_broadcast(object, num_images())
   call check(object%number == num_images() .and. all(object%list == num_images()*[1, 2, 3]) .and. object%one == num_images(), &
              'co_broadcast of an object')
+  call empties(me)
   call complex_scalars(me, n)
   call linked(me, n)
   if (me == 1) print *, 'components: done'
 contains
+  ! Components that have no elements, or that no image has allocated, are no error (Fortran 2018, 16.9.46).
+  subroutine empties(me)
+    integer, intent(in) :: me
+    type(plain), save :: never
+    never%number = me
+    call co_broadcast(never, num_images())
+    call check(never%number == num_images() .and. .not. allocated(never%list) .and. .not. allocated(never%one), &
+               'co_broadcast of what no image has allocated')
+    call built_empty(me)
+    call allocated_empty(me)
+  end subroutine
+  subroutine built_empty(me)
+    integer, intent(in) :: me
+    type(rows) :: built
+    built = rows(me, [integer ::]) ! gfortran 12 gives the list no memory
+    call co_broadcast(built, num_images())
+    call check(built%number == num_images(), 'co_broadcast with an empty list')
+  end subroutine
+  subroutine allocated_empty(me)
+    integer, intent(in) :: me
+    type(rows) :: emptied
+    emptied%number = me
+    allocate (emptied%list(0))
+    call co_broadcast(emptied, 1)
+    call check(emptied%number == 1 .and. size(emptied%list) == 0, 'co_broadcast of no elements')
+  end subroutine
   ! gfortran takes a copy of a complex scalar coarray, and assigns to the copy too; so each value is sent.
   subroutine complex_scalars(me, n)
     integer, intent(in) :: me, n
