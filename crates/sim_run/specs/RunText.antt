@@ -109,7 +109,7 @@ violation_line node violation =
 -- the line of a node: what it holds, the most that it held, and how many violations it noted
 abbrev pub node_line : (node now most violations : ℕ) → Line
 node_line node now most violations =
-    codes "node" ∷ decimal node ∷ codes "held_buffers" ∷ decimal now ∷ codes "most" ∷ decimal most
+    codes "node" ∷ decimal node ∷ codes "held" ∷ decimal now ∷ codes "most" ∷ decimal most
     ∷ codes "violations" ∷ decimal violations ∷ []
 
 -- the lines of a node with this record, which held at most so much: its own, and those of its last violations
