@@ -75,7 +75,7 @@ pub happens_at : (job : EndpointJob) (world : Records) (node now : ℕ) (first :
 happens_at job world node now [] event rest [] are = absurd are
 happens_at job world node now [] event rest (timed ∷ happened) are = record {
   before = [];
-  timed = timed_event;
+  timed = timed;
   later = happened;
   happened_is = refl;
   now_is = are.0;

@@ -58,11 +58,11 @@ use Rattle.sim_versions.proofs.Worlds.{event_alike}
 
 -- the words of the answer to an event
 event_words_alike : (v : Versions) (world : Records) (timed : EventAt OtherCall) → Stood v world
-    → event_words (other_job v) (respell_world v.spell world) timed ≡ event_words (one_job v) world timed_event
-event_words_alike v world timed_event stood =
+    → event_words (other_job v) (respell_world v.spell world) timed ≡ event_words (one_job v) world timed
+event_words_alike v world timed stood =
     let alike = event_alike v world timed.now timed.event stood.holds stood.notes in
     let node = node_of_event timed.event in
-    let after = world_after (one_job v) world timed_event node in
+    let after = world_after (one_job v) world timed node in
     ap (λ (w : Records). world_words (sight_of (other_job v).settings node (w node))
     (world_told (world_answer (other_job v) (respell_world v.spell world) timed))) alike.after
     ∙ (ap (λ (sight : Sight). world_words sight
@@ -211,7 +211,7 @@ most_alike : (v : Versions) (sound : AreSound v) (events : List (EventAt OtherCa
 most_alike v sound [] world most stood among = refl
 most_alike v sound (timed ∷ rest) world most stood among =
     let first = after_events v sound (timed ∷ []) world stood (among.0, tt) in
-    let after = world_after (one_job v) world timed_event in
+    let after = world_after (one_job v) world timed in
     ap (λ (w : Records). most_after (other_job v) rest w (most_then (other_job v).settings w most)) first.0
     ∙ (ap (most_after (other_job v) rest (respell_world v.spell after)) (then_alike v after most)
     ∙ most_alike v sound rest after (most_then v.settings after most) first.1 among.1)
