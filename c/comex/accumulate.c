@@ -3,8 +3,10 @@
 #include <string.h>
 
 #include "handlers.h"
+#include "stage.h"
 
 enum { UNIT = 16, LARGEST = 8192 }; /* numbers aren't cut: the largest one has 16 bytes */
+enum { LONG = 131072 };             /* rows of so many bytes go by rooms */
 
 /* What is packed: one thread sends. */
 static _Alignas(UNIT) char packet[LARGEST];
@@ -37,27 +39,41 @@ static void send_some(const struct comexg_scaled *scaled, int node, const struct
                                         comexg_high(place), (int32_t)rows->bytes, (int32_t)rows->dst_stride));
 }
 
+/* How rows go: by Mediums, or where they are many by rooms. */
+struct way {
+    size_t most;
+    void (*send)(const struct comexg_scaled *scaled, int node, const struct comexg_rows *rows);
+};
+
+static struct way way_of(int node, const struct comexg_rows *rows) {
+    const bool is_long = rows->bytes * rows->count >= LONG && comexg_stage_is_at(node);
+    return is_long ? (struct way){ COMEXG_ROOM, comexg_stage_rows } : (struct way){ most(), send_some };
+}
+
 /* Sends a row that is longer than a message. */
-static void send_long(const struct comexg_scaled *scaled, int node, const char *src, char *dst, size_t bytes) {
-    for (size_t done = 0; done < bytes;) {
-        const size_t part = at_most(bytes - done, most());
-        send_some(scaled, node, &(struct comexg_rows){ src + done, dst + done, part, 1, part, part });
+static void send_long(const struct way *way, const struct comexg_scaled *scaled, int node,
+                      const struct comexg_rows *row) {
+    for (size_t done = 0; done < row->bytes;) {
+        const size_t part = at_most(row->bytes - done, way->most);
+        way->send(scaled, node, &(struct comexg_rows){ row->src + done, row->dst + done, part, 1, part, part });
         done += part;
     }
 }
 
 void comexg_send_rows(const struct comexg_scaled *scaled, int node, const struct comexg_rows *rows) {
-    const size_t fit = most() / rows->bytes, each = fit ? fit : 1;
+    const struct way way = way_of(node, rows);
+    const size_t fit = way.most / rows->bytes, each = fit ? fit : 1;
     for (size_t done = 0; done < rows->count; done += each) {
         struct comexg_rows part = *rows;
         part.src += done * rows->src_stride;
         part.dst += done * rows->dst_stride;
         part.count = at_most(each, rows->count - done);
         if (fit)
-            send_some(scaled, node, &part);
+            way.send(scaled, node, &part);
         else
-            send_long(scaled, node, part.src, part.dst, part.bytes);
+            send_long(&way, scaled, node, &part);
     }
+    comexg_stage_end();
 }
 
 void comexg_add_rows_handler(gasnet_token_t from, void *bytes, size_t length, int32_t op, int32_t scale0,

@@ -39,8 +39,8 @@ struct comexg_scaled comexg_scaled(int op, const void *scale) {
 
 #define ADD(name, type)                                                                                                \
     static void name(const void *by, void *to, const void *from, size_t bytes) {                                       \
-        type *dst = to;                                                                                                \
-        const type *src = from;                                                                                        \
+        type *restrict dst = to;                                                                                       \
+        const type *restrict src = from;                                                                               \
         type scale;                                                                                                    \
         memcpy(&scale, by, sizeof scale);                                                                              \
         for (size_t i = 0; i < bytes / sizeof *dst; i++)                                                               \
@@ -49,8 +49,8 @@ struct comexg_scaled comexg_scaled(int op, const void *scale) {
 
 #define ADD_COMPLEX(name, type)                                                                                        \
     static void name(const void *by, void *to, const void *from, size_t bytes) {                                       \
-        type *dst = to, scale;                                                                                         \
-        const type *src = from;                                                                                        \
+        type *restrict dst = to, scale;                                                                                \
+        const type *restrict src = from;                                                                               \
         memcpy(&scale, by, sizeof scale);                                                                              \
         for (size_t i = 0; i < bytes / sizeof *dst; i++) {                                                             \
             dst[i].real += scale.real * src[i].real - scale.imaginary * src[i].imaginary;                              \

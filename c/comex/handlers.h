@@ -11,6 +11,12 @@ void comexg_add_rows_handler(gasnet_token_t from, void *bytes, size_t length, in
 void comexg_add_places_handler(gasnet_token_t from, void *bytes, size_t length, int32_t op, int32_t scale0,
                                int32_t scale1, int32_t scale2, int32_t scale3, int32_t row);
 
+/* stage.c: adds what is in a room of the sender's, and replies COMEXG_ROOM_ADDED. */
+void comexg_add_room_handler(gasnet_token_t from, int32_t op, int32_t scale0, int32_t scale1, int32_t scale2,
+                             int32_t scale3, int32_t low, int32_t high, int32_t row, int32_t stride, int32_t count,
+                             int32_t number);
+void comexg_room_added_handler(gasnet_token_t from, int32_t number);
+
 /* words.c: does a read-modify-write, and replies what the number was. */
 void comexg_word_handler(gasnet_token_t from, int32_t op, int32_t low, int32_t high, int32_t operand_low,
                          int32_t operand_high, int32_t answer_low, int32_t answer_high);

@@ -7,6 +7,7 @@
 #include "groups.h"
 #include "handlers.h"
 #include "order.h"
+#include "stage.h"
 #include "watch.h"
 
 struct comexg_state comexg_state = { .lock = GASNET_HSL_INITIALIZER };
@@ -39,10 +40,11 @@ void comexg_die(const char *format, ...) {
 /* ---- The start. */
 
 static gasnet_handlerentry_t handlers[] = {
-    { COMEXG_ADD_ROWS, comexg_add_rows_handler },   { COMEXG_ADD_PLACES, comexg_add_places_handler },
-    { COMEXG_ADDED, comexg_added_handler },         { COMEXG_WORD, comexg_word_handler },
-    { COMEXG_WORD_DONE, comexg_word_done_handler }, { COMEXG_LOCK, comexg_lock_handler },
-    { COMEXG_UNLOCK, comexg_unlock_handler },       { COMEXG_GRANTED, comexg_granted_handler },
+    { COMEXG_ADD_ROWS, comexg_add_rows_handler },     { COMEXG_ADD_PLACES, comexg_add_places_handler },
+    { COMEXG_ADDED, comexg_added_handler },           { COMEXG_ADD_ROOM, comexg_add_room_handler },
+    { COMEXG_ROOM_ADDED, comexg_room_added_handler }, { COMEXG_WORD, comexg_word_handler },
+    { COMEXG_WORD_DONE, comexg_word_done_handler },   { COMEXG_LOCK, comexg_lock_handler },
+    { COMEXG_UNLOCK, comexg_unlock_handler },         { COMEXG_GRANTED, comexg_granted_handler },
     { COMEXG_UNLOCKED, comexg_unlocked_handler },
 };
 
@@ -58,6 +60,7 @@ static void attach(void) {
         comexg_die("gasnet_attach failed");
     GASNET_SAFE(gasnet_getSegmentInfo(segments, comexg_state.size));
     caf_heap_start(&comexg_state.heap, segments[comexg_state.me].addr, segments[comexg_state.me].size);
+    comexg_stage_start();
     comexg_state.is_attached = true;
 }
 

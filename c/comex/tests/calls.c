@@ -165,6 +165,26 @@ OF_TYPE(of_double, double, COMEX_ACC_DBL)
 OF_COMPLEX(of_single_complex, float, COMEX_ACC_CPL)
 OF_COMPLEX(of_double_complex, double, COMEX_ACC_DCP)
 
+/* Of more numbers than messages take: 210,000 that lie together, and those of each second row of 700. */
+static void long_sums(void) {
+    enum { MANY = 210000, ROW = 700, EACH = 2 * ROW * sizeof(int) };
+    static int numbers[MANY], scale = 2;
+    int rows[] = { ROW * sizeof(int), MANY / (2 * ROW) }, stride = EACH, *sums;
+    void *places[64];
+    CHECK(comex_malloc(places, sizeof numbers, WORLD) == COMEX_SUCCESS);
+    sums = places[0];
+    memset(places[me], 0, sizeof numbers);
+    for (int i = 0; i < MANY; i++)
+        numbers[i] = i + me;
+    comex_barrier(WORLD);
+    comex_acc(COMEX_ACC_INT, &scale, numbers, sums, sizeof numbers, 0, WORLD);
+    comex_accs(COMEX_ACC_INT, &scale, numbers, &stride, sums, &stride, rows, 1, 0, WORLD);
+    comex_barrier(WORLD);
+    for (int i = 0; me == 0 && i < MANY; i++)
+        CHECK(sums[i] == (i / ROW % 2 ? 2 : 4) * (size * i + size * (size - 1) / 2));
+    comex_free(places[me], WORLD);
+}
+
 /* ---- Words, mutexes, and a target that makes no call. */
 
 static void words(void) {
@@ -272,7 +292,8 @@ static void (*const tests[])(void) = { puts_in_order,
                                        mutexes,
                                        while_it_computes,
                                        groups,
-                                       too_much };
+                                       too_much,
+                                       long_sums };
 
 int main(int argc, char **argv) {
     MPI_Init(&argc, &argv);
