@@ -160,17 +160,17 @@ impl<'a> Machine for Recorder<'a> {
     }
 
     fn turn(&mut self, thread: u16, now: u64, got: Option<&[u8]>) -> Turned {
-        let turn_result = self.node.turn(thread, now, got);
+        let turned = self.node.turn(thread, now, got);
         self.most = self.most.max(self.node.endpoint().held());
         let rank = self.rank;
         let told = tell_step(
             StepAt { rank, thread },
-            turn_result.stepped,
+            turned.stepped,
             &self.node,
             &mut self.text,
         );
         self.whole = self.whole && told;
-        turn_result
+        turned
     }
 
     fn outgoing(&self, i: u8) -> Option<(u16, &[u8])> {
