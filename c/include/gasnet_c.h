@@ -231,7 +231,8 @@ uint32_t gasnet_c_new(gasnet_c_node *node, const gasnet_c_setup *setup, gasnet_c
  * C's again. */
 void gasnet_c_free(gasnet_c_node *node);
 
-/* A tick: at most one datagram that is due goes out. RESENT, NOTE, CHUNK, or NOTHING. */
+/* A tick: at most one datagram that is due goes out. RETRANSMISSION, NOTIFICATION, CHUNK, or
+ * NOTHING. */
 gasnet_c_told gasnet_c_tick(gasnet_c_node *node, uint64_t now, uint8_t *buffer, size_t room);
 
 /* The datagram of an open request once more: of the one to the node `to` that stands in that slot, as a told answer

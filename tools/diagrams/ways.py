@@ -78,7 +78,7 @@ PUT = Way(
         ]),
     ],
     [
-        Note("left", 4, ["A request or an Ack that is lost: a tick sends the request again,", "once GASNET_RESEND has passed, and it has its Ack again."]),
+        Note("left", 4, ["A request or an Ack that is lost: the layer sends the request again,", "by measured round trips, and it is acknowledged again."]),
         Note("right", 6, ["grey: proved, in Rattle", "white: the C layer, tested"]),
     ],
 )  # fmt: skip
