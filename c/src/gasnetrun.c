@@ -13,6 +13,7 @@
 #include <string.h>
 #include <sys/prctl.h>
 #include <sys/random.h>
+#include <sys/resource.h>
 #include <sys/signalfd.h>
 #include <sys/stat.h>
 #include <sys/wait.h>
@@ -44,6 +45,7 @@ struct run {
     struct gasnetl_parts parts; /* those on other hosts: the children are these, and no nodes */
     int first, nodes, alive;    /* the rank of the first child, how many there were, and are */
     int grace;                  /* the milliseconds that the others have where a node failed: GASNET_GRACE */
+    struct rlimit files;        /* the descriptors that this process could have as it was started */
     int sockets[NODES];
     char addresses[NODES * TEXT];
     pid_t children[NODES];
@@ -86,6 +88,15 @@ static void make_sockets(struct run *run) {
         length +=
             (size_t)snprintf(run->addresses + length, TEXT, "%s127.0.0.1:%u", node ? "," : "", ntohs(address.sin_port));
     }
+}
+
+/* Many nodes have more pipes and sockets here than a process usually may have descriptors. The nodes get the limit back
+ * with which this process was started. */
+static void widen_files(struct run *run) {
+    if (getrlimit(RLIMIT_NOFILE, &run->files))
+        fail("no limit can be had");
+    const struct rlimit all = { run->files.rlim_max, run->files.rlim_max };
+    setrlimit(RLIMIT_NOFILE, &all);
 }
 
 static void set_number(const char *name, uint64_t value) {
@@ -161,6 +172,7 @@ static _Noreturn void become_node(const struct run *run, int node) {
     set_number("GASNET_RANK", (uint64_t)(run->first + node));
     if (run->sockets[node] >= 0)
         set_number("GASNET_SOCKET", (uint64_t)run->sockets[node]);
+    setrlimit(RLIMIT_NOFILE, &run->files);
     become_program(run->options.words, node == run->options.debugged);
 }
 
@@ -168,6 +180,7 @@ static _Noreturn void become_node(const struct run *run, int node) {
 static _Noreturn void become_part(const struct run *run, int part) {
     if (dup2(run->lifeline[0], STDIN_FILENO) < 0)
         exit(REFUSED);
+    setrlimit(RLIMIT_NOFILE, &run->files);
     gasnetl_part_become(&run->parts.of[part], &run->options);
 }
 
@@ -488,6 +501,7 @@ int main(int argc, char **argv) {
     share_out(&run);
     run.grace = read_grace();
     fill_streams();
+    widen_files(&run);
     prepare(&run);
     catch_signals(&run);
     make_sockets(&run);

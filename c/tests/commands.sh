@@ -34,11 +34,16 @@ fails_while_others_write() { # a node that fails ends the others, though they wr
 left_behind() { # a process that a node leaves behind, and that writes without end, isn't waited for
     timeout 20 bin/gasnetrun -n 2 --prefix-output bash -c '(timeout 5 yes &) ; sleep 0.2; echo last' | grep -c last
 }
-export -f left_behind prefixed long_lines fails_while_others_write
+of_many() { # 256 nodes have more pipes than a process has descriptors as a rule; the nodes have as many as gasnetrun had
+    ulimit -S -n 1024
+    [ "$(bin/gasnetrun -n 256 --prefix-output sh -c 'ulimit -S -n' | cut -d ' ' -f 2 | sort | uniq -c | xargs)" = "256 1024" ]
+}
+export -f left_behind prefixed long_lines fails_while_others_write of_many
 check "gasnetrun --prefix-output" 0 "" bash -c prefixed
 check "gasnetrun --prefix-output, long lines" 0 "" bash -c long_lines
 check "gasnetrun --prefix-output, an end" 5 "node 0 ended with status 5" bash -c fails_while_others_write
 check "gasnetrun --prefix-output, left behind" 0 "^2$" bash -c left_behind
+check "gasnetrun --prefix-output, 256 nodes" 0 "" bash -c of_many
 if command -v gdb >/dev/null; then
     check "gasnetrun --gdb" 0 "node 1 of 2.*\|Inferior 1 .* exited normally" env GASNET_GDB="gdb -q -batch -ex run" bin/gasnetrun -n 2 --gdb 1 out/hello
 else
