@@ -15,6 +15,7 @@ check "gasnetrun --hosts of none" 64 "no host" bin/gasnetrun -n 2 --hosts , out/
 check "gasnetrun --hosts of an option" 64 "begins with '-'" bin/gasnetrun -n 2 --hosts h0,-oProxyCommand=true out/tests/barriers
 check "gasnetrun --hosts, no such program" 127 "^gasnetrun: out/no-ssh, which is to start nodes on h0, can't be started .*: set GASNET_SSH" \
     env GASNET_SSH=out/no-ssh bin/gasnetrun -n 2 --hosts h0 out/tests/barriers
+check "cafrun --hosts of two" 64 "no host, or one that begins with '-'" bin/cafrun -n 2 --hosts "h0 -h1" out/tests/barriers
 check "gasnetrun --gdb of no node" 64 "usage" bin/gasnetrun -n 2 --gdb 2 out/tests/barriers
 
 # Each line has its node's rank in front, whole, on either stream; so has one without an end, and one that its node's end cuts.
