@@ -26,6 +26,7 @@
 #include "options.h"
 #include "parts.h"
 #include "runner.h"
+#include "running.h"
 #include "sockets.h"
 
 enum {
@@ -373,6 +374,8 @@ static void ask_stacks(const struct run *run) {
             fprintf(stderr, "gasnetrun: node %d hasn't called gasnet_init, or handles SIGUSR2 itself\n", rank);
         else if (is_stopped(teller))
             fprintf(stderr, "gasnetrun: node %d (process %d) is stopped, by a signal or a debugger\n", rank, teller);
+        else if (!gasnetl_running_catches(teller, SIGUSR2)) /* it would end what has the number now */
+            fprintf(stderr, "gasnetrun: node %d (process %d) has ended, or is another program now\n", rank, teller);
         else
             kill(teller, SIGUSR2);
     }

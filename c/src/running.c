@@ -17,7 +17,7 @@ enum { PATH = 64, LINE = 256, NAME = 32, REFUSED = 71 };
 struct process {
     char name[NAME];
     unsigned user;
-    unsigned long long blocked; /* a bit for each signal, from 1 on */
+    unsigned long long blocked, caught; /* a bit for each signal, from 1 on */
 };
 
 static bool read_process(int number, struct process *process) {
@@ -27,10 +27,16 @@ static bool read_process(int number, struct process *process) {
     FILE *file = fopen(path, "r");
     while (file && fgets(line, sizeof line, file))
         found += sscanf(line, "Name: %31s", process->name) == 1 || sscanf(line, "Uid: %u", &process->user) == 1 ||
-                 sscanf(line, "SigBlk: %llx", &process->blocked) == 1;
+                 sscanf(line, "SigBlk: %llx", &process->blocked) == 1 ||
+                 sscanf(line, "SigCgt: %llx", &process->caught) == 1;
     if (file)
         fclose(file);
-    return found == 3;
+    return found == 4;
+}
+
+bool gasnetl_running_catches(int number, int signal) {
+    struct process process;
+    return read_process(number, &process) && process.caught >> (signal - 1) & 1;
 }
 
 /* Whether a process is this user's, and is another gasnetrun, which takes SIGUSR2: it would end one that doesn't yet.

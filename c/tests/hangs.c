@@ -5,7 +5,8 @@
  *   hangs condition    node 0 waits for what never holds
  *   hangs lock         a thread of node 0 holds a lock for ever, and another wants it
  *   hangs handler      a handler of node 0 doesn't return
- *   hangs messages     node 1 polls not, and node 0 asks it until it has no credit */
+ *   hangs messages     node 1 polls not, and node 0 asks it until it has no credit
+ *   hangs program      it becomes another program, that ends well after 3 seconds */
 #define GASNET_PAR 1
 #include <signal.h>
 #include <stdatomic.h>
@@ -80,6 +81,8 @@ static void hang_handler(void) {
     GASNET_BLOCKUNTIL(never);
 }
 
+static void become_program(void) { execlp("sleep", "sleep", "3", NULL); }
+
 static void hang_condition(void) { GASNET_BLOCKUNTIL(never); }
 
 int main(int argc, char **argv) {
@@ -87,7 +90,8 @@ int main(int argc, char **argv) {
         const char *name;
         void (*hang)(void);
     } ways[] = { { "barrier", hang_barrier },     { "put", hang_put },           { "lock", hang_lock },
-                 { "condition", hang_condition }, { "messages", hang_messages }, { "handler", hang_handler } };
+                 { "condition", hang_condition }, { "messages", hang_messages }, { "handler", hang_handler },
+                 { "program", become_program } };
     gasnet_handlerentry_t table[] = { { NOTHING, (void (*)())nothing }, { STAY, (void (*)())stay } };
     GASNET_SAFE(gasnet_init(&argc, &argv));
     GASNET_SAFE(gasnet_attach(table, 2, GASNET_PAGESIZE, 0));

@@ -48,4 +48,9 @@ export -f one_asked
 check "stacks, of one node" 0 "" bash -c one_asked
 check "stacks, of a program that isn't GASNet's" 0 "node 1 hasn't called gasnet_init" bash -c \
     'bin/gasnetrun -n 2 sleep 2 & runner=$!; sleep 0.5; out/gasnetrun --stacks $runner; wait $runner'
+# A node that became another program, which SIGUSR2 would end, isn't sent it; nor is what has the number of one that ended.
+check "stacks, of a node that became another program" 0 "node 0 (process [0-9]*) has ended, or is another program now" bash -c \
+    'bin/gasnetrun -n 1 out/tests/hangs program & runner=$!; sleep 1; out/gasnetrun --stacks $runner; wait $runner'
+check "stacks, of a node that ended before its shell" 0 "node 0 (process [0-9]*) has ended" bash -c \
+    'bin/gasnetrun -n 1 sh -c "out/tests/barriers; sleep 2; true" & runner=$!; sleep 1.5; out/gasnetrun --stacks $runner; wait $runner'
 check "stacks, of no job" 64 "no gasnetrun has this number" bin/gasnetrun --stacks $$
