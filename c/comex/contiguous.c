@@ -1,4 +1,6 @@
 /* Puts and gets of bytes that lie together. */
+#include "contiguous.h"
+
 #include <string.h>
 
 #include "groups.h"
@@ -30,16 +32,19 @@ static void put_there(int node, void *dst, void *src, size_t bytes) {
     comexg_put_begins(node, range);
 }
 
-int comex_put(void *src, void *dst, int bytes, int proc, comex_group_t group) {
-    const int node = comexg_node(proc, group);
-    const size_t length = (size_t)check("comex_put", bytes);
+void comexg_put(int node, void *dst, void *src, size_t bytes) {
     if (is_here(node)) {
-        memmove(dst, src, length);
-        return COMEX_SUCCESS;
+        memmove(dst, src, bytes);
+        return;
     }
     comexg_enter();
-    put_there(node, dst, src, length);
+    put_there(node, dst, src, bytes);
     comexg_leave();
+}
+
+int comex_put(void *src, void *dst, int bytes, int proc, comex_group_t group) {
+    const int node = comexg_node(proc, group);
+    comexg_put(node, dst, src, (size_t)check("comex_put", bytes));
     return COMEX_SUCCESS;
 }
 

@@ -1,6 +1,7 @@
 /* Strided puts and gets. */
 #include <string.h>
 
+#include "contiguous.h"
 #include "groups.h"
 #include "requests.h"
 #include "shape.h"
@@ -48,8 +49,10 @@ int comex_puts(void *src, int *src_stride, void *dst, int *dst_stride, int *coun
                                   .src = src,
                                   .dst = dst,
                                   .node = comexg_node(proc, group) };
-    if (!call.shape.levels)
-        return comex_put(src, dst, (int)call.shape.count[0], proc, group);
+    if (!call.shape.levels) {
+        comexg_put(call.node, dst, src, call.shape.count[0]);
+        return COMEX_SUCCESS;
+    }
     comexg_enter();
     gasnet_wait_syncnb(begin_put(&call));
     comexg_leave();

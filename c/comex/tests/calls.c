@@ -6,6 +6,7 @@
 #include <stdio.h>
 #include <stdlib.h>
 #include <string.h>
+#include <sys/mman.h>
 #include <time.h>
 
 enum { WORLD = COMEX_GROUP_WORLD, NUMBERS = 4096, TURNS = 100 };
@@ -111,6 +112,17 @@ static void shapes(void) {
     comex_get(to, back, sizeof back, next, WORLD);
     for (int i = 0; i < CUBE; i++)
         CHECK(back[i] == (is_in_block(i) ? 3 * sent[i] : 0));
+}
+
+/* Rows that lie together have more bytes than an int counts. They are put where they are: that moves nothing. */
+static void long_shape(void) {
+    enum { ROWS = 1 << 16, ROW = 1 << 15 };
+    int rows[] = { ROW, ROWS }, apart[] = { ROW };
+    const size_t bytes = (size_t)ROWS * ROW;
+    char *at = mmap(NULL, bytes, PROT_READ | PROT_WRITE, MAP_PRIVATE | MAP_ANONYMOUS | MAP_NORESERVE, -1, 0);
+    CHECK(at != MAP_FAILED);
+    CHECK(comex_puts(at, apart, at, apart, rows, 1, me, WORLD) == COMEX_SUCCESS);
+    munmap(at, bytes);
 }
 
 /* Each third number, listed backwards. */
@@ -277,23 +289,11 @@ static void too_much(void) {
     comex_free(places[me], WORLD);
 }
 
-static void (*const tests[])(void) = { puts_in_order,
-                                       long_ones,
-                                       requests,
-                                       shapes,
-                                       lists,
-                                       of_int,
-                                       of_long,
-                                       of_float,
-                                       of_double,
-                                       of_single_complex,
-                                       of_double_complex,
-                                       words,
-                                       mutexes,
-                                       while_it_computes,
-                                       groups,
-                                       too_much,
-                                       long_sums };
+static void (*const tests[])(void) = {
+    puts_in_order, long_ones, requests,          shapes,    long_shape,        lists,
+    of_int,        of_long,   of_float,          of_double, of_single_complex, of_double_complex,
+    words,         mutexes,   while_it_computes, groups,    too_much,          long_sums
+};
 
 int main(int argc, char **argv) {
     MPI_Init(&argc, &argv);
