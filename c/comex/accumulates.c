@@ -123,6 +123,7 @@ int comex_accv(int op, void *scale, comex_giov_t *darr, int len, int proc, comex
     const int node = comexg_node(proc, group);
     comexg_enter();
     comexg_fence_puts(node);
+    comexg_finish_gets(node);
     for (int i = 0; i < len; i++)
         add_list(&scaled, node, &darr[i]);
     comexg_leave();

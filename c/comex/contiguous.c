@@ -23,7 +23,7 @@ static int check(const char *call, int bytes) {
 
 static void put_there(int node, void *dst, void *src, size_t bytes) {
     const struct comexg_range range = comexg_range(dst, bytes);
-    comexg_before_access(node, range);
+    comexg_before_write(node, range);
     if (bytes > COPIED) {
         gasnet_put_bulk((gasnet_node_t)node, dst, src, bytes);
         return;
@@ -56,7 +56,7 @@ int comex_get(void *src, void *dst, int bytes, int proc, comex_group_t group) {
         return COMEX_SUCCESS;
     }
     comexg_enter();
-    comexg_before_access(node, comexg_range(src, length));
+    comexg_before_read(node, comexg_range(src, length));
     gasnet_get_bulk(dst, (gasnet_node_t)node, src, length);
     comexg_leave();
     return COMEX_SUCCESS;
@@ -66,7 +66,7 @@ int comex_get(void *src, void *dst, int bytes, int proc, comex_group_t group) {
 
 static void begin_put(int node, void *dst, void *src, size_t bytes, comex_request_t *request) {
     const struct comexg_range range = comexg_range(dst, bytes);
-    comexg_before_access(node, range);
+    comexg_before_write(node, range);
     if (request)
         *request = comexg_request(gasnet_put_nb_bulk((gasnet_node_t)node, dst, src, bytes));
     else
@@ -89,11 +89,13 @@ int comex_nbput(void *src, void *dst, int bytes, int proc, comex_group_t group, 
 }
 
 static void begin_get(int node, void *dst, void *src, size_t bytes, comex_request_t *request) {
-    comexg_before_access(node, comexg_range(src, bytes));
+    const struct comexg_range range = comexg_range(src, bytes);
+    comexg_before_read(node, range);
     if (request)
         *request = comexg_request(gasnet_get_nb_bulk(dst, (gasnet_node_t)node, src, bytes));
     else
         gasnet_get_nbi_bulk(dst, (gasnet_node_t)node, src, bytes);
+    comexg_get_begins(node, range);
 }
 
 int comex_nbget(void *src, void *dst, int bytes, int proc, comex_group_t group, comex_request_t *request) {

@@ -37,7 +37,7 @@ static gasnet_handle_t begin_put(const struct strided *call) {
     if (is_done_here(call))
         return GASNET_INVALID_HANDLE;
     const struct comexg_range range = comexg_extent(shape, shape->dst_stride, call->dst);
-    comexg_before_access(call->node, range);
+    comexg_before_write(call->node, range);
     comexg_put_begins(call->node, range);
     return gasnet_puts_nb_bulk((gasnet_node_t)call->node, call->dst, shape->dst_stride, call->src, shape->src_stride,
                                shape->count, shape->levels);
@@ -75,11 +75,15 @@ int comex_nbputs(void *src, int *src_stride, void *dst, int *dst_stride, int *co
 
 /* ---- Gets. */
 
-static gasnet_handle_t begin_get(const struct strided *call) {
+/* Nobody waits for one that `stays` open as the call returns. */
+static gasnet_handle_t begin_get(const struct strided *call, bool stays) {
     const struct comexg_shape *shape = &call->shape;
     if (is_done_here(call))
         return GASNET_INVALID_HANDLE;
-    comexg_before_access(call->node, comexg_extent(shape, shape->src_stride, call->src));
+    const struct comexg_range range = comexg_extent(shape, shape->src_stride, call->src);
+    comexg_before_read(call->node, range);
+    if (stays)
+        comexg_get_begins(call->node, range);
     return gasnet_gets_nb_bulk(call->dst, shape->dst_stride, (gasnet_node_t)call->node, call->src, shape->src_stride,
                                shape->count, shape->levels);
 }
@@ -91,7 +95,7 @@ int comex_gets(void *src, int *src_stride, void *dst, int *dst_stride, int *coun
                                   .dst = dst,
                                   .node = comexg_node(proc, group) };
     comexg_enter();
-    gasnet_wait_syncnb(begin_get(&call));
+    gasnet_wait_syncnb(begin_get(&call, false));
     comexg_leave();
     return COMEX_SUCCESS;
 }
@@ -103,7 +107,7 @@ int comex_nbgets(void *src, int *src_stride, void *dst, int *dst_stride, int *co
                                   .dst = dst,
                                   .node = comexg_node(proc, group) };
     comexg_enter();
-    const comex_request_t number = comexg_request(begin_get(&call));
+    const comex_request_t number = comexg_request(begin_get(&call, true));
     comexg_leave();
     if (request)
         *request = number;

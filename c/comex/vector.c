@@ -24,6 +24,7 @@ static void put_list(int node, const comex_giov_t *list) {
 
 static void get_list(int node, const comex_giov_t *list) {
     const size_t count = (size_t)list->count, bytes = (size_t)list->bytes;
+    comexg_get_begins(node, extent(list->src, list));
     gasnet_geti_nbi_bulk(count, list->dst, bytes, (gasnet_node_t)node, count, list->src, bytes);
 }
 
@@ -39,6 +40,8 @@ static gasnet_handle_t begin(of_list *does, const comex_giov_t *lists, int len, 
     if (node == comexg_state.me)
         does = copy_list;
     comexg_fence(node);
+    if (does == put_list)
+        comexg_finish_gets(node);
     gasnet_begin_nbi_accessregion();
     for (int i = 0; i < len; i++)
         if (lists[i].count > 0 && lists[i].bytes > 0)

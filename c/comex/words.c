@@ -50,7 +50,7 @@ void comexg_word_done_handler(gasnet_token_t from, int32_t answer_low, int32_t a
 static uint64_t ask(int node, int op, void *at, uint64_t operand) {
     struct answer answer = { false, 0 };
     const uint64_t place = comexg_address(at), back = comexg_address(&answer);
-    comexg_before_access(node, comexg_range(at, size_of(op)));
+    comexg_before_write(node, comexg_range(at, size_of(op)));
     GASNET_SAFE(gasnet_AMRequestShort7((gasnet_node_t)node, COMEXG_WORD, op, comexg_low(place), comexg_high(place),
                                        comexg_low(operand), comexg_high(operand), comexg_low(back), comexg_high(back)));
     GASNET_BLOCKUNTIL(atomic_load_explicit(&answer.has_come, memory_order_acquire));

@@ -9,7 +9,7 @@
 #include <sys/mman.h>
 #include <time.h>
 
-enum { WORLD = COMEX_GROUP_WORLD, NUMBERS = 4096, TURNS = 100 };
+enum { WORLD = COMEX_GROUP_WORLD, NUMBERS = 4096, TURNS = 100, GOT = 4 << 20 };
 
 static int me, size, next;
 static void *far[64];
@@ -49,6 +49,67 @@ static void puts_in_order(void) {
         comex_get(far[next], &numbers[2], sizeof(long), next, WORLD);
         CHECK(numbers[2] == i + 1);
     }
+}
+
+/* What the process does behind a get that is under way, at the last number of what is got. */
+static void *got[64];
+static long value;
+static long *last(void) { return (long *)((char *)got[next] + GOT) - 1; }
+
+static void change_by_put(void) { comex_put(&value, last(), sizeof value, next, WORLD); }
+static void change_by_puts(void) {
+    int bytes[] = { 1, sizeof value }, apart[] = { 1 };
+    comex_puts(&value, apart, last(), apart, bytes, 1, next, WORLD);
+}
+static void change_by_putv(void) {
+    void *from = &value, *to = last();
+    comex_putv(&(comex_giov_t){ &from, &to, 1, sizeof value }, 1, next, WORLD);
+}
+static void change_by_word(void) {
+    long word = value;
+    comex_rmw(COMEX_SWAP_LONG, &word, last(), 0, next, WORLD);
+}
+static void change_by_acc(void) {
+    long one = 1;
+    comex_acc(COMEX_ACC_LNG, &one, &one, last(), sizeof one, next, WORLD);
+}
+static void change_by_accv(void) {
+    long one = 1;
+    void *from = &one, *to = last();
+    comex_accv(COMEX_ACC_LNG, &one, &(comex_giov_t){ &from, &to, 1, sizeof one }, 1, next, WORLD);
+}
+
+static void begin_get(int way, char *back) {
+    int bytes[] = { GOT / 2, 2 }, apart[] = { GOT / 2 };
+    void *from = got[next], *to = back;
+    comex_request_t request;
+    if (way < 2)
+        comex_nbget(from, to, GOT, next, WORLD, way ? &request : NULL);
+    else if (way == 2)
+        comex_nbgets(from, apart, to, apart, bytes, 1, next, WORLD, &request);
+    else
+        comex_nbgetv(&(comex_giov_t){ &from, &to, 1, GOT }, 1, next, WORLD, &request);
+}
+
+/* A get that isn't waited for reads what was there before what comes behind it. */
+static void gets_in_order(void) {
+    static char back[GOT];
+    void (*const changes[])(void) = { change_by_put,  change_by_puts, change_by_putv,
+                                      change_by_word, change_by_acc,  change_by_accv };
+    CHECK(comex_malloc(got, GOT, WORLD) == COMEX_SUCCESS);
+    memset(got[me], 0, GOT);
+    comex_barrier(WORLD);
+    for (int i = 0; i < 24; i++) {
+        long is;
+        begin_get(i % 4, back);
+        value++;
+        changes[i / 4]();
+        comex_wait_all(WORLD);
+        memcpy(&is, back + GOT - sizeof is, sizeof is);
+        CHECK(is == value - 1);
+    }
+    comex_barrier(WORLD);
+    comex_free(got[me], WORLD);
 }
 
 static void long_ones(void) {
@@ -289,11 +350,25 @@ static void too_much(void) {
     comex_free(places[me], WORLD);
 }
 
-static void (*const tests[])(void) = {
-    puts_in_order, long_ones, requests,          shapes,    long_shape,        lists,
-    of_int,        of_long,   of_float,          of_double, of_single_complex, of_double_complex,
-    words,         mutexes,   while_it_computes, groups,    too_much,          long_sums
-};
+static void (*const tests[])(void) = { puts_in_order,
+                                       gets_in_order,
+                                       long_ones,
+                                       requests,
+                                       shapes,
+                                       long_shape,
+                                       lists,
+                                       of_int,
+                                       of_long,
+                                       of_float,
+                                       of_double,
+                                       of_single_complex,
+                                       of_double_complex,
+                                       words,
+                                       mutexes,
+                                       while_it_computes,
+                                       groups,
+                                       too_much,
+                                       long_sums };
 
 int main(int argc, char **argv) {
     MPI_Init(&argc, &argv);
