@@ -1,5 +1,6 @@
 #include "lines.h"
 
+#include <errno.h>
 #include <fcntl.h>
 #include <stdio.h>
 #include <stdlib.h>
@@ -47,10 +48,21 @@ nfds_t gasnetl_lines_await(const struct gasnetl_lines *lines, struct pollfd *rea
     return (nfds_t)(2 * lines->nodes);
 }
 
+/* Waits where the output takes nothing now: another process that has it, as ssh, may have made it one that doesn't
+ * wait. False where it takes nothing for another reason. */
+static bool waits_for(int to) {
+    struct pollfd ready = { .fd = to, .events = POLLOUT };
+    return errno == EAGAIN && poll(&ready, 1, -1) > 0;
+}
+
 static void write_whole(int to, const char *bytes, size_t length) {
-    ssize_t written = 1;
-    for (size_t at = 0; at < length && written > 0; at += (size_t)written)
-        written = write(to, bytes + at, length - at);
+    for (size_t at = 0; at < length;) {
+        ssize_t written = write(to, bytes + at, length - at);
+        if (written > 0)
+            at += (size_t)written;
+        else if (!written || !waits_for(to))
+            return;
+    }
 }
 
 /* Writes a line of so many bytes, without its end, behind the rank of its node. */

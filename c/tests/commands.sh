@@ -39,11 +39,23 @@ of_many() { # 256 nodes have more pipes than a process has descriptors as a rule
     ulimit -S -n 1024
     [ "$(bin/gasnetrun -n 256 --prefix-output sh -c 'ulimit -S -n' | cut -d ' ' -f 2 | sort | uniq -c | xargs)" = "256 1024" ]
 }
-export -f left_behind prefixed long_lines fails_while_others_write of_many
+slow_reader() { # nothing is lost where the output doesn't wait, as ssh makes it, and is read late
+    python3 - <<'END' | wc -l
+import fcntl, os, subprocess, sys, time
+reads, writes = os.pipe()
+fcntl.fcntl(writes, fcntl.F_SETFL, os.O_WRONLY | os.O_NONBLOCK)
+job = subprocess.Popen(["bin/gasnetrun", "-n", "2", "--prefix-output", "seq", "50000"], stdout=writes)
+os.close(writes)
+time.sleep(0.5)
+sys.stdout.buffer.write(os.fdopen(reads, "rb").read())
+END
+}
+export -f slow_reader left_behind prefixed long_lines fails_while_others_write of_many
 check "gasnetrun --prefix-output" 0 "" bash -c prefixed
 check "gasnetrun --prefix-output, long lines" 0 "" bash -c long_lines
 check "gasnetrun --prefix-output, an end" 5 "node 0 ended with status 5" bash -c fails_while_others_write
 check "gasnetrun --prefix-output, left behind" 0 "^2$" bash -c left_behind
+check "gasnetrun --prefix-output, a reader that is slow" 0 "^100000$" bash -c slow_reader
 check "gasnetrun --prefix-output, 256 nodes" 0 "" bash -c of_many
 if command -v gdb >/dev/null; then
     check "gasnetrun --gdb" 0 "node 1 of 2.*\|Inferior 1 .* exited normally" env GASNET_GDB="gdb -q -batch -ex run" bin/gasnetrun -n 2 --gdb 1 out/hello
