@@ -121,6 +121,7 @@ static void add_list(const struct comexg_scaled *scaled, int node, const comex_g
 int comex_accv(int op, void *scale, comex_giov_t *darr, int len, int proc, comex_group_t group) {
     const struct comexg_scaled scaled = comexg_scaled(op, scale);
     const int node = comexg_node(proc, group);
+    comexg_check_lists(darr, len);
     comexg_enter();
     comexg_fence_puts(node);
     comexg_finish_gets(node);

@@ -28,6 +28,12 @@ struct comexg_shape comexg_shape(const int *src_stride, const int *dst_stride, c
     return shape;
 }
 
+void comexg_check_lists(const comex_giov_t *lists, int len) {
+    for (int i = 0; i < len; i++)
+        if (lists[i].count < 0 || lists[i].bytes < 0)
+            comexg_die("a list of %d places with %d bytes each", lists[i].count, lists[i].bytes);
+}
+
 bool comexg_is_empty(const struct comexg_shape *shape) {
     for (size_t i = 0; i <= shape->levels; i++)
         if (!shape->count[i])

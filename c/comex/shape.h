@@ -19,6 +19,9 @@ struct comexg_shape comexg_shape(const int *src_stride, const int *dst_stride, c
 /* The bytes from the first one to the one behind the last, of a side that has these strides. */
 struct comexg_range comexg_extent(const struct comexg_shape *shape, const size_t *stride, const void *at);
 
+/* Ends all processes where a list of places has a negative length, or a negative number of them. */
+void comexg_check_lists(const comex_giov_t *lists, int len);
+
 /* Whether nothing is in it. */
 bool comexg_is_empty(const struct comexg_shape *shape);
 

@@ -4,6 +4,7 @@
 #include "groups.h"
 #include "order.h"
 #include "requests.h"
+#include "shape.h"
 #include "watch.h"
 
 static struct comexg_range extent(void *const places[], const comex_giov_t *list) {
@@ -37,6 +38,7 @@ static void copy_list(int node, const comex_giov_t *list) {
 /* Begins the lists of a call, and answers a handle for all of them. All that is under way to the node is waited for
  * before, since nothing can be waited for in an access region. */
 static gasnet_handle_t begin(of_list *does, const comex_giov_t *lists, int len, int node) {
+    comexg_check_lists(lists, len);
     if (node == comexg_state.me)
         does = copy_list;
     comexg_fence(node);

@@ -1,5 +1,6 @@
 /* ComEx's calls among two to eight processes, each against what comex.h says of it. Status 0 where all hold. With the
- * word `error` process 1 calls comex_error with code 3, which ends all. */
+ * word `error` process 1 calls comex_error with code 3, which ends all; with `putv` or `accv` it hands on a list of
+ * places with a negative length, which ends all too. */
 #include <comex.h>
 #include <mpi.h>
 #include <stdbool.h>
@@ -370,6 +371,18 @@ static void (*const tests[])(void) = { puts_in_order,
                                        too_much,
                                        long_sums };
 
+static void be_wrong(const char *how) {
+    int number = 1;
+    void *from = &number, *to = &number;
+    comex_giov_t list = { &from, &to, 1, -(int)sizeof number };
+    if (!strcmp(how, "error"))
+        comex_error("this is tried", 3);
+    else if (!strcmp(how, "putv"))
+        comex_putv(&list, 1, next, WORLD);
+    else
+        comex_accv(COMEX_ACC_INT, &number, &list, 1, next, WORLD);
+}
+
 int main(int argc, char **argv) {
     MPI_Init(&argc, &argv);
     CHECK(!comex_initialized());
@@ -378,7 +391,7 @@ int main(int argc, char **argv) {
     comex_group_size(WORLD, &size);
     next = (me + 1) % size;
     if (argc > 1 && me == 1)
-        comex_error("this is tried", 3);
+        be_wrong(argv[1]);
     CHECK(comex_malloc(far, NUMBERS * sizeof(double), WORLD) == COMEX_SUCCESS);
     for (size_t i = 0; i < sizeof tests / sizeof *tests; i++)
         tests[i]();
