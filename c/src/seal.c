@@ -5,6 +5,7 @@
 #include <stdio.h>
 #include <stdlib.h>
 #include <string.h>
+#include <sys/mman.h>
 #include <sys/random.h>
 #include <sys/stat.h>
 
@@ -127,6 +128,16 @@ static bool start_peer(struct gasnetl_seals *seals, uint16_t node) {
            seal_by(seals, node, NULL, &peer->greetings);
 }
 
+/* Has something that only the process has which asks for it, and no copy (Linux from 4.14 on; madvise(2)). */
+static const bool *make_first(void) {
+    bool *is_first = mmap(NULL, sizeof *is_first, PROT_READ | PROT_WRITE, MAP_PRIVATE | MAP_ANONYMOUS, -1, 0);
+    if (is_first == MAP_FAILED)
+        return NULL;
+    madvise(is_first, sizeof *is_first, MADV_WIPEONFORK);
+    *is_first = true;
+    return is_first;
+}
+
 bool gasnetl_seals_start(struct gasnetl_seals *seals, uint16_t me, uint16_t nodes, uint64_t job) {
     if (!seals->is_set)
         return true;
@@ -134,7 +145,9 @@ bool gasnetl_seals_start(struct gasnetl_seals *seals, uint16_t me, uint16_t node
     seals->job = job;
     seals->cipher = gasnetl_aead_fastest();
     seals->peers = calloc(nodes, sizeof *seals->peers);
-    bool starts = seals->peers && getrandom(seals->process, sizeof seals->process, 0) == sizeof seals->process;
+    seals->is_first = make_first();
+    bool starts =
+        seals->peers && seals->is_first && getrandom(seals->process, sizeof seals->process, 0) == sizeof seals->process;
     for (uint16_t node = 0; starts && node < nodes; node++)
         starts = node == me || start_peer(seals, node);
     if (!starts)
@@ -179,6 +192,8 @@ static size_t seal_greeting(struct gasnetl_seals *seals, uint16_t to, uint8_t *p
 
 size_t gasnetl_seal(struct gasnetl_seals *seals, uint16_t to, uint8_t *place, size_t length) {
     struct gasnetl_sealed_peer *peer = &seals->peers[to];
+    if (!*seals->is_first)
+        return 0;
     if (!peer->is_confirmed)
         return seal_greeting(seals, to, place, length);
     return seal_as(&peer->messages, SEALED + (unsigned)seals->cipher, place, GASNETL_SEAL_FRONT, length);

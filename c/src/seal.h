@@ -57,6 +57,7 @@ struct gasnetl_seals {
     uint8_t process[GASNETL_PROCESS_BYTES];
     enum gasnetl_cipher cipher;        /* by which this process seals */
     struct gasnetl_sealed_peer *peers; /* of each node, where there is a key */
+    const bool *is_first;              /* of memory that is empty in a copy of the process: that one seals nothing */
 };
 
 /* Reads the key of the file that GASNET_KEY_FILE names: 64 hexadecimal digits, readable by its owner alone. Without the
@@ -69,7 +70,8 @@ bool gasnetl_seals_start(struct gasnetl_seals *seals, uint16_t me, uint16_t node
 
 /* Seals a datagram to a peer in its place: it stands behind GASNETL_SEAL_FRONT bytes, and has room for so many more
  * behind it, or, where it is a greeting, for GASNETL_GREETING_FRONT bytes and a tag in all. It is a greeting as long as
- * the peer may lack the other key. How many bytes it has then; 0 where it can't be sealed, and isn't sent. */
+ * the peer may lack the other key. How many bytes it has then; 0 where it can't be sealed, and isn't sent: so it is in
+ * a copy of the process, however that was forked, which would take its numbers once more. */
 size_t gasnetl_seal(struct gasnetl_seals *seals, uint16_t to, uint8_t *place, size_t length);
 
 /* Opens a datagram from a peer in its place: where it stands, and, in `length`, how many bytes it has. NULL where it

@@ -3,7 +3,10 @@
 #include <stdio.h>
 #include <stdlib.h>
 #include <string.h>
+#include <sys/syscall.h>
+#include <sys/wait.h>
 #include <time.h>
+#include <unistd.h>
 
 #include "../src/seal.h"
 
@@ -293,6 +296,18 @@ static void check_numbers(void) {
            (unsigned long long)count);
 }
 
+/* A copy of the process that the C library doesn't know of seals nothing: its numbers are those of the process. */
+static void check_copies(void) {
+    struct gasnetl_seals *one = process_of(0, 5), *other = process_of(1, 5);
+    int status = 1;
+    let_meet(one, other);
+    const pid_t copy = (pid_t)syscall(SYS_fork);
+    if (!copy)
+        _exit(sealed_by(one, 1, 50).length || sealed_by(process_of(2, 5), 1, 50).length != 50 + 40);
+    expect(copy > 0 && waitpid(copy, &status, 0) == copy && !status, "a copy seals nothing, but as another process");
+    expect(sealed_by(one, 1, 50).length == 74, "the process seals on");
+}
+
 int main(void) {
     if (!gasnetl_aead_is_there()) {
         printf("built without libcrypto\n");
@@ -306,6 +321,7 @@ int main(void) {
     check_others();
     check_pairs();
     check_limits();
+    check_copies();
     check_numbers();
     return failed != 0;
 }
