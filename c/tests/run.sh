@@ -243,8 +243,8 @@ without_crypto() {
 }
 export -f without_crypto
 check "sealed by no library" 0 "GASNET_KEY_FILE is 'out/key': this library was built without OpenSSL" bash -c without_crypto
-# A put of a MiB under a key beside one without, as medians of runs that take turns: about a half where the machine does nothing
-# else (bench), and a fifth where the processor's instructions for AES aren't used.
+# A put of a MiB under a key beside one without, as medians of runs that take turns: a third to a half (bench), and a fifth where
+# the processor has no instructions for AES. Below an eighth something else than the cipher is slow.
 sealed_speed() {
     local plain=() sealed=() rate
     for _ in {1..9}; do
@@ -254,7 +254,7 @@ sealed_speed() {
     median() { printf '%s\n' "$@" | sort -n | sed -n 5p; }
     rate=$(echo "$(median "${plain[@]}") $(median "${sealed[@]}")" | awk '{ printf "%d", 100 * $2 / $1 }')
     echo "a sealed put goes at $rate % of another: ${sealed[*]} MB/s, ${plain[*]}"
-    [ "$rate" -ge 30 ] || return 3
+    [ "$rate" -ge 12 ] || return 3
 }
 export -f sealed_speed
 keyed "sealed puts of a MiB" 0 "" bash -c sealed_speed
