@@ -25,7 +25,7 @@ abbrev pub SentTold : LinkAnswer → ℕ × List ℕ → Option (List (ℕ × Li
 SentTold answer.Done datagram old new = new ≡ and_then old datagram
 SentTold answer.Failed datagram old new = new ≡ old
 
--- what was received is the prefix of the buffer, of as many bytes as the answer says
+-- what was received is the beginning of the buffer, of as many bytes as the answer says
 abbrev pub ReceivedTold : Received → List ℕ → Option (List (List ℕ)) → Option (List (List ℕ)) → Type 0
 ReceivedTold (received.Got n) buf old new = (n ≤ length buf) × (new ≡ and_then old (take n buf))
 ReceivedTold received.Empty buf old new = new ≡ old

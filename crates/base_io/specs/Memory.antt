@@ -43,7 +43,7 @@ read_failed state = record {
   faults = one_more state.faults;
 }
 
--- a read: `Failed` exactly where its number is listed; else the end exactly where nothing is left; else the prefix of
+-- a read: `Failed` exactly where its number is listed; else the end exactly where nothing is left; else the beginning of
 -- what is left that there is room for
 abbrev pub ReadsNext : SourceState → SourceState → Got → List ℕ → List ℕ → Type 0
 ReadsNext old new (got.Got n) room filled =

@@ -13,7 +13,7 @@ abbrev pub TakesSome : Put → ℕ → Type 0
 TakesSome (put.Put n) len = (n ≤ len) × (0 < len → 0 < n)
 TakesSome put.Failed len = ⊤
 
--- the bytes from the prefix are appended; a failure changes nothing
+-- the bytes from the beginning are appended; a failure changes nothing
 abbrev pub Takes : Option (List ℕ) → Option (List ℕ) → Put → List ℕ → Type 0
 Takes old new (put.Put n) bytes = Appends old new (take n bytes)
 Takes old new put.Failed bytes = Keeps old new

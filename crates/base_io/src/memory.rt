@@ -89,7 +89,7 @@ impl Source for MemorySource {
     }
 }
 
-/// Copies as much of the prefix as there is room for, and answers how much.
+/// Copies as much of the beginning as there is room for, and answers how much.
 pub(crate) fn copy_prefix(from: &[u8], buf: &mut [u8]) -> usize
     ensures count { result ≡ min (length from.now) (length buf.old) }
     ensures copied { buf.new ≡ take result from.now ++ drop result buf.old }

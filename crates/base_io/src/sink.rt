@@ -7,7 +7,7 @@ ghost use Rattle.base_io.specs.Sink.{Takes, IsFailed, TakesSome};
 /// What a write took.
 #[derive(Clone, Copy, PartialEq, Eq)]
 pub enum Put {
-    /// That many bytes, from the prefix.
+    /// That many bytes, from the beginning.
     Put(usize),
     /// The sink failed, and took nothing.
     Failed,
@@ -20,7 +20,7 @@ pub trait Sink {
     /// How often it has failed; an implementation's count may stop at 2^64 - 1.
     ghost faults: { Self → ℕ };
 
-    /// Takes some of the bytes, from the prefix; at least one where there is one.
+    /// Takes some of the bytes, from the beginning; at least one where there is one.
     ///
     /// `Failed` comes only where the count of faults rose in this call, or stands at its last value; the bytes taken
     /// then stay as before.

@@ -14,7 +14,7 @@ use Rattle.std.proofs.lemmas.List.{length-take-le}
 use Rattle.std.proofs.lemmas.Str.{digit_value_digit}
 use Rattle.std.proofs.lemmas.Int.Digits.{digits_more, digits_value_more}
 use Rattle.std.proofs.lemmas.Bool.{and_parts, and_from, lt-ltb, ltb-true, ltb-false, ne_eqb}
-use Rattle.base_text.specs.Lines.{is_stop, prefix}
+use Rattle.base_text.specs.Lines.{is_stop, first_word}
 use Rattle.base_text.specs.Words.{BeginWith, number_of, number_read, fitting}
 use Rattle.base_text.proofs.Prefixes.{Runs, StopsAt, parted, prefix_takes, prefix_len, prefix_at, cond_yes}
 
@@ -50,9 +50,9 @@ no_number w h = not_so _ _ _ (λ b. let q = and_parts _ _ b in h (digits_value 1
     ((bytes_eq-Decides w (decimal (digits_value 10 w))).0 q.0))
 
 -- bytes whose first word is the text of no number
-pub none_read : (bs : List ℕ) → ((n : ℕ) → n < 2 ^ 64 → prefix bs ≡ decimal n → ⊥) → number_read bs ≡ None
+pub none_read : (bs : List ℕ) → ((n : ℕ) → n < 2 ^ 64 → first_word bs ≡ decimal n → ⊥) → number_read bs ≡ None
 unfolding number_read
-none_read bs h = rw (no_number (prefix bs) h) refl
+none_read bs h = rw (no_number (first_word bs) h) refl
 
 -- digits end no word
 pub digits_run : (bs : List ℕ) (i : ℕ) → i ≤ length bs → AllDigits 10 (take i bs) → Runs bs i
@@ -68,10 +68,10 @@ pub too_great : (bs : List ℕ) (i : ℕ) → i ≤ length bs → AllDigits 10 (
     (take i bs) → number_read bs ≡ None
 too_great bs i h d big = none_read bs (λ n lt e.
     let run = digits_run bs i h d in
-    let le = digits_value-take-le 10 (prefix bs) i (omega arith) in
-    let le2 : digits_value 10 (take i bs) ≤ digits_value 10 (prefix bs) = subst (λ
-    (w : List ℕ). digits_value 10 w ≤ digits_value 10 (prefix bs)) (prefix_takes bs i h run) le in
-    let same : digits_value 10 (prefix bs) ≡ n = ap (digits_value 10) e ∙ digits_value-decimal own n lt in
+    let le = digits_value-take-le 10 (first_word bs) i (omega arith) in
+    let le2 : digits_value 10 (take i bs) ≤ digits_value 10 (first_word bs) = subst (λ
+    (w : List ℕ). digits_value 10 w ≤ digits_value 10 (first_word bs)) (prefix_takes bs i h run) le in
+    let same : digits_value 10 (first_word bs) ≡ n = ap (digits_value 10) e ∙ digits_value-decimal own n lt in
     omega arith)
 
 -- the same, by the order of the two places
@@ -101,7 +101,7 @@ no_digit bs i h d s odd = none_read bs (λ n lt e.
 by_stop : (b : ℕ) (bs : List ℕ) (t : Bool) → is_stop b ≡ t → (IsInRange 48 57 b → ⊥) → number_read (b ∷ bs) ≡ None
 by_stop b bs true e odd = none_read (b ∷ bs) (λ n lt s.
     let p = decimal_nonempty n lt in
-    let q : [] ≡ prefix (b ∷ bs) = sym (cond_yes _ _ _ e) in
+    let q : [] ≡ first_word (b ∷ bs) = sym (cond_yes _ _ _ e) in
     let r : 0 ≡ length (decimal n) = ap length (q ∙ s) in omega arith)
 by_stop b bs false e odd = no_digit (b ∷ bs) 0 (omega arith) tt e odd
 

@@ -6,7 +6,7 @@ use Rattle.std.proofs.lemmas.Bool.Decides.{eqb_tells}
 use Rattle.std.specs.Str.{bytes_eq}
 use Rattle.std.proofs.lemmas.Slice.Eq.{bytes_eq-Decides}
 use Rattle.std.proofs.Math.Seq.{drop-append_seam}
-use Rattle.base_text.specs.Lines.{is_stop, prefix, back}
+use Rattle.base_text.specs.Lines.{is_stop, first_word, after_word}
 use Rattle.base_text.specs.Words.{GoesWith, IsSame}
 use Rattle.base_text.proofs.Prefixes.{Runs, StopsAt, parted, prefix_len}
 use Rattle.base_text.proofs.Decimals.{upto}
@@ -27,19 +27,19 @@ pub record AreSame (word name : List ℕ) (count : ℕ) : Type 0 where
 
 -- a place of the prefix is one of the bytes, where no word ends
 prefix_by : (stop : Bool) (byte : ℕ) (bytes : List ℕ) (place : ℕ) → is_stop byte ≡ stop
-    → ((later : ℕ) → later < length (prefix bytes) → (later < length bytes)
-    × (get_or (prefix bytes) later 0 ≡ get_or bytes later 0) × (is_stop (get_or bytes later 0) ≡ false))
-    → place < length (cond stop [] (byte ∷ prefix bytes))
+    → ((later : ℕ) → later < length (first_word bytes) → (later < length bytes)
+    × (get_or (first_word bytes) later 0 ≡ get_or bytes later 0) × (is_stop (get_or bytes later 0) ≡ false))
+    → place < length (cond stop [] (byte ∷ first_word bytes))
     → (place < suc (length bytes))
-    × (get_or (cond stop [] (byte ∷ prefix bytes)) place 0 ≡ get_or (byte ∷ bytes) place 0)
+    × (get_or (cond stop [] (byte ∷ first_word bytes)) place 0 ≡ get_or (byte ∷ bytes) place 0)
     × (is_stop (get_or (byte ∷ bytes) place 0) ≡ false)
 prefix_by true byte bytes place is more some = absurd (omega arith)
 prefix_by false byte bytes zero is more some = (omega arith, refl, is)
 prefix_by false byte bytes (suc place) is more some =
     let later = more place (omega arith) in (omega (arith, later.0), later.1, later.2)
 
-prefix_place : (bytes : List ℕ) (place : ℕ) → place < length (prefix bytes) → (place < length bytes)
-    × (get_or (prefix bytes) place 0 ≡ get_or bytes place 0) × (is_stop (get_or bytes place 0) ≡ false)
+prefix_place : (bytes : List ℕ) (place : ℕ) → place < length (first_word bytes) → (place < length bytes)
+    × (get_or (first_word bytes) place 0 ≡ get_or bytes place 0) × (is_stop (get_or bytes place 0) ≡ false)
 prefix_place [] place some = absurd (omega arith)
 prefix_place (byte ∷ bytes) place some =
     prefix_by (is_stop byte) byte bytes place refl (prefix_place bytes) some
@@ -94,31 +94,31 @@ is_same_name word name count alike equal other =
 
 -- the whole name, and the word ends
 pub name_found : (bytes name : List ℕ) (count : ℕ) → AreAlike bytes name count → length name ≤ count
-    → StopsAt bytes count → bytes_eq (prefix bytes) name ≡ true
+    → StopsAt bytes count → bytes_eq (first_word bytes) name ≡ true
 name_found bytes name count alike long stops =
-    (bytes_eq-Decides (prefix bytes) name).1 ((parted bytes count alike.within alike.runs stops).0 ∙ alike.same
+    (bytes_eq-Decides (first_word bytes) name).1 ((parted bytes count alike.within alike.runs stops).0 ∙ alike.same
     ∙ take_all name count long)
 
 -- the whole name, and the word goes on
 pub name_longer : (bytes name : List ℕ) (count : ℕ) → AreAlike bytes name count → length name ≤ count
-    → count < length bytes → is_stop (get_or bytes count 0) ≡ false → bytes_eq (prefix bytes) name ≡ false
-name_longer bytes name count alike long some runs = unequal (prefix bytes) name (λ same.
+    → count < length bytes → is_stop (get_or bytes count 0) ≡ false → bytes_eq (first_word bytes) name ≡ false
+name_longer bytes name count alike long some runs = unequal (first_word bytes) name (λ same.
     let more = prefix_len bytes (suc count) (omega (arith, some)) (λ place before. upto bytes count place alike.runs
     runs before) in
-    let equal : length (prefix bytes) ≡ length name = ap length same in
+    let equal : length (first_word bytes) ≡ length name = ap length same in
     absurd (omega (arith, more, equal, long)))
 
 -- a name that is longer than all the bytes
-pub name_short : (bytes name : List ℕ) → length bytes < length name → bytes_eq (prefix bytes) name ≡ false
-name_short bytes name short = unequal (prefix bytes) name (λ same.
-    let equal : length (prefix bytes) ≡ length name = ap length same in
+pub name_short : (bytes name : List ℕ) → length bytes < length name → bytes_eq (first_word bytes) name ≡ false
+name_short bytes name short = unequal (first_word bytes) name (λ same.
+    let equal : length (first_word bytes) ≡ length name = ap length same in
     let place = prefix_place bytes (length bytes) (omega (arith, short, equal)) in absurd (omega (arith, place.0)))
 
 -- part of the name, and then another byte, or the end of the word
 pub name_other : (bytes name : List ℕ) (count : ℕ) → count < length name → (GoesWith bytes name count → ⊥)
-    → bytes_eq (prefix bytes) name ≡ false
-name_other bytes name count few other = unequal (prefix bytes) name (λ same.
-    let equal : length (prefix bytes) ≡ length name = ap length same in
+    → bytes_eq (first_word bytes) name ≡ false
+name_other bytes name count few other = unequal (first_word bytes) name (λ same.
+    let equal : length (first_word bytes) ≡ length name = ap length same in
     let place = prefix_place bytes count (omega (arith, few, equal)) in
     other (record {
       within = place.0;
@@ -128,16 +128,16 @@ name_other bytes name count few other = unequal (prefix bytes) name (λ same.
     }))
 
 -- the bytes behind the first word
-pub behind_first : (bytes name : List ℕ) → bytes_eq (prefix bytes) name ≡ true → (length name ≤ length bytes)
-    × (drop (length name) bytes ≡ back bytes)
+pub behind_first : (bytes name : List ℕ) → bytes_eq (first_word bytes) name ≡ true → (length name ≤ length bytes)
+    × (drop (length name) bytes ≡ after_word bytes)
 behind_first bytes name test =
-    let same : prefix bytes ≡ name = (bytes_eq-Decides (prefix bytes) name).0 test in
-    let equal : length (prefix bytes) ≡ length name = ap length same in
-    let long : length (prefix bytes ++ back bytes) ≡ length (prefix bytes) + length (back bytes) = length-append _ _ in
-    let split : length bytes ≡ length (prefix bytes ++ back bytes) = ap length (whole bytes) in (
+    let same : first_word bytes ≡ name = (bytes_eq-Decides (first_word bytes) name).0 test in
+    let equal : length (first_word bytes) ≡ length name = ap length same in
+    let long : length (first_word bytes ++ after_word bytes) ≡ length (first_word bytes) + length (after_word bytes) = length-append _ _ in
+    let split : length bytes ≡ length (first_word bytes ++ after_word bytes) = ap length (whole bytes) in (
       omega (arith, long, split, equal),
-      ap (λ (count : ℕ). drop count bytes) (sym equal) ∙ ap (drop (length (prefix bytes))) (whole bytes)
-          ∙ drop-append_seam (prefix bytes) (back bytes),
+      ap (λ (count : ℕ). drop count bytes) (sym equal) ∙ ap (drop (length (first_word bytes))) (whole bytes)
+          ∙ drop-append_seam (first_word bytes) (after_word bytes),
     )
 
 -- whether it is the word, by whether it goes on

@@ -2,7 +2,7 @@
 use Rattle.std.proofs.Common.{◌≡◌, ℕ, zero, suc, ◌<◌, ◌≤◌, List, [], ◌∷◌, length, take, drop, get_or, Bool, true}
 use Rattle.std.proofs.Common.{false, cond, ◌||◌, map, refl, ap, ◌∙◌, arith}
 use Rattle.std.specs.List.{list_any}
-use Rattle.base_text.specs.Lines.{is_stop, prefix, back}
+use Rattle.base_text.specs.Lines.{is_stop, first_word, after_word}
 
 -- a test that passes
 pub cond_yes : {A : Type 0} (b : Bool) (x y : A) → b ≡ true → cond b x y ≡ x
@@ -34,7 +34,7 @@ stops_from bs i b e f lt = by_test (is_stop (get_or bs i 0)) (λ s. let t = f (l
 
 -- the prefix and the back of bytes
 abbrev pub AreParted : List ℕ → ℕ → Type 0
-AreParted bs i = (prefix bs ≡ take i bs) × (back bs ≡ drop i bs)
+AreParted bs i = (first_word bs ≡ take i bs) × (after_word bs ≡ drop i bs)
 
 -- where a word ends, the bytes are parted
 pub parted : (bs : List ℕ) (i : ℕ) → i ≤ length bs → Runs bs i → StopsAt bs i → AreParted bs i
@@ -47,7 +47,7 @@ parted (b ∷ bs) (suc i) h r s =
     (cond_no _ _ _ e ∙ ap (λ w. b ∷ w) p.0, cond_no _ _ _ e ∙ p.1)
 
 -- bytes at which no word ends are in the prefix
-pub prefix_takes : (bs : List ℕ) (i : ℕ) → i ≤ length bs → Runs bs i → take i (prefix bs) ≡ take i bs
+pub prefix_takes : (bs : List ℕ) (i : ℕ) → i ≤ length bs → Runs bs i → take i (first_word bs) ≡ take i bs
 prefix_takes bs zero h r = refl
 prefix_takes [] (suc i) h r = absurd (omega arith)
 prefix_takes (b ∷ bs) (suc i) h r =
@@ -56,7 +56,7 @@ prefix_takes (b ∷ bs) (suc i) h r =
     (omega arith)))
 
 -- the prefix is as long as that
-pub prefix_len : (bs : List ℕ) (i : ℕ) → i ≤ length bs → Runs bs i → i ≤ length (prefix bs)
+pub prefix_len : (bs : List ℕ) (i : ℕ) → i ≤ length bs → Runs bs i → i ≤ length (first_word bs)
 prefix_len bs zero h r = omega arith
 prefix_len [] (suc i) h r = absurd (omega arith)
 prefix_len (b ∷ bs) (suc i) h r =
@@ -65,7 +65,7 @@ prefix_len (b ∷ bs) (suc i) h r =
     rw e (omega arith)
 
 -- and has them at their places
-pub prefix_at : (bs : List ℕ) (i k : ℕ) → i ≤ length bs → Runs bs i → k < i → get_or (prefix bs) k 0 ≡ get_or bs k 0
+pub prefix_at : (bs : List ℕ) (i k : ℕ) → i ≤ length bs → Runs bs i → k < i → get_or (first_word bs) k 0 ≡ get_or bs k 0
 prefix_at bs zero k h r lt = absurd (omega arith)
 prefix_at [] (suc i) k h r lt = absurd (omega arith)
 prefix_at (b ∷ bs) (suc i) zero h r lt = let e : is_stop b ≡ false = r 0 (omega arith) in rw e refl

@@ -22,14 +22,14 @@ abbrev pub is_stop : ℕ → Bool
 is_stop b = (b == 32) || (b == 10)
 
 -- the bytes up to the end of the first word
-abbrev pub prefix : List ℕ → Word
-prefix [] = []
-prefix (b ∷ bs) = if is_stop b then [] else b ∷ prefix bs
+abbrev pub first_word : List ℕ → Word
+first_word [] = []
+first_word (b ∷ bs) = if is_stop b then [] else b ∷ first_word bs
 
 -- the bytes from there on
-abbrev pub back : List ℕ → List ℕ
-back [] = []
-back (b ∷ bs) = if is_stop b then b ∷ bs else back bs
+abbrev pub after_word : List ℕ → List ℕ
+after_word [] = []
+after_word (b ∷ bs) = if is_stop b then b ∷ bs else after_word bs
 
 -- the bytes after a space
 abbrev pub after_space : List ℕ → Option (List ℕ)

@@ -5,7 +5,7 @@ use Rattle.std.specs.Prelude.{nat_lt, nat_le, ◌==◌, if◌then◌else◌, dec
 use Rattle.std.specs.Str.{bytes_eq}
 use Rattle.std.specs.Str.Parse.{digits_value, AllDigits}
 use Rattle.std.specs.Int.{IsInRange}
-use Rattle.base_text.specs.Lines.{Word, ◌>>=◌, is_stop, prefix, back}
+use Rattle.base_text.specs.Lines.{Word, ◌>>=◌, is_stop, first_word, after_word}
 
 -- the number below 2 ^ 64 whose decimal text, without leading zero, the word is
 unfoldable pub number_of : Word → Option ℕ
@@ -14,17 +14,17 @@ number_of word = if bytes_eq word (decimal (digits_value 10 word)) && nat_lt (di
 
 -- the number that the first word is, and the bytes after it
 unfoldable pub number_read : List ℕ → Option (ℕ × List ℕ)
-number_read bytes = number_of (prefix bytes) >>= λ n. Some (n, back bytes)
+number_read bytes = number_of (first_word bytes) >>= λ n. Some (n, after_word bytes)
 
 -- a digit stands at a place
 abbrev pub HasDigit : List ℕ → ℕ → Type 0
 HasDigit bytes i = (i < length bytes) × IsInRange 48 57 (slice_index bytes i)
 
--- a digit is at the prefix, and none behind it
+-- a digit is at the beginning, and none behind it
 abbrev pub HasOneDigit : List ℕ → Type 0
 HasOneDigit bytes = HasDigit bytes 0 × (HasDigit bytes 1 → ⊥)
 
--- so many digits are at the prefix, and this is their number
+-- so many digits are at the beginning, and this is their number
 pub record BeginWith (bytes : List ℕ) (number count : ℕ) : Type 0 where
   pub within : count ≤ length bytes
   pub digits : AllDigits 10 (take count bytes)

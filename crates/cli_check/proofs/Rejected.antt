@@ -40,13 +40,13 @@ use Rattle.spec_node.specs.declared.answer.Why.{Why}
 use Rattle.text_script.specs.Bodies.{script_meaning}
 use Rattle.text_script.specs.Registration.{handlers_of, registry_of}
 use Rattle.node_core.specs.Library.{notification_handler, notification_said}
-use Rattle.law_traces.specs.Rejected.{is_refused, rejected_entry}
+use Rattle.law_traces.specs.Rejected.{is_refused, accepted_entry}
 use Rattle.law_traces.specs.Rejected.{unless_refused as unless_refused_got}
 use Rattle.cli_check.specs.CheckInputs.{IsTraceOf}
 use Rattle.cli_check.specs.Recording.{RecorderKept, RecorderStands, opening_record}
 use Rattle.cli_check.specs.Rejected.{IsEndpointAt, is_refusal, refused_turns, refuses_at, refuses_got}
-use Rattle.cli_check.specs.Rejected.{rejected_entries, rejected_from}
-use Rattle.cli_check.specs.Rejected.{rejected_trace, rejected_traces}
+use Rattle.cli_check.specs.Rejected.{accepted_entries, accepted_from}
+use Rattle.cli_check.specs.Rejected.{accepted_trace, accepted_traces}
 use Rattle.cli_check.specs.Machines.{first_machine, last_record}
 use Rattle.cli_check.specs.TracesRun.{AreNodesAfter, IsNodeAfter}
 use Rattle.law_traces.proofs.Striking.{replay_same}
@@ -159,7 +159,7 @@ refuses_told endpoint bytes answer job rank are would at =
 
 -- an entry whose bytes are refused
 pub entry_refused : (job : JobState) (rank : ℕ) (entry : Entry) → refuses_got job rank entry.got ≡ true
-    → record entry { got = None } ≡ rejected_entry (script_job job).job rank entry
+    → record entry { got = None } ≡ accepted_entry (script_job job).job rank entry
 entry_refused job rank entry is = ap (λ (got : Option (List ℕ)). record entry { got = got }) (by entry.got is)
   where
     by : (got : Option (List ℕ)) → refuses_got job rank got ≡ true → None ≡ unless_refused_got (script_job job).job rank got
@@ -168,7 +168,7 @@ entry_refused job rank entry is = ap (λ (got : Option (List ℕ)). record entry
 
 -- another one
 pub entry_kept : (job : JobState) (rank : ℕ) (entry : Entry) → refuses_got job rank entry.got ≡ false
-    → entry ≡ rejected_entry (script_job job).job rank entry
+    → entry ≡ accepted_entry (script_job job).job rank entry
 entry_kept job rank entry is = ap (λ (got : Option (List ℕ)). record entry { got = got }) (by entry.got is)
   where
     by : (got : Option (List ℕ)) → refuses_got job rank got ≡ false → got ≡ unless_refused_got (script_job job).job rank got
@@ -190,12 +190,12 @@ with_next entries index entry low is =
 -- one more is copied
 pub entries_more : (job : JobState) (rank : ℕ) (entries : List Entry) (index : ℕ) (entry : Entry)
     → index < length entries → entry ≡ get_or entries index entry → (made : List Entry) (one : Entry)
-    → made ≡ rejected_entries job rank (take index entries) → one ≡ rejected_entry (script_job job).job rank entry
-    → made ++ one ∷ [] ≡ rejected_entries job rank (take (index + 1) entries)
+    → made ≡ accepted_entries job rank (take index entries) → one ≡ accepted_entry (script_job job).job rank entry
+    → made ++ one ∷ [] ≡ accepted_entries job rank (take (index + 1) entries)
 entries_more job rank entries index entry low is made one so_far last =
     ap₂ (λ (prefix : List Entry) (back : Entry). prefix ++ back ∷ []) so_far last
-    ∙ sym (map-append (rejected_entry (script_job job).job rank) (take index entries) (entry ∷ []))
-    ∙ ap (rejected_entries job rank) (sym (with_next entries index entry low is))
+    ∙ sym (map-append (accepted_entry (script_job job).job rank) (take index entries) (entry ∷ []))
+    ∙ ap (accepted_entries job rank) (sym (with_next entries index entry low is))
 
 -- ---- how many are refused
 
@@ -244,22 +244,22 @@ uncounted job rank entries index entry low is turns so_far fine =
 
 -- where none is, they stay as they are
 none_refused : (job : JobState) (rank : ℕ) (entries : List Entry) → refused_turns job rank entries ≡ 0
-    → rejected_entries job rank entries ≡ entries
+    → accepted_entries job rank entries ≡ entries
 none_refused job rank [] none = refl
 none_refused job rank (entry ∷ entries) none =
     by (refuses_got job rank entry.got) refl none (none_refused job rank entries)
   where
     by : (refused : Bool) → refuses_got job rank entry.got ≡ refused
         → (if refused then refused_turns job rank entries + 1 else refused_turns job rank entries) ≡ 0
-        → (refused_turns job rank entries ≡ 0 → rejected_entries job rank entries ≡ entries)
-        → rejected_entries job rank (entry ∷ entries) ≡ entry ∷ entries
+        → (refused_turns job rank entries ≡ 0 → accepted_entries job rank entries ≡ entries)
+        → accepted_entries job rank (entry ∷ entries) ≡ entry ∷ entries
     by true is some rest = absurd (omega (arith, some))
     by false is none rest =
         ap₂ (λ (first : Entry) (others : List Entry). first ∷ others) (sym (entry_kept job rank entry is)) (rest none)
 
 -- so in a trace, as its entries are seen in a slice
 pub untouched : (job : JobState) (rank : ℕ) (entries shown : List Entry) → shown ≡ entries
-    → refused_turns job rank shown ≡ 0 → entries ≡ rejected_entries job rank entries
+    → refused_turns job rank shown ≡ 0 → entries ≡ accepted_entries job rank entries
 untouched job rank entries shown same none =
     sym (none_refused job rank entries (ap (refused_turns job rank) (sym same) ∙ none))
 
@@ -281,54 +281,54 @@ endpoint_at job rank kept endpoint same node stands = record {
 -- ---- traces
 
 pub length-rejected : (job : JobState) (rank : ℕ) (traces : List Trace)
-    → length (rejected_from job rank traces) ≡ length traces
+    → length (accepted_from job rank traces) ≡ length traces
 length-rejected job rank [] = refl
 length-rejected job rank (trace ∷ traces) = ap suc (length-rejected job (rank + 1) traces)
 
 -- one trace more
-rejected_more : (job : JobState) (rank : ℕ) (traces : List Trace) (trace : Trace)
-    → rejected_from job rank (traces ++ trace ∷ [])
-    ≡ rejected_from job rank traces ++ rejected_trace job (rank + length traces) trace ∷ []
-rejected_more job rank [] trace =
-    ap (λ (at : ℕ). rejected_trace job at trace ∷ []) (omega arith)
-rejected_more job rank (first ∷ traces) trace =
-    ap (λ (rest : List Trace). rejected_trace job rank first ∷ rest)
-    (rejected_more job (rank + 1) traces trace
-    ∙ ap (λ (at : ℕ). rejected_from job (rank + 1) traces ++ rejected_trace job at trace ∷ []) (omega arith))
+accepted_more : (job : JobState) (rank : ℕ) (traces : List Trace) (trace : Trace)
+    → accepted_from job rank (traces ++ trace ∷ [])
+    ≡ accepted_from job rank traces ++ accepted_trace job (rank + length traces) trace ∷ []
+accepted_more job rank [] trace =
+    ap (λ (at : ℕ). accepted_trace job at trace ∷ []) (omega arith)
+accepted_more job rank (first ∷ traces) trace =
+    ap (λ (rest : List Trace). accepted_trace job rank first ∷ rest)
+    (accepted_more job (rank + 1) traces trace
+    ∙ ap (λ (at : ℕ). accepted_from job (rank + 1) traces ++ accepted_trace job at trace ∷ []) (omega arith))
 
 -- one more of all
-pub rejected_last : (job : JobState) (traces : List Trace) (trace : Trace)
-    → rejected_traces job (traces ++ trace ∷ [])
-    ≡ rejected_traces job traces ++ rejected_trace job (length traces) trace ∷ []
-rejected_last job traces trace =
-    rejected_more job 0 traces trace
-    ∙ ap (λ (at : ℕ). rejected_from job 0 traces ++ rejected_trace job at trace ∷ []) (omega arith)
+pub accepted_last : (job : JobState) (traces : List Trace) (trace : Trace)
+    → accepted_traces job (traces ++ trace ∷ [])
+    ≡ accepted_traces job traces ++ accepted_trace job (length traces) trace ∷ []
+accepted_last job traces trace =
+    accepted_more job 0 traces trace
+    ∙ ap (λ (at : ℕ). accepted_from job 0 traces ++ accepted_trace job at trace ∷ []) (omega arith)
 
 -- the trace of a rank
-pub rejected_at : (job : JobState) (rank : ℕ) (traces : List Trace) (place : ℕ)
-    → slice_get (rejected_from job rank traces) place
-    ≡ option_map (rejected_trace job (rank + place)) (slice_get traces place)
-rejected_at job rank [] place = refl
-rejected_at job rank (trace ∷ traces) zero =
-    ap (λ (at : ℕ). Some (rejected_trace job at trace)) (omega arith)
-rejected_at job rank (trace ∷ traces) (suc place) =
-    rejected_at job (rank + 1) traces place
-    ∙ ap (λ (at : ℕ). option_map (rejected_trace job at) (slice_get traces place)) (omega arith)
+pub accepted_at : (job : JobState) (rank : ℕ) (traces : List Trace) (place : ℕ)
+    → slice_get (accepted_from job rank traces) place
+    ≡ option_map (accepted_trace job (rank + place)) (slice_get traces place)
+accepted_at job rank [] place = refl
+accepted_at job rank (trace ∷ traces) zero =
+    ap (λ (at : ℕ). Some (accepted_trace job at trace)) (omega arith)
+accepted_at job rank (trace ∷ traces) (suc place) =
+    accepted_at job (rank + 1) traces place
+    ∙ ap (λ (at : ℕ). option_map (accepted_trace job at) (slice_get traces place)) (omega arith)
 
 -- they are traces of the job's nodes too
-pub trace_of : (job : JobState) (rank : ℕ) (trace : Trace) → IsTraceOf job trace → IsTraceOf job (rejected_trace job rank trace)
+pub trace_of : (job : JobState) (rank : ℕ) (trace : Trace) → IsTraceOf job trace → IsTraceOf job (accepted_trace job rank trace)
 trace_of job rank trace is = record {
-  threads = All-map (λ (entry : Entry). entry.thread < job.settings.threads) (rejected_entry (script_job job).job rank)
+  threads = All-map (λ (entry : Entry). entry.thread < job.settings.threads) (accepted_entry (script_job job).job rank)
       trace.entries is.threads;
   few = subst (λ (count : ℕ). count < 2 ^ 32)
-      (sym (length-map trace.entries (rejected_entry (script_job job).job rank))) is.few;
+      (sym (length-map trace.entries (accepted_entry (script_job job).job rank))) is.few;
 }
 
 pub traces_of_job : (job : JobState) (rank : ℕ) (traces : List Trace) → All (IsTraceOf job) traces
-    → All (IsTraceOf job) (rejected_from job rank traces)
+    → All (IsTraceOf job) (accepted_from job rank traces)
 traces_of_job job rank [] are = All-nil (IsTraceOf job)
 traces_of_job job rank (trace ∷ traces) are =
-    All-cons (IsTraceOf job) (rejected_trace job rank trace) (rejected_from job (rank + 1) traces)
+    All-cons (IsTraceOf job) (accepted_trace job rank trace) (accepted_from job (rank + 1) traces)
     (trace_of job rank trace (All-head (IsTraceOf job) trace traces are))
     (traces_of_job job (rank + 1) traces (All-tail (IsTraceOf job) trace traces are))
 
@@ -336,25 +336,25 @@ traces_of_job job rank (trace ∷ traces) are =
 
 -- a trace and the rejected one leave the node one record
 last_same : (job : JobState) (rank : ℕ) (entries : List Entry)
-    → last_record job rank (rejected_entries job rank entries) ≡ last_record job rank entries
+    → last_record job rank (accepted_entries job rank entries) ≡ last_record job rank entries
 last_same job rank entries =
     let first = first_machine job rank in
     sym (replay_same (script_job job) rank first first entries (record { node = refl; own = refl })).after.node
 
 -- the nodes that rejected traces leave are those that the traces leave
 pub unrejected : (job : JobState) (traces : List Trace) (endpoints : List EndpointState)
-    → AreNodesAfter job (rejected_traces job traces) endpoints → AreNodesAfter job traces endpoints
+    → AreNodesAfter job (accepted_traces job traces) endpoints → AreNodesAfter job traces endpoints
 unrejected job traces endpoints nodes = record {
   count = nodes.count ∙ length-rejected job 0 traces;
   each = λ rank endpoint there.
       by rank endpoint (slice_get traces rank)
       (subst (λ (found : Option Trace). IsSomeAnd found (λ trace. IsNodeAfter job rank trace endpoint))
-      (rejected_at job 0 traces rank ∙ ap (λ (at : ℕ). option_map (rejected_trace job at) (slice_get traces rank))
+      (accepted_at job 0 traces rank ∙ ap (λ (at : ℕ). option_map (accepted_trace job at) (slice_get traces rank))
       (omega arith)) (nodes.each rank endpoint there));
 }
   where
     by : (rank : ℕ) (endpoint : EndpointState) (found : Option Trace)
-        → IsSomeAnd (option_map (rejected_trace job rank) found) (λ trace. IsNodeAfter job rank trace endpoint)
+        → IsSomeAnd (option_map (accepted_trace job rank) found) (λ trace. IsNodeAfter job rank trace endpoint)
         → IsSomeAnd found (λ trace. IsNodeAfter job rank trace endpoint)
     by rank endpoint None after = after
     by rank endpoint (Some trace) after = record {

@@ -108,7 +108,7 @@ all_of job bytes (Ok read) =
     else Ok (job, read.0)
 all_of job bytes (Err bad) = Err bad
 
--- the job's text at the prefix is bad at this line
+-- the job's text at the beginning is bad at this line
 pub record IsBadPrefix (bytes : List ℕ) (line : ℕ) (reason : LineWhy) : Type 0 where
   pub read : prefix_of bytes ≡ Err (record { line = line; why = reason })
   pub means : PrefixMeans bytes line reason

@@ -16,7 +16,7 @@ use Rattle.spec_node.specs.declared.answer.Side.TheVariants as side
 use Rattle.text_trace.specs.Sending.{sent_from}
 use Rattle.text_trace.specs.declared.replaying.Replayed.{Replayed}
 use Rattle.cli_check.specs.Recording.{RecordedState, RecorderKept, RecorderStands, opening_record, record_steps}
-use Rattle.cli_check.specs.Rejected.{refused_turns, rejected_entries, rejected_trace}
+use Rattle.cli_check.specs.Rejected.{refused_turns, accepted_entries, accepted_trace}
 use Rattle.cli_check.specs.declared.node_replay.NodeReplay.{NodeReplay}
 
 -- ---- requests
@@ -44,14 +44,14 @@ open_requests settings me node = open_among settings me node 256
 -- the node of this rank after the first of these entries, less what it refuses
 abbrev pub state_after : JobState → (rank turns : ℕ) → List Entry → RecordedState
 state_after job rank turns entries =
-    replay_state record_steps (opening_record job rank) (take turns (rejected_entries job rank entries))
+    replay_state record_steps (opening_record job rank) (take turns (accepted_entries job rank entries))
 
 -- this is what the output of the node of this rank tells: what its machine keeps after the turns that it took, which
 -- may be fewer than all, with the lines of the steps that ended in them and what they sent
 pub record ReplaysOutput (job : JobState) (rank : ℕ) (output : Output) (found : NodeReplay)
     (turns : Replayed) : Type 0 where
   pub status_is : found.status ≡ output.status
-  pub trace_is : found.trace ≡ rejected_trace job rank output.trace
+  pub trace_is : found.trace ≡ accepted_trace job rank output.trace
   pub refused_is : found.refused ≡ refused_turns job rank output.trace.entries
   pub within : turns.turns ≤ length found.trace.entries
   pub kept : RecorderKept
@@ -64,4 +64,4 @@ pub record ReplaysOutput (job : JobState) (rank : ℕ) (output : Output) (found 
       found.outstanding ≡ open_requests found.node.core.settings found.node.core.me node)
   pub sent_is : turns.sent.items
       ≡ sent_from record_steps (opening_record job rank) 1
-      (take turns.turns (rejected_entries job rank output.trace.entries))
+      (take turns.turns (accepted_entries job rank output.trace.entries))

@@ -14,21 +14,21 @@ use Rattle.law_traces.specs.Rejected.{is_refused, without_rejected}
 
 -- the entries of the node of this rank: where one got bytes that the node refuses, whatever it did before, it got
 -- nothing
-abbrev pub rejected_entries : JobState → (rank : ℕ) → List Entry → List Entry
-rejected_entries job rank entries = without_rejected (script_job job).job rank entries
+abbrev pub accepted_entries : JobState → (rank : ℕ) → List Entry → List Entry
+accepted_entries job rank entries = without_rejected (script_job job).job rank entries
 
 -- its trace
-abbrev pub rejected_trace : JobState → (rank : ℕ) → Trace → Trace
-rejected_trace job rank trace = record trace { entries = rejected_entries job rank trace.entries }
+abbrev pub accepted_trace : JobState → (rank : ℕ) → Trace → Trace
+accepted_trace job rank trace = record trace { entries = accepted_entries job rank trace.entries }
 
 -- those of the nodes from this rank on
-abbrev pub rejected_from : JobState → (rank : ℕ) → List Trace → List Trace
-rejected_from job rank [] = []
-rejected_from job rank (trace ∷ traces) = rejected_trace job rank trace ∷ rejected_from job (rank + 1) traces
+abbrev pub accepted_from : JobState → (rank : ℕ) → List Trace → List Trace
+accepted_from job rank [] = []
+accepted_from job rank (trace ∷ traces) = accepted_trace job rank trace ∷ accepted_from job (rank + 1) traces
 
 -- those of all nodes, in rising order of ranks
-abbrev pub rejected_traces : JobState → List Trace → List Trace
-rejected_traces job traces = rejected_from job 0 traces
+abbrev pub accepted_traces : JobState → List Trace → List Trace
+accepted_traces job traces = accepted_from job 0 traces
 
 -- ---- how it is found
 

@@ -12,11 +12,11 @@
 //! - `first_failed` [`IsFirstFailed`, `AreOver`] is the smallest rank of a node that ended with a status other than 0
 //!   and 1.
 //! - `run_traces` [`EndsTraces`]: bytes that their node refuses, whatever it did before, are rejected from the traces
-//!   first (`rejected_traces`): an entry that got such bytes is one that got nothing. How many those are is told to
-//!   `Notes` (`refused_turns`). It ends as `NotARun` only where the rejected traces are no run (`AreNoRun`), with the
+//!   first (`accepted_traces`): an entry that got such bytes is one that got nothing. How many those are is told to
+//!   `Notes` (`refused_turns`). It ends as `NotARun` only where the accepted traces are no run (`AreNoRun`), with the
 //!   smallest node with an entry left at the one stuck prefix. Else it ends as `Done`, and what is written is the text
 //!   of the run (`run_lines`: the answer of each step of a script, where it ended, and the lines of each node), or as
-//!   the sink failed, a prefix of it. Then the rejected traces are a run of the world (`RunOfTraces`, with all that
+//!   the sink failed, a prefix of it. Then the accepted traces are a run of the world (`RunOfTraces`, with all that
 //!   `IsWorldRun` of `law_traces` says: the headline, the laws of transfers and of the barrier), and the endpoints that
 //!   are given stand for the records that this run leaves its nodes [`nodes_of_run`]. By the law of `law_traces`
 //!   these are the records that each node's trace leaves as it was read [`nodes_after`: `AreNodesAfter`]. Or it ends as

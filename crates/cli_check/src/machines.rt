@@ -4,11 +4,11 @@ ghost use Rattle.std.specs.Prelude.{◌≡◌, All, IfOk, length};
 ghost use Rattle.text_job.specs.JobText.{IsJob};
 ghost use Rattle.cli_check.specs.CheckInputs.{IsTraceOf};
 ghost use Rattle.cli_check.specs.Merging.{AreFirstRecorders, ClosesAll, MergesTraces};
-ghost use Rattle.cli_check.specs.Rejected.{rejected_traces};
+ghost use Rattle.cli_check.specs.Rejected.{accepted_traces};
 
 use crate::notes::Notes;
 use crate::recorder::{NodeReport, Recorder};
-use crate::rejecting::rejected_traces;
+use crate::rejecting::accepted_traces;
 use node_endpoint::Endpoint;
 use proc_machine::traces_law;
 use std::alloc::{AllocError, Global};
@@ -61,13 +61,13 @@ pub fn merge_traces<N: Notes>(
     requires job { IsJob job.now }
     requires count { length traces.items ≡ job.now.settings.nodes }
     requires traces { All (IsTraceOf job.now) traces.items }
-    ensures { MergesTraces job.now (rejected_traces job.now traces.items) result }
+    ensures { MergesTraces job.now (accepted_traces job.now traces.items) result }
 {
     traces_law();
     let Ok(mut recorders) = new_recorders(alloc, job) else {
         return Err(MergeFault::NoMemory);
     };
-    let Ok(judged) = rejected_traces(alloc, &recorders, traces, notes) else {
+    let Ok(judged) = accepted_traces(alloc, &recorders, traces, notes) else {
         return Err(MergeFault::NoMemory);
     };
     match merge(alloc, recorders.as_mut_slice(), &judged) {

@@ -7,7 +7,7 @@ ghost use Rattle.cli_check.specs.Rejected.{OfItsNode, is_refusal, refuses_at, re
 
 use crate::notes::NoNotes;
 use crate::recorder::Recorder;
-use crate::rejecting::{refused_turns, rejected_trace};
+use crate::rejecting::{accepted_trace, refused_turns};
 use crate::requests::open_requests;
 use base_io::MemorySink;
 use base_turns::{Entry, Machine};
@@ -107,7 +107,7 @@ pub fn replay_output(
     let mut recorder = Recorder::new(alloc, job, rank)?;
     let refused = refused_turns(recorder.endpoint(), trace.entries.as_slice());
     let first_refused = first_refused(recorder.endpoint(), trace.entries.as_slice());
-    let Ok(trace) = rejected_trace(alloc, recorder.endpoint(), trace, &mut NoNotes) else {
+    let Ok(trace) = accepted_trace(alloc, recorder.endpoint(), trace, &mut NoNotes) else {
         drop(recorder);
         return Err(AllocError);
     };

@@ -3,10 +3,10 @@
 ghost use Rattle.std.specs.Prelude.{◌≡◌, ◌≤◌, IfOk, false, length};
 ghost use Rattle.text_job.specs.declared.job.Job.{Job as JobState};
 ghost use Rattle.proc_machine.specs.NodeState.{script_job};
-ghost use Rattle.law_traces.specs.Rejected.{rejected_entry};
+ghost use Rattle.law_traces.specs.Rejected.{accepted_entry};
 ghost use Rattle.cli_check.specs.Merging.{AreFirstRecorders};
 ghost use Rattle.cli_check.specs.Rejected.{OfItsNode, is_refusal, refused_turns, refuses_at, refuses_got};
-ghost use Rattle.cli_check.specs.Rejected.{rejected_entries, rejected_trace, rejected_traces};
+ghost use Rattle.cli_check.specs.Rejected.{accepted_entries, accepted_trace, accepted_traces};
 
 use crate::notes::Notes;
 use crate::recorder::Recorder;
@@ -70,9 +70,9 @@ fn copy_of(alloc: Global, item: &Entry) -> Result<Entry, AllocError>
 }
 
 /// A copy of an entry, which got nothing where it got bytes that the node refuses.
-fn rejected_entry(alloc: Global, endpoint: &Endpoint, item: &Entry) -> Result<Entry, AllocError>
-    ensures { OfItsNode endpoint.now (λ job rank. IfOk result (λ rejected.
-        rejected ≡ rejected_entry (script_job job).job rank item.entry.now)) }
+fn accepted_entry(alloc: Global, endpoint: &Endpoint, item: &Entry) -> Result<Entry, AllocError>
+    ensures { OfItsNode endpoint.now (λ job rank. IfOk result (λ accepted.
+        accepted ≡ accepted_entry (script_job job).job rank item.entry.now)) }
 {
     if refuses_got(endpoint, item) {
         return Ok(Entry {
@@ -85,38 +85,38 @@ fn rejected_entry(alloc: Global, endpoint: &Endpoint, item: &Entry) -> Result<En
 }
 
 /// Copies of the entries, which got nothing where they got bytes that the node refuses.
-fn rejected_entries(
+fn accepted_entries(
     alloc: Global,
     endpoint: &Endpoint,
     entries: &[Entry],
 ) -> Result<Journal, AllocError>
-    ensures { OfItsNode endpoint.now (λ job rank. IfOk result (λ rejected.
-        rejected ≡ rejected_entries job rank entries.now)) }
+    ensures { OfItsNode endpoint.now (λ job rank. IfOk result (λ accepted.
+        accepted ≡ accepted_entries job rank entries.now)) }
 {
-    let mut rejected = Vec::with_capacity(alloc, entries.len())?;
+    let mut accepted = Vec::with_capacity(alloc, entries.len())?;
     for entry in entries {
-        rejected.push(rejected_entry(alloc, endpoint, entry)?)?;
+        accepted.push(accepted_entry(alloc, endpoint, entry)?)?;
     }
-    Ok(Journal::of(rejected))
+    Ok(Journal::of(accepted))
 }
 
 /// The trace of the node without the bytes that it refuses: itself, where there are none. How many turns got such bytes
 /// is told.
-pub fn rejected_trace<N: Notes>(
+pub fn accepted_trace<N: Notes>(
     alloc: Global,
     endpoint: &Endpoint,
     trace: Trace,
     notes: &mut N,
 ) -> Result<Trace, AllocError>
-    ensures { OfItsNode endpoint.now (λ job rank. IfOk result (λ rejected.
-        rejected ≡ rejected_trace job rank trace)) }
+    ensures { OfItsNode endpoint.now (λ job rank. IfOk result (λ accepted.
+        accepted ≡ accepted_trace job rank trace)) }
 {
     let turns = refused_turns(endpoint, trace.entries.as_slice());
     if turns == 0 {
         return Ok(trace);
     }
     notes.rejected(trace.rank, turns);
-    let entries = rejected_entries(alloc, endpoint, trace.entries.as_slice())?;
+    let entries = accepted_entries(alloc, endpoint, trace.entries.as_slice())?;
     Ok(Trace {
         job: trace.job,
         rank: trace.rank,
@@ -128,7 +128,7 @@ pub fn rejected_trace<N: Notes>(
 /// got such bytes is told.
 ///
 /// Memory is taken for the list, and for each trace in which something is refused.
-pub fn rejected_traces<N: Notes>(
+pub fn accepted_traces<N: Notes>(
     alloc: Global,
     recorders: &[Recorder<'_>],
     traces: Vec<Trace>,
@@ -137,12 +137,12 @@ pub fn rejected_traces<N: Notes>(
     requires few { length recorders.now ≤ 256 }
     requires count { length traces.items ≡ length recorders.now }
     ensures { (job : JobState) → AreFirstRecorders job recorders.now
-        → IfOk result (λ rejected. rejected.items ≡ rejected_traces job traces.items) }
+        → IfOk result (λ accepted. accepted.items ≡ accepted_traces job traces.items) }
 {
-    let mut rejected = Vec::with_capacity(alloc, traces.len())?;
+    let mut accepted = Vec::with_capacity(alloc, traces.len())?;
     for trace in traces {
-        let endpoint = recorders[rejected.len()].endpoint();
-        rejected.push(rejected_trace(alloc, endpoint, trace, notes)?)?;
+        let endpoint = recorders[accepted.len()].endpoint();
+        accepted.push(accepted_trace(alloc, endpoint, trace, notes)?)?;
     }
-    Ok(rejected)
+    Ok(accepted)
 }

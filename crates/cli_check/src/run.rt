@@ -7,7 +7,7 @@ ghost use Rattle.text_job.specs.JobText.{IsJob};
 ghost use Rattle.text_job.specs.declared.job.Job.{Job as JobState};
 ghost use Rattle.cli_check.specs.CheckInputs.{IsTraceOf};
 ghost use Rattle.cli_check.specs.Merging.{CanBeWritten, IsMerged};
-ghost use Rattle.cli_check.specs.Rejected.{rejected_traces};
+ghost use Rattle.cli_check.specs.Rejected.{accepted_traces};
 ghost use Rattle.cli_check.specs.TracesEnds.{EndsTraces};
 
 use crate::ending::{any_violation, write_ends, write_texts};
@@ -46,7 +46,7 @@ pub enum TracesEnd {
 fn tell_run<K: Sink>(report: RunReport, sink: &mut BufferedSink<K>) -> TracesEnd
     requires { CanBeWritten report }
     ensures { (job : JobState) (traces : List TraceState)
-        → IsMerged job (rejected_traces job traces) report
+        → IsMerged job (accepted_traces job traces) report
         → EndsTraces job traces (outbox K.taken K.faults sink.old)
         (outbox K.taken K.faults sink.new) result }
 {

@@ -9,7 +9,7 @@ use Rattle.base_text.specs.declared.why.LineWhy.{LineWhy}
 use Rattle.text_job.specs.declared.job.Job.{Job as JobState}
 use Rattle.cli_launch.specs.CheckInputs.{InputText, IsUnread, TakesInput, TakesNone, traces_in}
 use Rattle.cli_launch.specs.Statuses.{AreOver, IsFirstFailed, is_over}
-use Rattle.cli_launch.specs.Rejected.{rejected_traces}
+use Rattle.cli_launch.specs.Rejected.{accepted_traces}
 use Rattle.cli_launch.specs.TracesRun.{AreARun}
 use Rattle.cli_launch.specs.InputFault.{InputFault}
 use Rattle.cli_launch.specs.InputFault.TheVariants as inputs
@@ -195,14 +195,14 @@ same_input bytes (Some rest) job other outputs others text takes =
 
 -- so its nodes ended with status 0 or 1, and their traces are a run, where those of that one are
 read_run : (source : Input) (left : Option (List ℕ)) (job : JobState) (outputs : List Output) → HoldsRun source
-    → TakesInput source.left left job outputs → AreOver outputs × AreARun job (rejected_traces job (traces_in outputs))
+    → TakesInput source.left left job outputs → AreOver outputs × AreARun job (accepted_traces job (traces_in outputs))
 read_run source left job outputs run takes =
     let holds = run.holds in
     let same = same_input holds.bytes left holds.job job holds.outputs outputs holds.text
     (subst (λ (before : Option (List ℕ)). TakesInput before left job outputs) holds.told takes) in (
       subst AreOver same.1 run.over,
-      subst (λ (all : List Output). AreARun job (rejected_traces job (traces_in all))) same.1
-          (subst (λ (it : JobState). AreARun it (rejected_traces it (traces_in holds.outputs))) same.0 run.run),
+      subst (λ (all : List Output). AreARun job (accepted_traces job (traces_in all))) same.1
+          (subst (λ (it : JobState). AreARun it (accepted_traces it (traces_in holds.outputs))) same.0 run.run),
     )
 
 -- among nodes that all ended with status 0 or 1 none failed

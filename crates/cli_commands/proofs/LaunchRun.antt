@@ -13,7 +13,7 @@ use Rattle.text_trace.proofs.OutputLaws.{output_again}
 use Rattle.text_job.specs.JobText.{IsJob}
 use Rattle.text_job.specs.declared.job.Job.{Job as JobState}
 use Rattle.cli_launch.specs.CheckInputs.{traces_in, wanted_of}
-use Rattle.cli_launch.specs.Rejected.{rejected_traces}
+use Rattle.cli_launch.specs.Rejected.{accepted_traces}
 use Rattle.cli_launch.specs.TracesRun.{AreARun}
 use Rattle.cli_launch.specs.Children.{all_told}
 use Rattle.cli_launch.specs.LaunchEnds.{GivesOutputs, HasEnds, Launch, LosesChild}
@@ -80,11 +80,11 @@ told_ends launch spawning tells ends has =
 -- so the traces that the launch gave are that run
 pub gave_run : (launch : Launch) (spawning : Spawning) (outputs : List Output) → IsJob launch.job
     → TellsRun launch.job spawning → GivesOutputs launch spawning.before spawning.after outputs
-    → AreARun launch.job (rejected_traces launch.job (traces_in outputs))
+    → AreARun launch.job (accepted_traces launch.job (traces_in outputs))
 gave_run launch spawning outputs is_job tells gives =
     let given = subst (λ (ends : List ChildEnd). AreGiven launch.job ends outputs)
     (told_ends launch spawning tells gives.ends gives.spawned) gives.given in
-    subst (λ (all : List Output). AreARun launch.job (rejected_traces launch.job (traces_in all)))
+    subst (λ (all : List Output). AreARun launch.job (accepted_traces launch.job (traces_in all)))
     (same_outputs launch.job tells.ends tells.outputs outputs is_job tells.given given) tells.run
 
 -- and no child failed

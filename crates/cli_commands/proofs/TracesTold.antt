@@ -8,7 +8,7 @@ use Rattle.text_job.specs.declared.job.Job.{Job as JobState}
 use Rattle.base_text.specs.LineTexts.{spell, line_text}
 use Rattle.sim_drill.proofs.LinesWritten.{one_more}
 use Rattle.cli_launch.specs.StepLines.{is_violated, run_lines}
-use Rattle.cli_launch.specs.Rejected.{rejected_traces}
+use Rattle.cli_launch.specs.Rejected.{accepted_traces}
 use Rattle.cli_launch.specs.TracesEnds.{EndsTraces}
 use Rattle.cli_launch.specs.TracesEnd.{TracesEnd}
 use Rattle.cli_launch.specs.TracesEnd.TheVariants as traces
@@ -77,10 +77,10 @@ pub traces_told : (job : JobState) (these : List Trace) (old middle new : Outbox
     → EndsTraces job these old middle end → SaysTraces end middle new ended
     → EndsBy (TracesEnds job these) old new ended
 traces_told job these old middle new (traces.Done violated nodes) ended told says =
-    says_last (TracesEnds job these) old middle new (run_lines job (rejected_traces job these)) (end_of violated) (nodes_given nodes) ended
+    says_last (TracesEnds job these) old middle new (run_lines job (accepted_traces job these)) (end_of violated) (nodes_given nodes) ended
     (weak_traces job these) (end_said violated)
     (by_end job these violated (gives (nodes_given nodes))
-    (said_last (run_lines job (rejected_traces job these)) (end_of violated)) (record {
+    (said_last (run_lines job (accepted_traces job these)) (end_of violated)) (record {
       run = told.run;
       violated_is = sym told.violated_is;
       said_is = refl;
@@ -92,9 +92,9 @@ traces_told job these old middle new (traces.NotARun node entry) ended told says
     (record { none = told.none; alone = alone (ends.NotARun node entry) })
     (subst (λ (out : Outbox). SaysEnd (ends.NotARun node entry) nothing out new ended) told.same says)
 traces_told job these old middle new traces.Fault ended told says =
-    let violated = is_violated job (rejected_traces job these) in
+    let violated = is_violated job (accepted_traces job these) in
     let end = end_of violated in
-    let lines = run_lines job (rejected_traces job these) in
+    let lines = run_lines job (accepted_traces job these) in
     let went : GathersAll old new (spell lines) wrote.Fault =
     subst (λ (out : Outbox). GathersAll old out (spell lines) wrote.Fault) (sym says.1) told.lines in
     subst (λ (e : EndedCommand). EndsBy (TracesEnds job these) old new e) (sym says.0) (record {

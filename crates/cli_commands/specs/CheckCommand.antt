@@ -6,7 +6,7 @@ use Rattle.base_text.specs.declared.why.LineWhy.{LineWhy}
 use Rattle.text_job.specs.declared.job.Job.{Job as JobState}
 use Rattle.cli_launch.specs.CheckInputs.{InputText, TakesInput, TakesNone, traces_in}
 use Rattle.cli_launch.specs.Statuses.{AreOver, IsFirstFailed}
-use Rattle.cli_launch.specs.Rejected.{rejected_traces}
+use Rattle.cli_launch.specs.Rejected.{accepted_traces}
 use Rattle.cli_launch.specs.TracesRun.{AreARun}
 use Rattle.cli_commands.specs.Outsides.{Call, Input, IsFaultless, Reading, read_in}
 use Rattle.cli_commands.specs.HowEnds.{After, EndsHow, SaysAlone}
@@ -75,7 +75,7 @@ pub record HoldsInput (source : Input) : Type 0 where
 pub record HoldsRun (source : Input) : Type 0 where
   pub holds : HoldsInput source
   pub over : AreOver holds.outputs
-  pub run : AreARun holds.job (rejected_traces holds.job (traces_in holds.outputs))
+  pub run : AreARun holds.job (accepted_traces holds.job (traces_in holds.outputs))
 
 -- where no count of faults rose, such an input was judged, or memory ran out; one whose traces are a run was judged to
 -- be so, or memory ran out

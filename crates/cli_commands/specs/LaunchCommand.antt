@@ -7,7 +7,7 @@ use Rattle.base_io.specs.Spawner.{ChildEnd, SpawnTold}
 use Rattle.text_trace.specs.declared.output.Output.{Output}
 use Rattle.text_job.specs.declared.job.Job.{Job as JobState}
 use Rattle.cli_launch.specs.CheckInputs.{traces_in}
-use Rattle.cli_launch.specs.Rejected.{rejected_traces}
+use Rattle.cli_launch.specs.Rejected.{accepted_traces}
 use Rattle.cli_launch.specs.TracesRun.{AreARun}
 use Rattle.cli_launch.specs.Children.{NoneFinished}
 use Rattle.cli_launch.specs.LaunchEnds.{FailsToSpawn, GivesOutputs, Launch, LosesChild, RunsShort}
@@ -119,7 +119,7 @@ pub record TellsRun (job : JobState) (spawning : Spawning) : Type 0 where
   pub ended : after.ended ≡ before.ended ++ ends
   pub outputs : List Output
   pub given : AreGiven job ends outputs
-  pub run : AreARun job (rejected_traces job (traces_in outputs))
+  pub run : AreARun job (accepted_traces job (traces_in outputs))
 
 -- where no count of faults rose, the nodes of a job that could be read were judged, or memory ran out; those whose
 -- traces are a run were judged to be so, or memory ran out

@@ -27,7 +27,7 @@
 //!     comes also where a job was read that has no node of this rank, or no port for each node; 3 and 4 as above.
 //!   - `check` (`CheckMeans`): with 0 and 1 the bytes read are the text of a job with an output of each of its nodes
 //!     behind it (`InputText`), and of no others, each node ended with 0 or 1, their traces, without the bytes that
-//!     their nodes refuse (`rejected_traces` of `cli_check`), are a run of the world (`RunOfTraces`: the headline, the
+//!     their nodes refuse (`accepted_traces` of `cli_check`), are a run of the world (`RunOfTraces`: the headline, the
 //!     laws of transfers and of the barrier hold of it, and each line of its steps tells how its step ended in it:
 //!     `LinesTell`), the bytes written are its text (`run_lines` of `cli_check`)
 //!     and the status line, and the nodes that the call returns stand for its end, which is what the traces leave as

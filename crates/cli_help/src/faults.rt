@@ -361,7 +361,7 @@ fn early_fault(alloc: Global, line: u64, reading: &Reading) -> Result<String, Al
 
 /// Why a text is no job's, or none of a job with the outputs of its nodes: the line, the column and
 /// the word where they are known, what is wrong, and what was expected there. The text may be the
-/// prefix of what was read.
+/// beginning of what was read.
 pub fn job_fault(alloc: Global, text: &[u8], bad: BadLine<'_>) -> Result<String, AllocError> {
     let (line, reason) = (u64::from(bad.line), bad.reason);
     if line == 0 {

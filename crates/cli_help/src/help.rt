@@ -36,7 +36,7 @@ _gasnet_cli() {
 complete -o default -F _gasnet_cli gasnet_cli
 ";
 
-/// The prefix of the manual's page.
+/// The beginning of the manual's page.
 static MANUAL: &str = ".\\\" Written by tools/help-pages.
 .TH GASNET_CLI 1
 .SH NAME

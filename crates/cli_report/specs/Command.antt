@@ -52,7 +52,7 @@ pub record TellsPorts (old new : Option (List ℕ)) (port : Option ℕ) : Type 0
   pub is_line : IfOk made (λ text. string_bytes text ≡ ports_line port)
   pub tells : TellsMade old new made all
 
--- the prefix of the input was read again, where it wasn't kept and is needed to tell of the run
+-- the beginning of the input was read again, where it wasn't kept and is needed to tell of the run
 pub record IsReadAgain (again : ℕ → List ℕ → Type 0) (old new : Command) : Type 0 where
   pub line : List ℕ
   pub is_last : IsLastLine old.output.bytes.items line

@@ -51,7 +51,7 @@ statuses_text kinds.Launch nodes = []
 statuses_text kinds.World nodes = []
 statuses_text kinds.Other nodes = []
 
--- all of it, in this order, by what the output of each node tells: the prefix, the counts and the differences, with
+-- all of it, in this order, by what the output of each node tells: the steps, the counts and the differences, with
 -- what is told of no run behind them, and of the patience, and then how the nodes ended
 pub record IsToldBy {T R : Type 0} (texts : Texts T) (given : Replays R) (judged : Judged) (job : List ℕ)
     (nodes : List NodeFinding) (replays : R) (text : List ℕ) : Type 0 where

@@ -40,7 +40,7 @@ pub struct Command {
 
 /// Standard input that may be read once more.
 pub trait ReadsAgain {
-    /// What so many bytes of its prefix were found to be.
+    /// What so many bytes of its beginning were found to be.
     ghost again: { Self → ℕ → List ℕ → Type 0 };
 
     /// So many bytes at most from its beginning; none where it can't be read, or memory runs out.

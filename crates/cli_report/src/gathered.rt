@@ -123,7 +123,7 @@ fn steps_and_waits<T: Texts, R: Replays>(
 }
 
 /// Where there is no run, the steps of the nodes that ended, and those that their threads wait for.
-pub(crate) fn prefix_text<T: Texts, R: Replays>(
+pub(crate) fn steps_text<T: Texts, R: Replays>(
     alloc: Global,
     ending: Ending,
     job: &[u8],

@@ -5,7 +5,7 @@ ghost use Rattle.cli_report.specs.Report.{AddsGaps, AddsNoRun, AddsPatience, Add
 
 use crate::command::CommandKind;
 use crate::findings::{NodeFinding, NodeLine, add_lines, has_blocked, has_stuck};
-use crate::gathered::{gaps_of, prefix_text, sent_of};
+use crate::gathered::{gaps_of, sent_of, steps_text};
 use crate::replays::Replays;
 use crate::status::Ending;
 use crate::texts::Texts;
@@ -130,7 +130,7 @@ pub(crate) fn told_by<T: Texts, R: Replays>(
     ensures { IfOk result (λ text. IsToldBy T.Texts R.Replays judged job.now nodes.now replays.now
         (string_bytes text)) }
 {
-    let mut text = prefix_text::<T, R>(alloc, judged.ending, job, replays)?;
+    let mut text = steps_text::<T, R>(alloc, judged.ending, job, replays)?;
     add_lines(&mut text, NodeLine::Counts(judged.ending), nodes)?;
     add_lines(&mut text, NodeLine::Difference, nodes)?;
     add_no_run(alloc, judged.ending, nodes, replays, &mut text)?;

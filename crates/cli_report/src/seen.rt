@@ -55,7 +55,7 @@ fn lines_in(bytes: &[u8]) -> u64
 /// What went by in a stream.
 #[derive(Drop)]
 pub struct Seen {
-    /// The bytes that are kept: the prefix of what was read, the end of what was written, or all of
+    /// The bytes that are kept: the beginning of what was read, the end of what was written, or all of
     /// it.
     pub bytes: Vec<u8>,
     /// Whether what is read is kept; it isn't where it can be read again.

@@ -10,9 +10,9 @@ use denote.Struct.Owning.{shape, fields, to}
 use denote.Param.Send.{IsSend, AllSend, Quiet, owning_send, part_keyless, struct_send, sendable}
 use Rattle.std.proofs.Crossing.{frees}
 use Rattle.node_collectives.specs.CollectivesState.{CollectivesState}
-use Rattle.gasnet_c.specs.CollectivesHeld.{collectives_slot_owns}
+use Rattle.gasnet_c.specs.CollectivesHeld.{collectives_place_owns}
 use Rattle.node_collectives.specs.contracts.collectives.Collectives as collectives
-use Rattle.gasnet_c.specs.contracts.collectives_slot.CollectivesSlot as slot
+use Rattle.gasnet_c.specs.contracts.collectives_place.CollectivesPlace as slot
 use Rattle.node_collectives.proofs.collectives.Collectives.TheSendSync.{the_send}
 
 -- they may
@@ -28,7 +28,7 @@ quiet to unchanged q = λ x w. tt
 quiet to (leaves L l S s r) q = λ d. q (to d)
 
 -- what a slot owns names no key
-slot_keyless : (at : Ptr) (held : Option CollectivesState) → Keyless (collectives_slot_owns at held)
+slot_keyless : (at : Ptr) (held : Option CollectivesState) → Keyless (collectives_place_owns at held)
 slot_keyless at None = tt
 slot_keyless at (Some x) = (lies collectives.the_row collectives_send at x, frees.frees _ _ at)
 

@@ -10,9 +10,9 @@ use denote.Struct.Owning.{shape, fields, to}
 use denote.Param.Send.{IsSend, AllSend, Quiet, owning_send, part_keyless, struct_send, sendable}
 use Rattle.std.proofs.Crossing.{frees}
 use Rattle.node_endpoint.specs.EndpointState.{EndpointState}
-use Rattle.gasnet_c.specs.Held.{slot_owns}
+use Rattle.gasnet_c.specs.Held.{place_owns}
 use Rattle.gasnet_c.specs.contracts.node.Node as node
-use Rattle.gasnet_c.specs.contracts.slot.Slot as slot
+use Rattle.gasnet_c.specs.contracts.node_place.NodePlace as slot
 use Rattle.gasnet_c.proofs.node.Node.TheSendSync.{the_send}
 
 -- a node may
@@ -28,7 +28,7 @@ quiet to unchanged q = λ x w. tt
 quiet to (leaves L l S s r) q = λ d. q (to d)
 
 -- what a slot owns names no key
-slot_keyless : (at : Ptr) (held : Option EndpointState) → Keyless (slot_owns at held)
+slot_keyless : (at : Ptr) (held : Option EndpointState) → Keyless (place_owns at held)
 slot_keyless at None = tt
 slot_keyless at (Some x) = (lies node.the_row node_send at x, frees.frees _ _ at)
 

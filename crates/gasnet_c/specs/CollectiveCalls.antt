@@ -29,7 +29,7 @@ pub record Handles : Type 0 where
   pub collectives : Option CollectivesState
 
 abbrev pub handles : Handle → CollectivesHandle → Handles
-handles handle collectives = record { node = handle.slot.held; collectives = collectives.slot.held }
+handles handle collectives = record { node = handle.place.held; collectives = collectives.place.held }
 
 -- a node, and its collectives
 pub record NodeAndCollectives : Type 0 where

@@ -8,7 +8,7 @@ use Rattle.node_collectives.specs.CollectivesState.{CollectivesState}
 use Rattle.node_collectives.specs.contracts.collectives.Collectives as collectives
 
 -- the place of boxed collectives, with the right to free its block; nothing where none are held
-abbrev pub collectives_slot_owns : Ptr → Option CollectivesState → Fml
-collectives_slot_owns at None = ftrue
-collectives_slot_owns at (Some x) =
+abbrev pub collectives_place_owns : Ptr → Option CollectivesState → Fml
+collectives_place_owns at None = ftrue
+collectives_place_owns at (Some x) =
     box_owns (ghosts.dealloc_token (record { memory = record { seal = tt } })) collectives.the_row at x

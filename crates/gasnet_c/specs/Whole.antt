@@ -10,11 +10,11 @@ use Rattle.gasnet_c.specs.declared.handle.Handle.{Handle}
 
 -- a node is in it where it says so
 abbrev pub IsWhole : Handle → Type 0
-IsWhole handle = handle.live ≡ is_some handle.slot.held
+IsWhole handle = handle.live ≡ is_some handle.place.held
 
 -- collectives are in it where it says so
 abbrev pub HasCollectives : CollectivesHandle → Type 0
-HasCollectives handle = handle.live ≡ is_some handle.slot.held
+HasCollectives handle = handle.live ≡ is_some handle.place.held
 
 -- an endpoint of a job with one thread can take the event
 abbrev pub IsForOne : Event → Type 0

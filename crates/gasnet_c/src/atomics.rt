@@ -83,8 +83,8 @@ pub extern "C" fn gasnet_c_atomic(
 ) -> Told
     requires { IsWhole handle.old }
     ensures whole { IsWhole handle.new }
-    ensures tells { TellsBatch handle.old.slot.held now what.now result buffer.new
-        handle.new.slot.held }
+    ensures tells { TellsBatch handle.old.place.held now what.now result buffer.new
+        handle.new.place.held }
 {
     if !handle.live {
         return dead();

@@ -14,7 +14,7 @@ use node_rules::Call;
 use std::alloc::Global;
 
 /// Notifies the present phase of the barrier with an identifier. The flags are 0 where it is named, 1 where it is
-/// anonymous, and 2 for a mismatch. It is `GASNET_C_OK`, or `GASNET_C_BAD` out of turn. Its notes are sent by
+/// anonymous, and 2 for a mismatch. It is `GASNET_C_OK`, or `GASNET_C_BAD` out of turn. Its notifications are sent by
 /// `gasnet_c_tick`.
 #[unsafe(no_mangle)]
 pub extern "C" fn gasnet_c_notify(
@@ -26,8 +26,8 @@ pub extern "C" fn gasnet_c_notify(
 ) -> Told
     requires { IsWhole handle.old }
     ensures whole { IsWhole handle.new }
-    ensures tells { (meaning : Meaning) → Tells meaning handle.old.slot.held now
-        (event.Call 0 (call.Notify id flags)) result [] handle.new.slot.held }
+    ensures tells { (meaning : Meaning) → Tells meaning handle.old.place.held now
+        (event.Call 0 (call.Notify id flags)) result [] handle.new.place.held }
 {
     called(alloc, handle, now, Call::Notify { id, flags })
 }
@@ -45,8 +45,8 @@ pub extern "C" fn gasnet_c_try(
 ) -> Told
     requires { IsWhole handle.old }
     ensures whole { IsWhole handle.new }
-    ensures tells { (meaning : Meaning) → Tells meaning handle.old.slot.held now
-        (event.Call 0 (call.TryBarrier id flags)) result [] handle.new.slot.held }
+    ensures tells { (meaning : Meaning) → Tells meaning handle.old.place.held now
+        (event.Call 0 (call.TryBarrier id flags)) result [] handle.new.place.held }
 {
     called(alloc, handle, now, Call::TryBarrier { id, flags })
 }

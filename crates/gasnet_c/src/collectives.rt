@@ -30,10 +30,10 @@ pub extern "C" fn gasnet_c_coll_new(
     requires whole { IsWhole handle.old }
     requires collectives { HasCollectives collectives.old }
     ensures whole { IsWhole handle.new }
-    ensures same { handle.new.slot.held ≡ handle.old.slot.held }
+    ensures same { handle.new.place.held ≡ handle.old.place.held }
     ensures collectives { HasCollectives collectives.new }
-    ensures begins { BeginsIn handle.old.slot.held base room collectives.old.slot.held result
-        collectives.new.slot.held }
+    ensures begins { BeginsIn handle.old.place.held base room collectives.old.place.held result
+        collectives.new.place.held }
 {
     if !handle.live {
         return DEAD;
@@ -61,7 +61,7 @@ pub extern "C" fn gasnet_c_coll_new(
 pub extern "C" fn gasnet_c_coll_free(alloc: Global, collectives: &mut CollectivesHandle)
     requires { HasCollectives collectives.old }
     ensures whole { HasCollectives collectives.new }
-    ensures empty { collectives.new.slot.held ≡ None }
+    ensures empty { collectives.new.place.held ≡ None }
 {
     if collectives.live {
         drop(collectives_taken(collectives, alloc));

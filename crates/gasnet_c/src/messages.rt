@@ -99,10 +99,10 @@ pub extern "C" fn gasnet_c_request(
 ) -> Told
     requires { IsWhole handle.old }
     ensures whole { IsWhole handle.new }
-    ensures tells { IsToAnother handle.old.slot.held ask.now.to → (meaning : Meaning)
+    ensures tells { IsToAnother handle.old.place.held ask.now.to → (meaning : Meaning)
         → Tells meaning
-        handle.old.slot.held now (event.Call 0 (asked_call ask.now)) result buffer.new
-        handle.new.slot.held }
+        handle.old.place.held now (event.Call 0 (asked_call ask.now)) result buffer.new
+        handle.new.place.held }
 {
     if !handle.live {
         return dead();
@@ -136,13 +136,13 @@ pub extern "C" fn gasnet_c_request_own(
 ) -> Told
     requires { IsWhole handle.old }
     ensures whole { IsWhole handle.new }
-    ensures tells { TellsOwn handle.old.slot.held now
+    ensures tells { TellsOwn handle.old.place.held now
         (record {
           call = asked_call ask.now;
           run = run.now;
           reply_left = reply_left.entry;
         })
-        result handle.new.slot.held }
+        result handle.new.place.held }
 {
     if !handle.live {
         return dead();
@@ -167,8 +167,8 @@ pub extern "C" fn gasnet_c_request_own(
 pub extern "C" fn gasnet_c_peek(alloc: Global, handle: &mut Handle, bytes: &[u8]) -> Coming
     requires { IsWhole handle.old }
     ensures whole { IsWhole handle.new }
-    ensures same { handle.new.slot.held ≡ handle.old.slot.held }
-    ensures tells { PeeksIn handle.old.slot.held bytes.now result }
+    ensures same { handle.new.place.held ≡ handle.old.place.held }
+    ensures tells { PeeksIn handle.old.place.held bytes.now result }
 {
     if !handle.live {
         return nothing();
@@ -200,8 +200,8 @@ pub extern "C" fn gasnet_c_deliver(
 ) -> Told
     requires { IsWhole handle.old }
     ensures whole { IsWhole handle.new }
-    ensures tells { Tells (asked_in handle.old.slot.held reply.now) handle.old.slot.held now
-        (event.Deliver bytes.entry) result buffer.new handle.new.slot.held }
+    ensures tells { Tells (asked_in handle.old.place.held reply.now) handle.old.place.held now
+        (event.Deliver bytes.entry) result buffer.new handle.new.place.held }
 {
     if !handle.live {
         return dead();

@@ -111,7 +111,7 @@ pub extern "C" fn gasnet_c_new(
     requires whole { IsWhole handle.old }
     requires zeros { memory.items ≡ replicate setup.now.segment 0 }
     ensures whole { IsWhole handle.new }
-    ensures opens { Opens setup.now handle.old.slot.held result handle.new.slot.held }
+    ensures opens { Opens setup.now handle.old.place.held result handle.new.place.held }
 {
     may_cross(&*handle);
     if handle.live {
@@ -138,7 +138,7 @@ pub extern "C" fn gasnet_c_new(
 pub extern "C" fn gasnet_c_free(alloc: Global, handle: &mut Handle)
     requires { IsWhole handle.old }
     ensures whole { IsWhole handle.new }
-    ensures empty { handle.new.slot.held ≡ None }
+    ensures empty { handle.new.place.held ≡ None }
 {
     if handle.live {
         drop(taken(handle, alloc));

@@ -26,8 +26,8 @@ pub extern "C" fn gasnet_c_again(
 ) -> u64
     requires { IsWhole handle.old }
     ensures whole { IsWhole handle.new }
-    ensures same { handle.new.slot.held ≡ handle.old.slot.held }
-    ensures tells { TellsAgain handle.old.slot.held to slot result buffer.new }
+    ensures same { handle.new.place.held ≡ handle.old.place.held }
+    ensures tells { TellsAgain handle.old.place.held to slot result buffer.new }
 {
     if !handle.live {
         return 0;
@@ -44,8 +44,8 @@ pub extern "C" fn gasnet_c_again(
 pub extern "C" fn gasnet_c_next_due(alloc: Global, handle: &mut Handle) -> u64
     requires { IsWhole handle.old }
     ensures whole { IsWhole handle.new }
-    ensures same { handle.new.slot.held ≡ handle.old.slot.held }
-    ensures tells { TellsNextDue handle.old.slot.held result }
+    ensures same { handle.new.place.held ≡ handle.old.place.held }
+    ensures tells { TellsNextDue handle.old.place.held result }
 {
     if !handle.live {
         return u64::MAX;

@@ -55,8 +55,8 @@ pub extern "C" fn gasnet_c_serve(
 ) -> Told
     requires { IsWhole handle.old }
     ensures whole { IsWhole handle.new }
-    ensures tells { Tells serving handle.old.slot.held now (event.Deliver bytes.entry) result
-        buffer.new handle.new.slot.held }
+    ensures tells { Tells serving handle.old.place.held now (event.Deliver bytes.entry) result
+        buffer.new handle.new.place.held }
 {
     if !handle.live {
         return dead();

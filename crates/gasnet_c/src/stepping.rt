@@ -22,14 +22,14 @@ pub fn stepped<H: Handlers>(
     event_at: &EventAt<'_>,
     buffer: &mut [u8],
 ) -> Told
-    requires live { IsSome handle.old.slot.held }
+    requires live { IsSome handle.old.place.held }
     requires may { IsForOne event_at.now.event }
     ensures whole { IsWhole handle.new }
-    ensures tells { Tells (H.meaning handlers.now) handle.old.slot.held event_at.now.time
-        event_at.now.event result buffer.new handle.new.slot.held }
-    ensures quiet { RunsNoneIn handle.old.slot.held event_at.now.event → (meaning : Meaning) → Tells
-        meaning handle.old.slot.held event_at.now.time event_at.now.event result buffer.new
-        handle.new.slot.held }
+    ensures tells { Tells (H.meaning handlers.now) handle.old.place.held event_at.now.time
+        event_at.now.event result buffer.new handle.new.place.held }
+    ensures quiet { RunsNoneIn handle.old.place.held event_at.now.event → (meaning : Meaning) → Tells
+        meaning handle.old.place.held event_at.now.time event_at.now.event result buffer.new
+        handle.new.place.held }
 {
     let mut node = taken(handle, alloc);
     let told = node.happen(handlers, event_at, buffer);
@@ -43,8 +43,8 @@ pub fn called(alloc: Global, handle: &mut Handle, now: u64, call: Call<'_>) -> T
     requires may { IsForOne (event.Call 0 call) }
     requires asks_none { AsksNone call }
     ensures whole { IsWhole handle.new }
-    ensures tells { (meaning : Meaning) → Tells meaning handle.old.slot.held now
-        (event.Call 0 call.entry) result [] handle.new.slot.held }
+    ensures tells { (meaning : Meaning) → Tells meaning handle.old.place.held now
+        (event.Call 0 call.entry) result [] handle.new.place.held }
 {
     if !handle.live {
         return dead();
@@ -74,8 +74,8 @@ pub extern "C" fn gasnet_c_tick(
 ) -> Told
     requires { IsWhole handle.old }
     ensures whole { IsWhole handle.new }
-    ensures tells { (meaning : Meaning) → Tells meaning handle.old.slot.held now event.Tick result
-        buffer.new handle.new.slot.held }
+    ensures tells { (meaning : Meaning) → Tells meaning handle.old.place.held now event.Tick result
+        buffer.new handle.new.place.held }
 {
     if !handle.live {
         return dead();

@@ -79,8 +79,8 @@ fn moved_call(what: &Move) -> Call<'static>
 pub extern "C" fn gasnet_c_begin(alloc: Global, handle: &mut Handle, now: u64, what: &Move) -> Told
     requires { IsWhole handle.old }
     ensures whole { IsWhole handle.new }
-    ensures tells { (meaning : Meaning) → Tells meaning handle.old.slot.held now
-        (event.Call 0 (moved_call what.now)) result [] handle.new.slot.held }
+    ensures tells { (meaning : Meaning) → Tells meaning handle.old.place.held now
+        (event.Call 0 (moved_call what.now)) result [] handle.new.place.held }
 {
     called(alloc, handle, now, moved_call(what))
 }
@@ -91,9 +91,9 @@ pub extern "C" fn gasnet_c_begin(alloc: Global, handle: &mut Handle, now: u64, w
 pub extern "C" fn gasnet_c_sync(alloc: Global, handle: &mut Handle, now: u64, serial: u64) -> Told
     requires { IsWhole handle.old }
     ensures whole { IsWhole handle.new }
-    ensures tells { (meaning : Meaning) → Tells meaning handle.old.slot.held now
+    ensures tells { (meaning : Meaning) → Tells meaning handle.old.place.held now
         (event.Call 0 (call.SyncHandle (record { serial = serial }))) result []
-        handle.new.slot.held }
+        handle.new.place.held }
 {
     let call = Call::SyncHandle {
         handle: Operation { serial },

@@ -230,7 +230,7 @@ allowed : (settings : Parameters) (table : List (Option Entry)) (meaning : Meani
     → the_answer (unless_forbidden (endpoint_rules settings table meaning) thread judged local
     (answers.Barrier says, left)).0 ≡ the_answer (answers.Barrier answer)
     → says ≡ answer
-allowed settings table meaning thread (Ok call_outcome) local says left answer e = cc
+allowed settings table meaning thread (Ok unit) local says left answer e = cc
 allowed settings table meaning thread (Err forbidden) local says left answer e = absurd (cc)
 
 -- what a try tells of barriers whose run is one by themselves

@@ -18,7 +18,7 @@ use Rattle.part_handlers.specs.Runs.{Meaning, Frame, Start, IsLawfulMeaning, IsL
 use Rattle.spec_node.specs.Record.{Run, Node}
 use Rattle.spec_node.specs.Behaviour.{Contact}
 use Rattle.part_barrier.proofs.Within.{stays_within}
-use Rattle.part_barrier.specs.Within.{IsNotedWithin}
+use Rattle.part_barrier.specs.Within.{IsWithin}
 use Rattle.node_core.specs.Kept.{Local, start_from, with_writes}
 use Rattle.node_core.specs.Library.{is_library, library_reply, library_outcome, get_handler}
 use Rattle.node_core.specs.HandlerRuns.{handlers_of, frame_of_run, landing, client_outcome, reply_or_ack, run_request}
@@ -90,7 +90,7 @@ run_replies settings table meaning contact content local lawful = either (is_lib
 -- ---- nodes
 
 pub record NodeHolds (settings : Parameters) (node : Node EndpointLocal) : Type 0 where
-  pub within : IsNotedWithin settings.nodes node.local.barrier
+  pub within : IsWithin settings.nodes node.local.barrier
   pub said : AllSaid settings node.local.barrier.sent node.asked
   pub replied : AreReplies node.ran
 

@@ -14,7 +14,7 @@ use Rattle.part_barrier.specs.declared.answer.BarrierAnswer.{BarrierAnswer}
 use Rattle.part_barrier.specs.declared.answer.BarrierAnswer.TheVariants as tried
 use Rattle.part_barrier.specs.Record.{BarrierRecord, SentNotification, Try, notify_answer, notify_after, try_answer, try_after}
 use Rattle.part_barrier.specs.Record.{hear, notification_to, send}
-use Rattle.part_barrier.specs.Within.{IsNotedWithin}
+use Rattle.part_barrier.specs.Within.{IsWithin}
 use Rattle.part_barrier.specs.World.{Barriers, Notifying, Trying, Sending, Hearing, put_record, hear_sent}
 use Rattle.part_barrier.proofs.Within.{stays_within}
 use Rattle.node_rules.specs.BarrierCalls.{identifier}
@@ -33,17 +33,17 @@ nothing_added = record { notifies = []; ended = 0 }
 
 -- the barrier of the node becomes this one, which has that more
 pub record Steps (nodes : ℕ) (barriers : Barriers) (node : ℕ) (added : Added) (newer : BarrierRecord) : Type 0 where
-  pub within : IsNotedWithin nodes newer
+  pub within : IsWithin nodes newer
   pub grows : Grows (barriers node).sent newer.sent
   pub changes : Changes nodes barriers node newer
   pub notifies : newer.notifies ≡ (barriers node).notifies ++ added.notifies
   pub ended : newer.ended ≡ (barriers node).ended + added.ended
 
 pub step_same : (nodes : ℕ) (barriers : Barriers) (node : ℕ) (newer : BarrierRecord)
-    → IsNotedWithin nodes (barriers node)
+    → IsWithin nodes (barriers node)
     → newer ≡ barriers node → Steps nodes barriers node nothing_added newer
 step_same nodes barriers node newer within same = record {
-  within = subst (IsNotedWithin nodes) (sym same) within;
+  within = subst (IsWithin nodes) (sym same) within;
   grows = λ place one there. subst (λ (any : BarrierRecord). slice_get any.sent place ≡ Some one) (sym same) there;
   changes = inl same;
   notifies = ap (λ (any : BarrierRecord). any.notifies) same ∙ sym (append-nil (barriers node).notifies);
@@ -77,7 +77,7 @@ notify_ends kept id flags told.Twice = omega arith
 notify_ends kept id flags told.Exhausted = omega arith
 
 pub step_notify : (nodes : ℕ) (barriers : Barriers) (node : ℕ) (id : ℤ) (flags : ℕ) → node < nodes
-    → IsNotedWithin nodes (barriers node)
+    → IsWithin nodes (barriers node)
     → Steps nodes barriers node
     (notify_adds (identifier id) flags (notify_answer (barriers node) (identifier id) flags))
     (notify_after (barriers node) (identifier id) flags (notify_answer (barriers node) (identifier id) flags))
@@ -124,7 +124,7 @@ try_ends kept tried.BadFlags = omega arith
 try_ends kept (tried.Exhausted node) = omega arith
 
 pub step_try : (nodes : ℕ) (barriers : Barriers) (node : ℕ) (try : Try) → node < nodes
-    → IsNotedWithin nodes (barriers node)
+    → IsWithin nodes (barriers node)
     → Steps nodes barriers node (try_adds (try_answer nodes node (barriers node) try))
     (try_after (barriers node) (try_answer nodes node (barriers node) try))
 step_try nodes barriers node try there within =
@@ -152,7 +152,7 @@ hear_notifies kept notification = elim (cases_Bool (eqb notification.phase kept.
 
 -- a notification comes that the other node sent
 pub step_hear : (nodes : ℕ) (barriers : Barriers) (node other place : ℕ) (one : SentNotification) → node < nodes
-    → IsNotedWithin nodes (barriers node) → IsNotification nodes one.notification → slice_get (barriers other).sent place ≡ Some one
+    → IsWithin nodes (barriers node) → IsNotification nodes one.notification → slice_get (barriers other).sent place ≡ Some one
     → Steps nodes barriers node nothing_added (hear (barriers node) one.notification)
 step_hear nodes barriers node other place one there within is sent = record {
   within = (stays_within.1 nodes (barriers node) within).hear one.notification is;
@@ -175,7 +175,7 @@ send_notifies : (kept : BarrierRecord) (to : ℕ) (notification : Option Barrier
 send_notifies kept to None = refl
 send_notifies kept to (Some notification) = refl
 
-pub step_send : (nodes : ℕ) (barriers : Barriers) (node to : ℕ) → node < nodes → IsNotedWithin nodes (barriers node)
+pub step_send : (nodes : ℕ) (barriers : Barriers) (node to : ℕ) → node < nodes → IsWithin nodes (barriers node)
     → Steps nodes barriers node nothing_added (send (barriers node) to (notification_to nodes node (barriers node) to))
 step_send nodes barriers node to there within =
     let notification = notification_to nodes node (barriers node) to in

@@ -20,7 +20,7 @@ use Rattle.law_traces.specs.Scripts.{NodeJob, TryResult}
 use Rattle.law_traces.specs.Turn.{MachineState, before_try, coming, context, first_events, node_run, node_sends}
 use Rattle.law_traces.specs.Turn.{try_answer, try_events}
 use Rattle.spec_network.specs.Sent.{Packet, delivered_sends, sends}
-use Rattle.law_traces.specs.Rejected.{DoTheSame, HaveSameNode, IsReplayTheSame, packets_by, rejected_entry}
+use Rattle.law_traces.specs.Rejected.{DoTheSame, HaveSameNode, IsReplayTheSame, packets_by, accepted_entry}
 use Rattle.law_traces.specs.Rejected.{turn_of_entry, unless_refused}
 
 -- what becomes of a message that is refused, whatever else would become of it
@@ -194,7 +194,7 @@ module _ {Own : Type 0} (job : NodeJob EndpointLocal Own) (me : ℕ) where
 
   -- an entry and the rejected one
   pub turn_same : (one other : MachineState EndpointLocal Own) (entry : Entry) → HaveSameNode one other
-      → DoTheSame (turn_of_entry job me one entry) (turn_of_entry job me other (rejected_entry job.job me entry))
+      → DoTheSame (turn_of_entry job me one entry) (turn_of_entry job me other (accepted_entry job.job me entry))
   turn_same one other entry same =
       let left = unless_refused job.job me entry.got in
       let first : AreSame job.job me entry.now one.node (first_events job one entry.thread entry.got)
@@ -202,10 +202,10 @@ module _ {Own : Type 0} (job : NodeJob EndpointLocal Own) (me : ℕ) where
       got_same job.job me entry.now one.node (job.polls entry.thread one.node.local) entry.got in
       let events : Node EndpointLocal → List (NodeEvent OtherCall) = λ node.
       before_try job.job.settings.version (job.polls entry.thread node.local) left in
-      same_by one other entry (rejected_entry job.job me entry) _ _ _ _ refl refl same.own
+      same_by one other entry (accepted_entry job.job me entry) _ _ _ _ refl refl same.own
       (first.leaves ∙ ap (λ node. node_run job.job me entry.now (events node) node) same.node)
       (first.gives ∙ ap (λ node. node_sends job.job me entry.now (events node) node) same.node)
-      (goes_by one entry) (goes_by other (rejected_entry job.job me entry))
+      (goes_by one entry) (goes_by other (accepted_entry job.job me entry))
 
   -- all entries of a trace
   pub replay_same : (one other : MachineState EndpointLocal Own) (entries : List Entry) → HaveSameNode one other
@@ -214,11 +214,11 @@ module _ {Own : Type 0} (job : NodeJob EndpointLocal Own) (me : ℕ) where
   replay_same one other (entry ∷ entries) same =
       let here = turn_same one other entry same in
       let next = (turn_of_entry job me one entry).after in
-      let then_ = (turn_of_entry job me other (rejected_entry job.job me entry)).after in
+      let then_ = (turn_of_entry job me other (accepted_entry job.job me entry)).after in
       let rest = replay_same next then_ entries here.after in
       record {
         after = rest.after;
         packets = ap (λ (sent : List Packet). sent ++ packets_by job me next entries) here.packets
             ∙ ap (λ (sent : List Packet).
-            (turn_of_entry job me other (rejected_entry job.job me entry)).packets ++ sent) rest.packets;
+            (turn_of_entry job me other (accepted_entry job.job me entry)).packets ++ sent) rest.packets;
       }

@@ -28,12 +28,12 @@ unless_refused job me None = None
 unless_refused job me (Some bytes) = if is_refused job me bytes then None else Some bytes
 
 -- the entry, which got nothing where it got bytes that its node refuses
-abbrev pub rejected_entry : {Local Call Told : Type 0} → Job Local Call Told → (me : ℕ) → Entry → Entry
-rejected_entry job me entry = record entry { got = unless_refused job me entry.got }
+abbrev pub accepted_entry : {Local Call Told : Type 0} → Job Local Call Told → (me : ℕ) → Entry → Entry
+accepted_entry job me entry = record entry { got = unless_refused job me entry.got }
 
 -- all entries of the node
 abbrev pub without_rejected : {Local Call Told : Type 0} → Job Local Call Told → (me : ℕ) → List Entry → List Entry
-without_rejected job me entries = map (rejected_entry job me) entries
+without_rejected job me entries = map (accepted_entry job me) entries
 
 -- ---- the law
 
@@ -61,14 +61,14 @@ packets_by job me machine (entry ∷ entries) =
     (turn_of_entry job me machine entry).packets
     ++ packets_by job me (turn_of_entry job me machine entry).after entries
 
--- of machines of the node `me` with the same record and scripts: an entry and the rejected one do the same
+-- of machines of the node `me` with the same record and scripts: an entry and the accepted one do the same
 abbrev pub IsEachTurnTheSame : (Own : Type 0) → Type 0
 IsEachTurnTheSame Own =
     (job : NodeJob EndpointLocal Own) (me : ℕ) (one other : MachineState EndpointLocal Own) (entry : Entry)
     → HaveSameNode one other
-    → DoTheSame (turn_of_entry job me one entry) (turn_of_entry job me other (rejected_entry job.job me entry))
+    → DoTheSame (turn_of_entry job me one entry) (turn_of_entry job me other (accepted_entry job.job me entry))
 
--- a trace and the rejected one leave machines with the same record and scripts, and sent the same
+-- a trace and the accepted one leave machines with the same record and scripts, and sent the same
 pub record IsReplayTheSame {Own : Type 0} (job : NodeJob EndpointLocal Own) (me : ℕ)
     (one other : MachineState EndpointLocal Own) (entries : List Entry) : Type 0 where
   pub after : HaveSameNode (replay job me one entries) (replay job me other (without_rejected job.job me entries))

@@ -6,7 +6,7 @@ use Rattle.part_segment.proofs.Images.{written_by-append}
 use Rattle.part_handlers.specs.declared.token.Token.{Token}
 use Rattle.part_handlers.specs.declared.message.Replied.{Replied}
 use Rattle.part_handlers.specs.declared.message.Replied.TheVariants as answers
-use Rattle.part_handlers.specs.Tokens.{At, Stage, answer_with_token, token_after_reply, arrival_at, frame_of, stage, start_of}
+use Rattle.part_handlers.specs.Tokens.{At, Stage, answer_with_token, token_after_reply, token_arrival, frame_of, stage, start_of}
 use Rattle.part_handlers.specs.Runs.{Outcome, IsSpelled, replying}
 use Rattle.part_handlers.proofs.Laws.{replying-leaving, cells-replying, writes-replying, IsSpelled-replying}
 use Rattle.std.proofs.lemmas.Bool.{eq-eqb}
@@ -44,15 +44,15 @@ replied_at opening outcome segment later cells old new writes content result at 
 -- the message asks a request of a batch
 pub after_request_is : (opening : Stage) (outcome : Outcome) (segment : List ℕ) (cells : List ℤ) (old : Token)
     (request : BatchRequest) → At opening outcome (stage segment cells old)
-    → request_for (length segment) (arrival_at old) ≡ Some request
+    → request_for (length segment) (token_arrival old) ≡ Some request
     → after_batch (frame_of opening.token) segment (Some request) outcome
     ≡ after_request (frame_of opening.token) (start_of opening) outcome
 after_request_is opening outcome segment cells old request at says =
     let frame = frame_of opening.token in
     ap (λ (found : Option BatchRequest). after_batch frame segment found outcome) (sym says)
-    ∙ (ap (λ (token : Token). after_batch frame segment (request_for (length segment) (arrival_at token)) outcome) at.token_is
-    ∙ (ap (λ (len : ℕ). after_batch frame segment (request_for len (arrival_at opening.token)) outcome) at.same_length
-    ∙ ap (λ (bytes : List ℕ). after_batch frame bytes (request_for (length opening.segment) (arrival_at opening.token))
+    ∙ (ap (λ (token : Token). after_batch frame segment (request_for (length segment) (token_arrival token)) outcome) at.token_is
+    ∙ (ap (λ (len : ℕ). after_batch frame segment (request_for len (token_arrival opening.token)) outcome) at.same_length
+    ∙ ap (λ (bytes : List ℕ). after_batch frame bytes (request_for (length opening.segment) (token_arrival opening.token))
     outcome) at.segment_is))
 
 -- the message asks this request

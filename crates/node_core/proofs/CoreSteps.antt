@@ -54,7 +54,7 @@ use Rattle.node_core.specs.CoreContracts.{IsSameNode, AsksOwn}
 use Rattle.node_core.specs.Stands.{CoreStands}
 use Rattle.node_core.specs.CoreContracts.{Check, Lock, Unlock, Checked, Locked, Unlocked, CoreTold, CoreSteps}
 use Rattle.node_core.specs.CoreStep.{AsksFor, AsksUnlessForbidden, AsksUnlessBad, AsksNode, AsksHere, Claims, claim_of}
-use Rattle.node_core.specs.CoreStep.{after_judgement, asked_fault, judged_at, said_at, start_at, handlers_at}
+use Rattle.node_core.specs.CoreStep.{after_judgement, asked_fault, thread_rule, said_at, start_at, handlers_at}
 use Rattle.node_core.specs.CoreStep.{landed_core, request_outcome, with_outcome, with_reply_ran}
 use Rattle.node_core.specs.CoreStep.{with_own_reply, with_own_run}
 use Rattle.node_core.proofs.CoreStands.{noted_stands, locks_stand, segment_stand, outcome_stands}
@@ -103,7 +103,7 @@ same_core e new is = rw is (record { settings = refl; me_is = refl; table = refl
 
 -- the rule table judges by the record as by the core
 pub judged_alike : (e : CoreState) (r : Node Local) (thread : ℕ) (kind : CallKind) → CoreStands e r
-    → judged_at e thread kind ≡ rule (Thread thread) (holds (owner.Thread thread) r.local.locks) false kind
+    → thread_rule e thread kind ≡ rule (Thread thread) (holds (owner.Thread thread) r.local.locks) false kind
 judged_alike e r thread kind S =
     ap (λ (held : List Held). rule (Thread thread) (holds (owner.Thread thread) held) false kind) S.locks_are
 
@@ -123,7 +123,7 @@ judged_stands meaning e r thread (Err forbidden) new is S =
 
 -- a call that is judged is the record's step
 pub checks_step : (meaning : Meaning) (e : CoreState) (now thread : ℕ) (kind : CallKind)
-    (result : Result (Unit {0}) Forbidden) (new : CoreState) → result ≡ judged_at e thread kind
+    (result : Result (Unit {0}) Forbidden) (new : CoreState) → result ≡ thread_rule e thread kind
     → new ≡ after_judgement e thread result
     → CoreSteps meaning e (record { now = now; event = Does thread (Check kind); answer = OfCall (Checked result) }) new
 checks_step meaning e now thread kind result new judged is = record {
@@ -388,17 +388,17 @@ passed_answer e r ask =
 
 -- a request that the table allows
 allowed_answer : (meaning : Meaning) (e : CoreState) (r : Node Local) (ask : Ask)
-    (judgement : Result (Unit {0}) Forbidden)
-    → CoreStands e r → judged_at e ask.thread call.Request ≡ judgement
+    (ruling : Result (Unit {0}) Forbidden)
+    → CoreStands e r → thread_rule e ask.thread call.Request ≡ ruling
     → request_answer (site_at meaning e) r ask
-    ≡ unless_forbidden judgement (unless_bad (asked_fault e ask) (passed_answer e r ask))
-allowed_answer meaning e r ask judgement S j =
+    ≡ unless_forbidden ruling (unless_bad (asked_fault e ask) (passed_answer e r ask))
+allowed_answer meaning e r ask ruling S j =
     ap (λ x. unless_forbidden x (unless_bad (asked_fault e ask) (passed_answer e r ask)))
     (sym (judged_alike e r ask.thread call.Request S) ∙ j)
 
 -- what a request is answered, where the table allows it and nothing is wrong with it
 answer_is : (meaning : Meaning) (e : CoreState) (r : Node Local) (ask : Ask) (allowed : Unit {0}) (a : AskedAnswer)
-    → CoreStands e r → judged_at e ask.thread call.Request ≡ Ok allowed → asked_fault e ask ≡ None
+    → CoreStands e r → thread_rule e ask.thread call.Request ≡ Ok allowed → asked_fault e ask ≡ None
     → passed_answer e r ask ≡ a → a ≡ request_answer (site_at meaning e) r ask
 answer_is meaning e r ask allowed a S j f is =
     sym (allowed_answer meaning e r ask (Ok allowed) S j ∙ (ap (λ x. unless_bad x (passed_answer e r ask)) f ∙ is))
@@ -420,7 +420,7 @@ own_passed e r ask lock S own is =
 
 -- a request to another node, by what it was answered
 claims_step : (meaning : Meaning) (e : CoreState) (now : ℕ) (ask : Ask) (allowed : Unit {0}) (a : AskedAnswer)
-    (new : CoreState) → judged_at e ask.thread call.Request ≡ Ok allowed
+    (new : CoreState) → thread_rule e ask.thread call.Request ≡ Ok allowed
     → asked_fault e ask ≡ None → ask.to < e.settings.nodes → ask.to ≢ e.me
     → Claims e (claim_of e (asking now ask a)) new → Requests meaning e now ask a new
 claims_step meaning e now ask allowed (asked.Accepted peer slot number) new j f low other h = record {
@@ -489,7 +489,7 @@ own_same meaning e c lawful sized client fits =
 -- a request to the local node that passes the checks, by the lock for which it waits
 own_step : (meaning : Meaning) (e : CoreState) (now : ℕ) (ask : Ask) (allowed : Unit {0}) (lock : Option ℕ)
     (a : AskedAnswer) (new : CoreState) → IsLawfulMeaning meaning → length e.segment ≡ e.settings.segment
-    → judged_at e ask.thread call.Request ≡ Ok allowed → asked_fault e ask ≡ None → ask.to ≡ e.me
+    → thread_rule e ask.thread call.Request ≡ Ok allowed → asked_fault e ask ≡ None → ask.to ≡ e.me
     → busy_lock e.table ask.what.handler e.locks ≡ lock → AsksHere lock meaning e (asking now ask a) new
     → Requests meaning e now ask a new
 own_step meaning e now ask allowed (Some lock) a new lawful sized j f own busy h = record {
@@ -526,7 +526,7 @@ target_in e ask f = elim (cases_lt ask.to e.settings.nodes) [
 asks_node : (meaning : Meaning) (e : CoreState) (now : ℕ) (ask : Ask) (allowed : Unit {0}) (a : AskedAnswer)
     (new : CoreState) (own : Bool) → eqb ask.to e.me ≡ own → IsLawfulMeaning meaning
     → length e.segment ≡ e.settings.segment
-    → judged_at e ask.thread call.Request ≡ Ok allowed → asked_fault e ask ≡ None
+    → thread_rule e ask.thread call.Request ≡ Ok allowed → asked_fault e ask ≡ None
     → AsksNode own meaning e (asking now ask a) new → Requests meaning e now ask a new
 asks_node meaning e now ask allowed a new true own lawful sized j f h =
     own_step meaning e now ask allowed (busy_lock e.table ask.what.handler e.locks) a new lawful sized j f
@@ -538,7 +538,7 @@ asks_node meaning e now ask allowed a new false own lawful sized j f h =
 -- a request that the rule table allows, by what is wrong with it
 asks_unless_bad : (meaning : Meaning) (e : CoreState) (now : ℕ) (ask : Ask) (allowed : Unit {0}) (f : Option Which)
     (a : AskedAnswer) (new : CoreState) → IsLawfulMeaning meaning → length e.segment ≡ e.settings.segment
-    → judged_at e ask.thread call.Request ≡ Ok allowed → asked_fault e ask ≡ f
+    → thread_rule e ask.thread call.Request ≡ Ok allowed → asked_fault e ask ≡ f
     → AsksUnlessBad f meaning e (asking now ask a) new → Requests meaning e now ask a new
 asks_unless_bad meaning e now ask allowed (Some part) a new lawful sized j fault_is h = record {
   same = same_core e new h.1;
@@ -554,7 +554,7 @@ asks_unless_bad meaning e now ask allowed None a new lawful sized j fault_is h =
 -- a request, by how it was judged
 asks_unless : (meaning : Meaning) (e : CoreState) (now : ℕ) (ask : Ask) (j : Result (Unit {0}) Forbidden)
     (a : AskedAnswer) (new : CoreState) → IsLawfulMeaning meaning → length e.segment ≡ e.settings.segment
-    → judged_at e ask.thread call.Request ≡ j
+    → thread_rule e ask.thread call.Request ≡ j
     → AsksUnlessForbidden j meaning e (asking now ask a) new → Requests meaning e now ask a new
 asks_unless meaning e now ask (Err forbidden) a new lawful sized j h = record {
   same = rw h.1 (record { settings = refl; me_is = refl; table = refl; segment_length = refl });
@@ -584,7 +584,7 @@ pub requests_step : (meaning : Meaning) (e : CoreState) (now : ℕ) (ask : Ask) 
     → CoreSteps meaning e (record { now = now; event = Asks ask; answer = OfRequest a }) new
 requests_step meaning e now ask a new lawful sized h =
     asks_step meaning e now ask a new
-    (asks_unless meaning e now ask (judged_at e ask.thread call.Request) a new lawful sized refl h)
+    (asks_unless meaning e now ask (thread_rule e ask.thread call.Request) a new lawful sized refl h)
 
 -- a request of the library to another node, by what it was answered
 pub own_ask_step : (e : CoreState) (now to : ℕ) (work : Work) (a : AskedAnswer) (new : CoreState)

@@ -8,7 +8,7 @@ use Rattle.part_handlers.specs.declared.token.Token.{Token}
 use Rattle.part_handlers.specs.declared.rules.CallKind.TheVariants as call
 use Rattle.part_handlers.specs.LogState.{LogRecord, notes}
 use Rattle.part_handlers.specs.Runs.{Frame, Meaning, IsLawfulMeaning, IsSpelled, violation, after_return, refusal}
-use Rattle.part_handlers.specs.Tokens.{At, stage, start_of, noting, judged_at, frame_of, reply_after, buffer_after}
+use Rattle.part_handlers.specs.Tokens.{At, stage, start_of, noting, token_rule, frame_of, reply_after, buffer_after}
 use Rattle.part_handlers.specs.declared.lock_answer.Held.{Held}
 use Rattle.part_handlers.specs.declared.lock_answer.Owner.TheVariants as owner
 use Rattle.part_handlers.specs.Locks.{holds, without}
@@ -38,7 +38,7 @@ pub ran_is : (meaning : Meaning) (work : Work) (before after : HandlerState) (to
     → frame_of token ≡ (run_of meaning work before).frame → token.locks.now ≡ before.locks
     → token.log.now ≡ before.log → token.buffer.now ≡ buffer
     → after.locks ≡ without owner.Handler old.locks.now
-    → after.log ≡ (noting old (refusal (judged_at old call.Return))).log.now
+    → after.log ≡ (noting old (refusal (token_rule old call.Return))).log.now
     → new_buffer ≡ old.buffer.now → reply ≡ old.reply
     → Ran (run_of meaning work before) after buffer new_buffer reply
 ran_is meaning work before after token old buffer new_buffer reply lawful unheld at frame_is locks_is log_is buffer_is

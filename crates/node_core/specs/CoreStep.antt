@@ -189,8 +189,8 @@ after_judgement core thread (Ok allowed) = core
 after_judgement core thread (Err forbidden) = noting core thread (fault.Rule forbidden ∷ [])
 
 -- how the rule table judges a thread's call at the core
-abbrev pub judged_at : CoreState → (thread : ℕ) → CallKind → Result (Unit {0}) Forbidden
-judged_at core thread kind = rule (Thread thread) (holds (owner.Thread thread) core.locks) false kind
+abbrev pub thread_rule : CoreState → (thread : ℕ) → CallKind → Result (Unit {0}) Forbidden
+thread_rule core thread kind = rule (Thread thread) (holds (owner.Thread thread) core.locks) false kind
 
 -- ---- deliveries
 
@@ -377,4 +377,4 @@ AsksUnlessForbidden (Ok allowed) meaning core step new =
 -- a request of a thread
 abbrev pub AsksFor : Meaning → CoreState → Transition Ask AskedAnswer → CoreState → Type 0
 AsksFor meaning core step new =
-    AsksUnlessForbidden (judged_at core step.event.thread call.Request) meaning core step new
+    AsksUnlessForbidden (thread_rule core step.event.thread call.Request) meaning core step new

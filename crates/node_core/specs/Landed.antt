@@ -1,4 +1,4 @@
--- What the payload of an own request or of its reply becomes. A Long's stands in the segment, a Medium's at the prefix
+-- What the payload of an own request or of its reply becomes. A Long's stands in the segment, a Medium's at the beginning
 -- of a buffer.
 use Rattle.std.specs.Prelude.{ℕ, ◌≡◌, ◌≤◌, take, List, length, Option, Some, None, if◌then◌else◌}
 use Rattle.wire_message.specs.Content.{Content, code, is_long}

@@ -1,4 +1,4 @@
--- The library's own messages, which carry transfers and notes of the barrier from node to node. Of each: what it says,
+-- The library's own messages, which carry transfers and notifications of the barrier from node to node. Of each: what it says,
 -- when it is refused, and what its run gives.
 -- Origin: GASNet 1.8.1, core API: no client registers a handler with an index below 128; extended API: transfers of
 -- memory, memset, split-phase barriers. The handlers and their arguments are this project's profile.

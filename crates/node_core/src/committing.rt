@@ -39,7 +39,7 @@ fn outgoing<'a>(address: Address, asking: &Asking<'a>, payload: &'a [u8]) -> Out
 /// answers the two.
 ///
 /// The slot and the number that the address has are of no meaning.
-pub fn commit_request(
+pub fn keep_request(
     requests: &mut CreditSlots,
     way: Address,
     now: u64,
@@ -77,7 +77,7 @@ pub fn commit_request(
 }
 
 /// Keeps a reply of the library, or an Ack, to a request that is new in its slot.
-pub fn commit_reply(replies: &mut ReplySlots, reply: &Outgoing<'_>)
+pub fn keep_reply(replies: &mut ReplySlots, reply: &Outgoing<'_>)
     requires formed { IsWellFormed (outgoing_message reply.now) }
     requires slot { reply.now.slot < slot_count replies.old reply.now.to }
     requires new { JudgesAt replies.old reply.now.to reply.now.slot reply.now.number Judged.New }

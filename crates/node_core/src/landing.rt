@@ -81,7 +81,7 @@ pub fn payload_of<'a>(segment: &'a Segment, payload: &Payload<'a>) -> &'a [u8]
 }
 
 /// Puts the payload of an own request where its handler finds it: a Long's at its place of the segment, a Medium's at
-/// the prefix of the buffer. Tells how many bytes stand there for the handler.
+/// the beginning of the buffer. Tells how many bytes stand there for the handler.
 pub fn lend_own(segment: &mut Segment, buffer: &mut [u8], asking: &Asking<'_>) -> usize
     requires fine { IsFine (length segment.old) (asking_of asking.now) }
     requires room { length buffer.old ≡ MAX_DATAGRAM }

@@ -18,7 +18,7 @@ ghost use Rattle.node_core.specs.Sizes.{HasSegment};
 use crate::answer::{Asked, Delivered, SlotRef, Why};
 use crate::arguments::arguments;
 use crate::asking::{Asking, Category, Payload};
-use crate::committing::commit_reply;
+use crate::committing::keep_reply;
 use crate::landing::land;
 use crate::library::{
     GET, GET_REPLY, LibraryRequest, MEMSET, NOTE, PUT, fetch_arguments, fill_arguments, read_fetch,
@@ -145,7 +145,7 @@ impl Core {
     {
         let way = self.reply_way(message);
         if message.handler != GET {
-            commit_reply(&mut self.replies, &ack(way));
+            keep_reply(&mut self.replies, &ack(way));
             return;
         }
         let (args, count) = arguments(message);
@@ -156,7 +156,7 @@ impl Core {
             unreachable!();
         };
         let reply = long_reply(way, GET_REPLY, &[], fetch.local, bytes);
-        commit_reply(&mut self.replies, &reply);
+        keep_reply(&mut self.replies, &reply);
     }
 
     /// How the run of a request of the library is told.

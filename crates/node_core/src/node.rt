@@ -15,7 +15,7 @@ ghost use Rattle.spec_node.specs.NodeStep.{Asks, Does, Ticks, OfRequest, OfCall,
 ghost use Rattle.node_core.specs.AskedFor.{ask_of, work_of};
 ghost use Rattle.node_core.specs.Library.{WorkFits};
 ghost use Rattle.node_core.specs.Kept.{nothing_done, segment_of};
-ghost use Rattle.node_core.specs.CoreStep.{judged_at, noting};
+ghost use Rattle.node_core.specs.CoreStep.{thread_rule, noting};
 ghost use Rattle.node_core.specs.InPlace.{IsQuiet, keeping_in, meant_in};
 ghost use Rattle.node_core.specs.Sizes.{HasSegment};
 ghost use Rattle.node_core.specs.Stands.{CoreStands};
@@ -153,7 +153,7 @@ impl Core {
     /// `Offset` where its place passes the end of the target's; for the local node `LockBusy` with the smallest lock
     /// that a thread holds among those of the handler and of all handlers of replies, else `Ran`, where the handler
     /// runs at once and then that of its reply; `Exhausted` where the numbers of the pair are used up; `NotYet` where
-    /// all its credits are out; else `Accepted`. `now` is the time of its sending, in any one unit. After a refusal the
+    /// all its credits are outstanding; else `Accepted`. `now` is the time of its sending, in any one unit. After a refusal the
     /// core stands for the same record, but that `Forbidden` is noted as a violation.
     ///
     /// The segment is as long as the settings say.
@@ -173,7 +173,7 @@ impl Core {
     /// A request of the library to another node, of the node's own accord (GASNet 1.8.1, extended API): a chunk of a
     /// transfer, or a notification of the barrier. A put's bytes are copied out of the local segment as it is now.
     ///
-    /// `Exhausted` exactly where the numbers of the pair are used up, then `NotYet` where all its credits are out, else
+    /// `Exhausted` exactly where the numbers of the pair are used up, then `NotYet` where all its credits are outstanding, else
     /// `Accepted`. `now` is the time of its sending.
     ///
     /// Ranges are of 1 to 8,192 bytes inside the segments, a notification's mask is within the nodes and its flags 0 to
@@ -246,7 +246,7 @@ impl Core {
 
     /// Judges a call of a thread by the rule table; where it is forbidden, a violation is noted.
     pub fn check(&mut self, thread: u16, call: CallKind) -> Result<(), Forbidden>
-        ensures judged { result ≡ judged_at self.old thread call }
+        ensures judged { result ≡ thread_rule self.old thread call }
         ensures steps { (meaning : Meaning) (now : ℕ) → CoreSteps meaning self.old
             (record {
               now = now;

@@ -15,7 +15,7 @@ ghost use Rattle.part_handlers.specs.Runs.{IsPlaced, passes_end};
 ghost use Rattle.node_core.specs.ClientRules.{IsFine, busy_lock, content_refusal, is_handled};
 ghost use Rattle.node_core.specs.CoreStep.{AsksFor, Claims, DeliversMessage, IsOurRequest};
 ghost use Rattle.node_core.specs.CoreStep.{IsOurReply, IsOurs};
-ghost use Rattle.node_core.specs.CoreStep.{IsNewRequest, RunsBy, Retransmits, after_judgement, judged_at};
+ghost use Rattle.node_core.specs.CoreStep.{IsNewRequest, RunsBy, Retransmits, after_judgement, thread_rule};
 ghost use Rattle.node_core.specs.CoreStep.{CanRunReply, asked_fault, claim_of, lock_at};
 ghost use Rattle.node_core.specs.CoreStep.{message_refusal, with_own_run};
 ghost use Rattle.node_core.specs.CoreStep.{client_delivered, with_reply_ran, with_client_reply_ran};
@@ -26,7 +26,7 @@ ghost use Rattle.node_core.specs.Sizes.{HasSegment};
 use crate::answer::{Asked, Delivered, Side, SlotRef, Why};
 use crate::arguments::arguments;
 use crate::asking::{Asking, Category, Payload};
-use crate::committing::commit_request;
+use crate::committing::keep_request;
 use crate::context::{HandlerContext, listed_for};
 use crate::landing::{Landing, land, land_if_written, lend_own};
 use crate::library::LAST_OWN;
@@ -69,7 +69,7 @@ impl Core {
 
     /// Judges a call of a thread; where it is forbidden, a violation is noted.
     pub(crate) fn judge(&mut self, thread: u16, call: CallKind) -> Result<(), Forbidden>
-        ensures judged { result ≡ judged_at self.old thread call }
+        ensures judged { result ≡ thread_rule self.old thread call }
         ensures noted { self.new ≡ after_judgement self.old thread result }
     {
         let context = Context::Thread(thread);
@@ -205,7 +205,7 @@ impl Core {
     {
         let to = asking.to;
         let way = self.request_way(to);
-        match commit_request(&mut self.requests, way, now, asking, payload) {
+        match keep_request(&mut self.requests, way, now, asking, payload) {
             Ok((slot, number)) => Asked::Accepted { to, slot, number },
             Err(NoClaim::Exhausted) => Asked::Exhausted,
             Err(NoClaim::NotYet) => Asked::NotYet,
@@ -243,7 +243,7 @@ impl Core {
         let Some(payload) = self.segment.part(offset, len) else {
             unreachable!();
         };
-        match commit_request(&mut self.requests, way, now, asking, payload) {
+        match keep_request(&mut self.requests, way, now, asking, payload) {
             Ok((slot, number)) => Asked::Accepted { to, slot, number },
             Err(NoClaim::Exhausted) => Asked::Exhausted,
             Err(NoClaim::NotYet) => Asked::NotYet,

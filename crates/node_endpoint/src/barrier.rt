@@ -63,7 +63,7 @@ impl Extended {
         ensures due { IfSome result (λ found. notification_at self.now.barrier found.0 ≡ Some found.1) }
         ensures there { IfSome result (λ found. found.0 < core.now.settings.nodes) }
     {
-        if self.barrier.is_quiet() {
+        if self.barrier.has_notified_nothing() {
             return None;
         }
         for to in self.barrier.first_owed()..self.nodes {

@@ -22,7 +22,7 @@ use Rattle.part_handlers.specs.declared.lock_answer.Owner.TheVariants as owner
 use Rattle.part_handlers.specs.Locks.{holds}
 use Rattle.part_transfers.specs.Regions.{has_begun}
 use Rattle.part_barrier.specs.Record.{BarrierRecord}
-use Rattle.part_barrier.specs.Within.{IsNotedWithin}
+use Rattle.part_barrier.specs.Within.{IsWithin}
 use Rattle.part_barrier.proofs.Within.{stays_within}
 use Rattle.part_transfers.specs.declared.operation.Handle.{Handle}
 use Rattle.part_transfers.specs.declared.operation.Mode.{Mode}
@@ -273,14 +273,14 @@ transfer_kept caller call local good =
         locks = subst (λ (locks : List Held). holds owner.Handler locks ≡ false) (sym (framed.locks refl)) good.core.locks;
       };
       operations = subst (AreByChunks caller.settings caller.me) (sym (framed.operations refl)) good.operations;
-      barrier = subst (IsNotedWithin caller.settings.nodes) (sym (framed.barrier refl)) good.barrier;
+      barrier = subst (IsWithin caller.settings.nodes) (sym (framed.barrier refl)) good.barrier;
     }
 
 -- ---- calls on the barrier
 
 barrier_kept : (caller : Caller) (call : BarrierCall) (barrier : BarrierRecord)
-    → IsNotedWithin caller.settings.nodes barrier
-    → IsNotedWithin caller.settings.nodes (barrier_does caller call barrier).1
+    → IsWithin caller.settings.nodes barrier
+    → IsWithin caller.settings.nodes (barrier_does caller call barrier).1
 barrier_kept caller (Notify id flags) barrier good =
     (stays_within.1 caller.settings.nodes barrier good).notify (identifier id) flags (identifier_fits id)
 barrier_kept caller (TryBarrier id flags) barrier good =

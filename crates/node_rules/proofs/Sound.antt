@@ -14,7 +14,7 @@ use Rattle.spec_node.specs.declared.answer.SlotRef.{SlotRef}
 use Rattle.spec_node.specs.Behaviour.{Contact, RanRequest, IsFirstSent, asks_well}
 use Rattle.spec_node.specs.NodeStep.{IsAllSound}
 use Rattle.part_barrier.specs.Record.{BarrierRecord}
-use Rattle.part_barrier.specs.Within.{IsNotedWithin}
+use Rattle.part_barrier.specs.Within.{IsWithin}
 use Rattle.part_barrier.proofs.Within.{stays_within}
 use Rattle.part_transfers.specs.Operation.{Operation, issue, come_back}
 use Rattle.part_transfers.proofs.Issued.{issue_was}
@@ -32,8 +32,8 @@ use Rattle.node_rules.proofs.Kept.{calls_kept}
 
 -- what is heard of a request that isn't refused can be sent on
 notification_kept : (settings : Parameters) (table : List (Option Entry)) (content : Content) (barrier : BarrierRecord)
-    → asks_well (content_refusal settings table) content ≡ true → IsNotedWithin settings.nodes barrier
-    → IsNotedWithin settings.nodes (after_notification settings content barrier)
+    → asks_well (content_refusal settings table) content ≡ true → IsWithin settings.nodes barrier
+    → IsWithin settings.nodes (after_notification settings content barrier)
 notification_kept settings table content barrier well good =
     let notification = notification_said settings.version content.args in
     elim (cases_Bool ((content.handler == notification_handler) && has_ranges notification)) [

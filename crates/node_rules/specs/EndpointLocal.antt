@@ -5,7 +5,7 @@ use Rattle.wire_message.specs.Parameters.{Parameters}
 use Rattle.base_lists.specs.Numbered.{element_at}
 use Rattle.part_transfers.specs.declared.regions.Region.{Region}
 use Rattle.part_barrier.specs.Record.{BarrierRecord, opened_record}
-use Rattle.part_barrier.specs.Within.{IsNotedWithin}
+use Rattle.part_barrier.specs.Within.{IsWithin}
 use Rattle.part_transfers.specs.declared.operation.Handle.{Handle}
 use Rattle.part_transfers.specs.declared.operation.Transfer.{Transfer}
 use Rattle.part_transfers.specs.declared.operation.Transfer.TheVariants as transfers
@@ -83,8 +83,8 @@ AreByChunks settings me operations =
     → IsByChunks settings me operation.transfer
 
 -- what holds of what the node `me` keeps: beside what holds of the core's part, its operations are by chunks, and the
--- notes of its barrier can be written
+-- notifications of its barrier can be written
 pub record IsEndpointKept (settings : Parameters) (me : ℕ) (local : EndpointLocal) : Type 0 where
   pub core : IsKept settings me local.core
   pub operations : AreByChunks settings me local.operations
-  pub barrier : IsNotedWithin settings.nodes local.barrier
+  pub barrier : IsWithin settings.nodes local.barrier

@@ -26,7 +26,7 @@ pub use call::{Call, Event};
 /// `sound`: for settings within their limits and handlers whose runs are lawful, each request and each reply that the
 /// node sends may be delivered: a client's, a chunk of a transfer, a notification of the barrier. What any call,
 /// message or tick leaves is good: writes stay inside the segment, no handler holds a lock between runs, the transfer
-/// of each operation lies inside the segments and goes to another node, and the notes of the barrier can be written.
+/// of each operation lies inside the segments and goes to another node, and the notifications of the barrier can be written.
 /// `opening`: so is what a node keeps before all events. `over`: with messages, the endpoint does to what its core
 /// keeps what the core does. `tracked`: each chunk that was issued is a request to the transfer's target, in its slot
 /// and with its number, which says what the chunk says and is back exactly where the chunk is; no request belongs to

@@ -86,7 +86,7 @@ pub tried_more : {K : Type 0} (caller : Ghosts K) → Follows caller → (old no
     → from ≤ place → slice_get plan.pieces place ≡ Some piece
     → MakesOne caller now (beginning plan thread piece) (Some answer) new → is_refused answer ≡ false
     → Tried caller old new plan thread from (place + 1)
-tried_more caller follows old now new plan thread from place piece answer pieces_tried after at one isnt =
+tried_more caller follows old now new plan thread from place piece answer tried after at one isnt =
     let so_far = beginnings plan thread (between plan.pieces from place) in
     let more : beginnings plan thread (between plan.pieces from (place + 1)) ≡ so_far ++ beginning plan thread piece ∷ []
     = ap (beginnings plan thread) (between_more plan.pieces from place piece after at)
@@ -95,13 +95,13 @@ tried_more caller follows old now new plan thread from place piece answer pieces
     = rw add-one (drop_there plan.pieces place piece at) in
     let P : List ThreadCall → Type 0 = λ calls. Makes caller old calls new in
     record {
-      made = subst P (sym more) (makes_then caller old now new so_far (beginning plan thread piece ∷ []) pieces_tried.made one.0);
+      made = subst P (sym more) (makes_then caller old now new so_far (beginning plan thread piece ∷ []) tried.made one.0);
       none = λ whole stands.
           let site = caller.site old in
           let node = node_in_the_end site (caller.record_in site whole) so_far in
           let said : answer ≡ answer_at site node (beginning plan thread piece)
           = known_then caller follows old now so_far
-          (λ (s : Site) (n : Node EndpointLocal). answer ≡ answer_at s n (beginning plan thread piece)) pieces_tried.made one.1
+          (λ (s : Site) (n : Node EndpointLocal). answer ≡ answer_at s n (beginning plan thread piece)) tried.made one.1
           whole stands in
           let test : is_refused (answer_at site node (beginning plan thread piece)) ≡ false
           = ap is_refused (sym said) ∙ isnt in
@@ -115,7 +115,7 @@ tried_more caller follows old now new plan thread from place piece answer pieces
           = sym (ap (node_in_the_end site (caller.record_in site whole)) more
           ∙ in_the_end_one site (caller.record_in site whole) so_far (beginning plan thread piece)) in
           let count : suc place ≡ place + 1 = omega arith in
-          pieces_tried.none whole stands ∙ step
+          tried.none whole stands ∙ step
           ∙ ap₂ (λ n k. first_refused site n k (beginnings plan thread (drop (place + 1) plan.pieces))) ends count;
     }
 
@@ -127,7 +127,7 @@ pub tried_refused : {K : Type 0} (caller : Ghosts K) → Follows caller → (old
     → Makes caller old (beginnings plan thread (between plan.pieces from (place + 1))) new
     × ForItsNode caller old (λ node.
     Some place ≡ first_refused (caller.site old) node from (beginnings plan thread (drop from plan.pieces)))
-tried_refused caller follows old now new plan thread from place piece answer pieces_tried after at one is =
+tried_refused caller follows old now new plan thread from place piece answer tried after at one is =
     let so_far = beginnings plan thread (between plan.pieces from place) in
     let more : beginnings plan thread (between plan.pieces from (place + 1)) ≡ so_far ++ beginning plan thread piece ∷ []
     = ap (beginnings plan thread) (between_more plan.pieces from place piece after at)
@@ -135,19 +135,19 @@ tried_refused caller follows old now new plan thread from place piece answer pie
     let rest : drop place plan.pieces ≡ piece ∷ drop (place + 1) plan.pieces
     = rw add-one (drop_there plan.pieces place piece at) in
     let P : List ThreadCall → Type 0 = λ calls. Makes caller old calls new in (
-      subst P (sym more) (makes_then caller old now new so_far (beginning plan thread piece ∷ []) pieces_tried.made one.0),
+      subst P (sym more) (makes_then caller old now new so_far (beginning plan thread piece ∷ []) tried.made one.0),
       λ whole stands.
           let site = caller.site old in
           let node = node_in_the_end site (caller.record_in site whole) so_far in
           let said : answer ≡ answer_at site node (beginning plan thread piece)
           = known_then caller follows old now so_far
-          (λ (s : Site) (n : Node EndpointLocal). answer ≡ answer_at s n (beginning plan thread piece)) pieces_tried.made one.1
+          (λ (s : Site) (n : Node EndpointLocal). answer ≡ answer_at s n (beginning plan thread piece)) tried.made one.1
           whole stands in
           let test : is_refused (answer_at site node (beginning plan thread piece)) ≡ true
           = ap is_refused (sym said) ∙ is in
           let step : first_refused site node place (beginnings plan thread (drop place plan.pieces)) ≡ Some place
           = ap (λ ps. first_refused site node place (beginnings plan thread ps)) rest ∙ rw test refl in
-          sym (pieces_tried.none whole stands ∙ step),
+          sym (tried.none whole stands ∙ step),
     )
 
 -- all were begun
@@ -156,13 +156,13 @@ pub tried_all : {K : Type 0} (caller : Ghosts K) (old now : K) (plan : PlanState
     → Makes caller old (beginnings plan thread (drop from plan.pieces)) now
     × ForItsNode caller old (λ node.
     None ≡ first_refused (caller.site old) node from (beginnings plan thread (drop from plan.pieces)))
-tried_all caller old now plan thread from place pieces_tried end =
+tried_all caller old now plan thread from place tried end =
     let short : length (drop from plan.pieces) ≤ place - from = simp length-drop (omega (arith, end)) in
     let P : List Piece → Type 0 = λ ps. Makes caller old (beginnings plan thread ps) now in (
-      subst P (take_all (place - from) (drop from plan.pieces) short) pieces_tried.made,
+      subst P (take_all (place - from) (drop from plan.pieces) short) tried.made,
       λ whole stands.
           let site = caller.site old in
-          sym (pieces_tried.none whole stands
+          sym (tried.none whole stands
           ∙ ap (λ ps. first_refused site (node_in_the_end site (caller.record_in site whole)
           (beginnings plan thread (between plan.pieces from place))) place (beginnings plan thread ps))
           (drop_all place plan.pieces end)),
@@ -179,10 +179,10 @@ pub more_at : {K : Type 0} (caller : Ghosts K) → Follows caller → (old now n
     → from ≤ place → place < length plan.pieces → IsOfPiece plan place transfer
     → MakesOne caller now (on_transfers thread (BeginImplicit transfer)) (Some answer) new → is_refused answer ≡ false
     → Tried caller old new plan thread from (place + 1)
-more_at caller follows old now new plan thread from place transfer answer pieces_tried after within is one isnt =
+more_at caller follows old now new plan thread from place transfer answer tried after within is one isnt =
     let there = slice_get_there plan.pieces place within in
     let P : Transfer → Type 0 = λ t. MakesOne caller now (on_transfers thread (BeginImplicit t)) (Some answer) new in
-    tried_more caller follows old now new plan thread from place there.0 answer pieces_tried after there.1
+    tried_more caller follows old now new plan thread from place there.0 answer tried after there.1
     (subst P (is there.0 there.1) one) isnt
 
 pub refused_at : {K : Type 0} (caller : Ghosts K) → Follows caller → (old now new : K) (plan : PlanState)
@@ -192,17 +192,17 @@ pub refused_at : {K : Type 0} (caller : Ghosts K) → Follows caller → (old no
     → Makes caller old (beginnings plan thread (between plan.pieces from (place + 1))) new
     × ForItsNode caller old (λ node.
     Some place ≡ first_refused (caller.site old) node from (beginnings plan thread (drop from plan.pieces)))
-refused_at caller follows old now new plan thread from place transfer answer pieces_tried after within is one refused =
+refused_at caller follows old now new plan thread from place transfer answer tried after within is one refused =
     let there = slice_get_there plan.pieces place within in
     let P : Transfer → Type 0 = λ t. MakesOne caller now (on_transfers thread (BeginImplicit t)) (Some answer) new in
-    tried_refused caller follows old now new plan thread from place there.0 answer pieces_tried after there.1
+    tried_refused caller follows old now new plan thread from place there.0 answer tried after there.1
     (subst P (is there.0 there.1) one) refused
 
 -- ---- all of it
 
 -- the calls of the parts are those that the answer tells
 made_by : {K : Type 0} (caller : Ghosts K) (old new : K) (asked : BeginCall) (refused : Option ℕ)
-    → Makes caller old (in_region asked (pieces_tried asked.from refused (drop asked.from asked.plan.pieces))) new
+    → Makes caller old (in_region asked (tried asked.from refused (drop asked.from asked.plan.pieces))) new
     → Makes caller old (calls_made asked (vis_by asked.from refused)) new
 made_by caller old new asked None made = made
 made_by caller old new asked (Some next) made = elim (cases_Bool (next == asked.from)) [
@@ -222,7 +222,7 @@ pub begins_all : {K : Type 0} (caller : Ghosts K) → Follows caller → (old op
 begins_all caller follows old opened tried_by new asked refused opens tries closes =
     let opening = on_transfers asked.thread RegionBegin ∷ [] in
     let all = beginnings asked.plan asked.thread (drop asked.from asked.plan.pieces) in
-    let some = beginnings asked.plan asked.thread (pieces_tried asked.from refused (drop asked.from asked.plan.pieces)) in
+    let some = beginnings asked.plan asked.thread (tried asked.from refused (drop asked.from asked.plan.pieces)) in
     let ending = on_transfers asked.thread (RegionEnd asked.register) ∷ [] in
     record {
       answered = λ whole stands.

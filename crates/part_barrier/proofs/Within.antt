@@ -27,7 +27,7 @@ use Rattle.part_barrier.specs.Record.{stage, notification_on_route, was_sent, du
 use Rattle.part_barrier.specs.Record.{try_answer}
 use Rattle.part_barrier.specs.Record.{try_after, hear, send}
 use Rattle.part_barrier.specs.Route.{goes_to, any_round}
-use Rattle.part_barrier.specs.Within.{IsNotedWithin, NotificationsFit, StepsWithin, StaysWithin}
+use Rattle.part_barrier.specs.Within.{IsWithin, NotificationsFit, StepsWithin, StaysWithin}
 use Rattle.part_barrier.proofs.Words.{words_number}
 use Rattle.part_barrier.proofs.RoundLaws.{pow_up}
 use Rattle.part_barrier.proofs.Runs.{routed_notification, or_else_is, passes, slice_get_push}
@@ -90,7 +90,7 @@ heard_fits nodes phase (notification ∷ notifications) are =
       | inr fails ↦ rw fails rest
     ]
 
-known_fits : (nodes me : ℕ) (kept : BarrierRecord) (phase : ℕ) → me < nodes → IsNotedWithin nodes kept
+known_fits : (nodes me : ℕ) (kept : BarrierRecord) (phase : ℕ) → me < nodes → IsWithin nodes kept
     → PartFits nodes (known_part me kept phase)
 known_fits nodes me kept phase there within =
     join_fits nodes (own_part me (own kept phase)) (heard_part phase kept.heard)
@@ -145,7 +145,7 @@ slice_get_in (first ∷ items) zero is = omega arith
 slice_get_in (first ∷ items) (suc place) is = omega (arith, slice_get_in items place is)
 
 routed_fits : (nodes me : ℕ) (kept : BarrierRecord) (phase to : ℕ) (notification : BarrierNotification) → nodes ≤ 256 → me < nodes
-    → IsNotedWithin nodes kept → notification_on_route nodes me (stage me kept phase) to ≡ Some notification
+    → IsWithin nodes kept → notification_on_route nodes me (stage me kept phase) to ≡ Some notification
     → IsNotification nodes notification
 routed_fits nodes me kept phase to notification few there within is =
     subst (IsNotification nodes) (sym (routed_notification nodes me (stage me kept phase) to notification is))
@@ -162,14 +162,14 @@ routed_fits nodes me kept phase to notification few there within is =
         (goes (goes_to nodes me (is_some (own kept phase)) (known_part me kept phase).mask to) is)).0
 
 due_fits : (nodes me : ℕ) (kept : BarrierRecord) (phase to : ℕ) (notification : BarrierNotification) → nodes ≤ 256 → me < nodes
-    → IsNotedWithin nodes kept → due nodes me kept phase to ≡ Some notification → IsNotification nodes notification
+    → IsWithin nodes kept → due nodes me kept phase to ≡ Some notification → IsNotification nodes notification
 due_fits nodes me kept phase to notification few there within is = elim (cases_Bool (was_sent kept phase to)) [
   | inl holds ↦ (let none : None ≡ Some notification = rw holds at is in absurd cc)
   | inr fails ↦ routed_fits nodes me kept phase to notification few there within (rw fails at is)
 ]
 
 before_fits : (nodes me : ℕ) (kept : BarrierRecord) (ended to : ℕ) (notification : BarrierNotification) → nodes ≤ 256 → me < nodes
-    → IsNotedWithin nodes kept → due_before nodes me kept ended to ≡ Some notification → IsNotification nodes notification
+    → IsWithin nodes kept → due_before nodes me kept ended to ≡ Some notification → IsNotification nodes notification
 before_fits nodes me kept zero to notification few there within is = absurd (cc)
 before_fits nodes me kept (suc phase) to notification few there within is =
     due_fits nodes me kept phase to notification few there within is
@@ -182,15 +182,15 @@ notifications_fit nodes me kept to notification few there within is = elim (or_e
 
 -- ---- each step
 
-within_notify : (nodes : ℕ) (kept : BarrierRecord) (id : ℤ) (flags : ℕ) → IsNotedWithin nodes kept → FitsSigned w32 id
-    → IsNotedWithin nodes (notify_after kept id flags (notify_answer kept id flags))
+within_notify : (nodes : ℕ) (kept : BarrierRecord) (id : ℤ) (flags : ℕ) → IsWithin nodes kept → FitsSigned w32 id
+    → IsWithin nodes (notify_after kept id flags (notify_answer kept id flags))
 within_notify nodes kept id flags within fits = by_flags (cases_Bool (nat_lt 3 flags))
   where
     notify : Notify
     notify = record { id = id; flags = flags }
 
     taken : own kept kept.ended ≡ None → kept.ended ≢ 2 ^ 64 - 1
-        → IsNotedWithin nodes (record kept { notifies = kept.notifies ++ notify ∷ [] })
+        → IsWithin nodes (record kept { notifies = kept.notifies ++ notify ∷ [] })
     taken none left =
         let short : length kept.notifies ≤ kept.ended = slice_get_short kept.notifies kept.ended none in
         let more = length-append kept.notifies (notify ∷ []) in
@@ -205,29 +205,29 @@ within_notify nodes kept id flags within fits = by_flags (cases_Bool (nat_lt 3 f
         }
 
     by_phase : own kept kept.ended ≡ None → (eqb kept.ended (2 ^ 64 - 1) ≡ true) ⊎ (eqb kept.ended (2 ^ 64 - 1) ≡ false)
-        → IsNotedWithin nodes
+        → IsWithin nodes
         (notify_after kept id flags (if kept.ended == 2 ^ 64 - 1 then told.Exhausted else told.Ok))
     by_phase none (inl holds) = rw holds within
     by_phase none (inr fails) = rw fails (taken none (grind (arith, nat_tests, fails)))
 
-    by_own : (mine : Option Notify) → own kept kept.ended ≡ mine → IsNotedWithin nodes (notify_after kept id flags
+    by_own : (mine : Option Notify) → own kept kept.ended ≡ mine → IsWithin nodes (notify_after kept id flags
         (if is_some mine then told.Twice else (if kept.ended == 2 ^ 64 - 1 then told.Exhausted else told.Ok)))
     by_own (Some one) is = within
     by_own None is = by_phase is (cases_Bool (eqb kept.ended (2 ^ 64 - 1)))
 
     by_flags : (nat_lt 3 flags ≡ true) ⊎ (nat_lt 3 flags ≡ false)
-        → IsNotedWithin nodes (notify_after kept id flags (notify_answer kept id flags))
+        → IsWithin nodes (notify_after kept id flags (notify_answer kept id flags))
     by_flags (inl holds) = rw holds within
     by_flags (inr fails) = rw fails (by_own (own kept kept.ended) refl)
 
-ending : (nodes : ℕ) (kept : BarrierRecord) → kept.ended < length kept.notifies → IsNotedWithin nodes kept
-    → IsNotedWithin nodes (record kept { ended = suc kept.ended })
+ending : (nodes : ℕ) (kept : BarrierRecord) → kept.ended < length kept.notifies → IsWithin nodes kept
+    → IsWithin nodes (record kept { ended = suc kept.ended })
 ending nodes kept low within =
     record { low = low; count = within.count; own = within.own; heard = within.heard }
 
 within_try : (nodes : ℕ) (kept : BarrierRecord) (answer : BarrierAnswer)
     → ((answer ≡ tried.Ok) ⊎ (answer ≡ tried.Mismatch) → is_some (own kept kept.ended) ≡ true)
-    → IsNotedWithin nodes kept → IsNotedWithin nodes (try_after kept answer)
+    → IsWithin nodes kept → IsWithin nodes (try_after kept answer)
 within_try nodes kept tried.Ok given within =
     ending nodes kept (slice_get_in kept.notifies kept.ended (given (inl refl))) within
 within_try nodes kept tried.Mismatch given within =
@@ -237,8 +237,8 @@ within_try nodes kept tried.NoNotify given within = within
 within_try nodes kept tried.BadFlags given within = within
 within_try nodes kept (tried.Exhausted node) given within = within
 
-within_hear : (nodes : ℕ) (kept : BarrierRecord) (notification : BarrierNotification) → IsNotedWithin nodes kept → IsNotification nodes notification
-    → IsNotedWithin nodes (hear kept notification)
+within_hear : (nodes : ℕ) (kept : BarrierRecord) (notification : BarrierNotification) → IsWithin nodes kept → IsNotification nodes notification
+    → IsWithin nodes (hear kept notification)
 within_hear nodes kept notification within is =
     elim (cases_Bool (eqb notification.phase kept.ended || eqb notification.phase (suc kept.ended))) [
       | inl holds ↦ rw holds (record {
@@ -253,13 +253,13 @@ within_hear nodes kept notification within is =
       | inr fails ↦ rw fails within
     ]
 
-within_send : (nodes : ℕ) (kept : BarrierRecord) (to : ℕ) (notification : Option BarrierNotification) → IsNotedWithin nodes kept
-    → IsNotedWithin nodes (send kept to notification)
+within_send : (nodes : ℕ) (kept : BarrierRecord) (to : ℕ) (notification : Option BarrierNotification) → IsWithin nodes kept
+    → IsWithin nodes (send kept to notification)
 within_send nodes kept to None within = within
 within_send nodes kept to (Some notification) within =
     record { low = within.low; count = within.count; own = within.own; heard = within.heard }
 
-steps_within : (nodes : ℕ) (kept : BarrierRecord) → IsNotedWithin nodes kept → StepsWithin nodes kept
+steps_within : (nodes : ℕ) (kept : BarrierRecord) → IsWithin nodes kept → StepsWithin nodes kept
 steps_within nodes kept within = record {
   notify = λ id flags fits. within_notify nodes kept id flags within fits;
   tried = λ me try. within_try nodes kept (try_answer nodes me kept try)

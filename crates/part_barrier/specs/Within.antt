@@ -9,7 +9,7 @@ use Rattle.part_barrier.specs.Record.{BarrierRecord, Try, opened_record, own, no
 use Rattle.part_barrier.specs.Record.{try_after, hear, notification_to, send}
 
 -- what was notified and heard is in the ranges of a notification among so many nodes
-pub record IsNotedWithin (nodes : ℕ) (kept : BarrierRecord) : Type 0 where
+pub record IsWithin (nodes : ℕ) (kept : BarrierRecord) : Type 0 where
   pub low : kept.ended ≤ length kept.notifies
   pub count : length kept.notifies < 2 ^ 64
   pub own : (phase : ℕ) (notify : Notify) → own kept phase ≡ Some notify → FitsSigned w32 notify.id
@@ -20,19 +20,19 @@ pub record IsNotedWithin (nodes : ℕ) (kept : BarrierRecord) : Type 0 where
 abbrev pub NotificationsFit : Type 0
 NotificationsFit =
     (nodes me : ℕ) (kept : BarrierRecord) (to : ℕ) (notification : BarrierNotification) → nodes ≤ 256 → me < nodes
-    → IsNotedWithin nodes kept → notification_to nodes me kept to ≡ Some notification
+    → IsWithin nodes kept → notification_to nodes me kept to ≡ Some notification
     → IsNotification nodes notification
 
 -- each step keeps it
 pub record StepsWithin (nodes : ℕ) (kept : BarrierRecord) : Type 0 where
   pub notify : (id : ℤ) (flags : ℕ) → FitsSigned w32 id
-      → IsNotedWithin nodes (notify_after kept id flags (notify_answer kept id flags))
-  pub tried : (me : ℕ) (try : Try) → IsNotedWithin nodes (try_after kept (try_answer nodes me kept try))
+      → IsWithin nodes (notify_after kept id flags (notify_answer kept id flags))
+  pub tried : (me : ℕ) (try : Try) → IsWithin nodes (try_after kept (try_answer nodes me kept try))
   pub hear : (notification : BarrierNotification) → IsNotification nodes notification
-      → IsNotedWithin nodes (hear kept notification)
-  pub send : (to : ℕ) (notification : Option BarrierNotification) → IsNotedWithin nodes (send kept to notification)
+      → IsWithin nodes (hear kept notification)
+  pub send : (to : ℕ) (notification : Option BarrierNotification) → IsWithin nodes (send kept to notification)
 
 abbrev pub StaysWithin : Type 0
 StaysWithin =
-    ((nodes : ℕ) → IsNotedWithin nodes opened_record)
-    × ((nodes : ℕ) (kept : BarrierRecord) → IsNotedWithin nodes kept → StepsWithin nodes kept)
+    ((nodes : ℕ) → IsWithin nodes opened_record)
+    × ((nodes : ℕ) (kept : BarrierRecord) → IsWithin nodes kept → StepsWithin nodes kept)

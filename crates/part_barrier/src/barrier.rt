@@ -228,7 +228,7 @@ impl Barrier {
 
     /// Whether this node has notified nothing so far: then no notification must go to any node. A node whose job has no
     /// barrier needs no more than that at each tick (profile).
-    pub fn is_quiet(&self) -> bool
+    pub fn has_notified_nothing(&self) -> bool
         ensures exact { ForItsBarrierRecord self.now (λ nodes me kept.
             result ≡ has_notified_nothing kept) }
         ensures none { IsTrue result → ForItsBarrierRecord self.now (λ nodes me kept.

@@ -8,18 +8,18 @@ use Rattle.part_segment.specs.Image.{Write, FitsIn, AllFit, written_by}
 use Rattle.part_segment.proofs.Images.{written_by-append, all_fit_none, all_fit-append, all_fit_one}
 use Rattle.std.proofs.lemmas.List.Elements.{All-cons}
 use Rattle.part_handlers.specs.declared.token.Token.{Token}
-use Rattle.part_handlers.specs.Tokens.{At, Stage, arrival_at, frame_of, stage, start_of}
+use Rattle.part_handlers.specs.Tokens.{At, Stage, token_arrival, frame_of, stage, start_of}
 use Rattle.part_handlers.specs.Runs.{Frame, Start, Outcome, IsLawfulRun}
 use Rattle.part_collective_area.specs.Served.{header_at, header_behind, header_for, number_at, outcome_of_piece}
 
 -- the segment after the header of the message
 pub stamped_at : (opening : Stage) (outcome : Outcome) (segment later : List ℕ) (cells : List ℤ) (token : Token)
     → At opening outcome (stage segment cells token)
-    → later ≡ written_by segment (header_for (length segment) (arrival_at token).args (arrival_at token).place)
+    → later ≡ written_by segment (header_for (length segment) (token_arrival token).args (token_arrival token).place)
     → length later ≡ length segment
     → At opening (outcome_of_piece (frame_of opening.token) (start_of opening) outcome) (stage later cells token)
 stamped_at opening outcome segment later cells token at written same =
-    let header = λ (len : ℕ) (now : Token). header_for len (arrival_at now).args (arrival_at now).place in
+    let header = λ (len : ℕ) (now : Token). header_for len (token_arrival now).args (token_arrival now).place in
     record {
       segment_is = written
           ∙ (ap (λ (bytes : List ℕ). written_by bytes (header (length segment) token)) at.segment_is

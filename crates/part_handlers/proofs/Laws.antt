@@ -21,7 +21,7 @@ use Rattle.part_handlers.specs.LogState.{LogRecord, notes}
 use Rattle.part_handlers.specs.Runs.{Arrival, Frame, Outcome, after_answer, answer, answer_by, after_attempt, after_return}
 use Rattle.part_handlers.specs.Runs.{gave_lock, judgement, lock_refusal, refusal, replying, reply_faults, took_lock}
 use Rattle.part_handlers.specs.Runs.{unlock_refusal, nothing_done, violation, IsSpelled}
-use Rattle.part_handlers.specs.Tokens.{Stage, answer_with_token, token_after_reply, judged_at, leaving, locking, noting}
+use Rattle.part_handlers.specs.Tokens.{Stage, answer_with_token, token_after_reply, token_rule, leaving, locking, noting}
 use Rattle.part_handlers.specs.Tokens.{reply_after, frame_of, start_of, unlocking, with_locks}
 use Rattle.part_handlers.proofs.Logs.{notes-append}
 use Rattle.part_handlers.proofs.Sent.{was_sent}
@@ -41,9 +41,9 @@ is_some-reply_after settings arrival None = refl
 is_some-reply_after settings arrival (Some content) = refl
 
 -- a token judges as its outcome so far does
-pub judged_at-leaving : (token : Token) (outcome : Outcome) (kind : CallKind)
-    → judged_at (leaving outcome token) kind ≡ judgement (frame_of token) kind outcome
-judged_at-leaving token outcome kind =
+pub token_rule-leaving : (token : Token) (outcome : Outcome) (kind : CallKind)
+    → token_rule (leaving outcome token) kind ≡ judgement (frame_of token) kind outcome
+token_rule-leaving token outcome kind =
     ap (λ (is_replied : Bool). rule (context_of token.message.role) (holds owner.Handler outcome.locks) is_replied kind)
     (is_some-reply_after token.settings.now (frame_of token).arrival outcome.reply)
 
@@ -64,11 +64,11 @@ leaving-untouched opening unreplied =
 
 -- what `attempt` ensures, told of outcomes
 pub attempted-leaving : (token old new : Token) (outcome : Outcome) (kind : CallKind)
-    (result : Result (Unit {0}) Forbidden) → old ≡ leaving outcome token → result ≡ judged_at old kind
+    (result : Result (Unit {0}) Forbidden) → old ≡ leaving outcome token → result ≡ token_rule old kind
     → new ≡ noting old (refusal result) → new ≡ leaving (after_attempt (frame_of token) kind outcome) token
 attempted-leaving token old new outcome kind result is judge note =
-    let same : result ≡ judgement (frame_of token) kind outcome = judge ∙ ap (λ (at : Token). judged_at at kind) is
-    ∙ judged_at-leaving token outcome kind in
+    let same : result ≡ judgement (frame_of token) kind outcome = judge ∙ ap (λ (at : Token). token_rule at kind) is
+    ∙ token_rule-leaving token outcome kind in
     note ∙ ap (λ (at : Token). noting at (refusal result)) is
     ∙ ap (λ (judgement : Result (Unit {0}) Forbidden). noting (leaving outcome token) (refusal judgement)) same
     ∙ noting-leaving outcome token (refusal (judgement (frame_of token) kind outcome))
@@ -117,7 +117,7 @@ judged_answer token old outcome content result is judge =
     judge ∙ ap (λ (at : Token). answer_with_token at content) is
     ∙ ap (λ (judgement : Result (Unit {0}) Forbidden).
     answer_by judgement (reply_faults token.settings.now token.table.now content))
-    (judged_at-leaving token outcome call.Reply)
+    (token_rule-leaving token outcome call.Reply)
 
 -- what a reply call ensures, told of outcomes
 pub replying-leaving : (token old new : Token) (outcome : Outcome) (content : Content) (result : Replied)
@@ -180,12 +180,12 @@ locks-replying frame content outcome = (keeps-after_answer (answer frame content
 
 -- the log that `close` leaves, told of outcomes
 pub closed-leaving : (token old : Token) (outcome : Outcome) → old ≡ leaving outcome token →
-    (noting old (refusal (judged_at old call.Return))).log.now ≡ notes token.log.now
+    (noting old (refusal (token_rule old call.Return))).log.now ≡ notes token.log.now
     (map (violation token.message.role) (after_return (frame_of token) outcome).refused)
 closed-leaving token old outcome is =
-    ap (λ (at : Token). (noting at (refusal (judged_at at call.Return))).log.now) is
+    ap (λ (at : Token). (noting at (refusal (token_rule at call.Return))).log.now) is
     ∙ ap (λ (judgement : Result (Unit {0}) Forbidden). (noting (leaving outcome token) (refusal judgement)).log.now)
-    (judged_at-leaving token outcome call.Return)
+    (token_rule-leaving token outcome call.Return)
     ∙ notes-faults token.message.role token.log.now outcome.refused
     (refusal (judgement (frame_of token) call.Return outcome))
 

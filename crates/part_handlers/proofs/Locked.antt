@@ -8,7 +8,7 @@ use Rattle.part_handlers.specs.Locks.{after_lock, after_unlock, blocking_lock, w
 use Rattle.part_handlers.proofs.LockLaws.{blocked_without, without_after_lock, without_after_unlock}
 use Rattle.part_handlers.specs.declared.token.Token.{Token}
 use Rattle.part_handlers.specs.Runs.{lock_refusal}
-use Rattle.part_handlers.specs.Tokens.{lock_answer_at, locking, noting, with_locks}
+use Rattle.part_handlers.specs.Tokens.{token_lock_answer, locking, noting, with_locks}
 
 -- the same locks of threads block a handler
 pub blocked-threads : (locks before : List Held) (listed : ℕ)
@@ -32,7 +32,7 @@ unblocked-after_unlock held locks lock listed free after =
     (ap (without owner.Handler) after ∙ without_after_unlock held owner.Handler lock) ∙ free
 
 -- a lock that is taken is no fault
-pub taking : (token : Token) (lock : ℕ) (locks : List Held) → lock_answer_at token lock ≡ locking_answers.Taken
+pub taking : (token : Token) (lock : ℕ) (locks : List Held) → token_lock_answer token lock ≡ locking_answers.Taken
     → locks ≡ after_lock token.locks.now owner.Handler lock token.listed → with_locks token locks ≡ locking token lock
 taking token lock locks taken after =
     ap (with_locks token) after

@@ -48,13 +48,13 @@ reply_from settings arrival content = record {
   len = length (reply_bytes settings arrival content);
 }
 
--- the buffer with these bytes at its prefix
-abbrev pub with_prefix : List ℕ → List ℕ → List ℕ
-with_prefix bytes buffer = bytes ++ drop (length bytes) buffer
+-- the buffer with these bytes at its beginning
+abbrev pub with_payload : List ℕ → List ℕ → List ℕ
+with_payload bytes buffer = bytes ++ drop (length bytes) buffer
 
 -- the message that the token is for
-abbrev pub arrival_at : Token → Arrival
-arrival_at token = arrival_of token.message
+abbrev pub token_arrival : Token → Arrival
+token_arrival token = arrival_of token.message
 
 -- what stays the same while a handler runs with the token
 abbrev pub frame_of : Token → Frame
@@ -62,28 +62,28 @@ frame_of token = record {
   settings = token.settings.now;
   table = token.table.now;
   listed = token.listed;
-  arrival = arrival_at token;
+  arrival = token_arrival token;
 }
 
 -- ---- what calls are answered
 
 -- how the rule table judges a call by the token
-abbrev pub judged_at : Token → CallKind → Result (Unit {0}) Forbidden
-judged_at token kind =
+abbrev pub token_rule : Token → CallKind → Result (Unit {0}) Forbidden
+token_rule token kind =
     rule (context_of token.message.role) (holds owner.Handler token.locks.now) (is_some token.reply) kind
 
 -- the answer to a reply that is asked for by the token
 abbrev pub answer_with_token : Token → Content → Replied
 answer_with_token token content =
-    answer_by (judged_at token call.Reply) (reply_faults token.settings.now token.table.now content)
+    answer_by (token_rule token call.Reply) (reply_faults token.settings.now token.table.now content)
 
 -- the answer to a lock that is asked for by the token
-abbrev pub lock_answer_at : Token → (lock : ℕ) → LockAnswer
-lock_answer_at token lock = lock_answer token.locks.now owner.Handler lock token.listed
+abbrev pub token_lock_answer : Token → (lock : ℕ) → LockAnswer
+token_lock_answer token lock = lock_answer token.locks.now owner.Handler lock token.listed
 
 -- the answer to a lock that is given back by the token
-abbrev pub unlock_answer_at : Token → (lock : ℕ) → UnlockAnswer
-unlock_answer_at token lock = unlock_answer token.locks.now owner.Handler lock
+abbrev pub token_unlock_answer : Token → (lock : ℕ) → UnlockAnswer
+token_unlock_answer token lock = unlock_answer token.locks.now owner.Handler lock
 
 -- ---- what calls leave
 
@@ -100,24 +100,24 @@ with_locks token held = record token { locks = record token.locks { now = held }
 -- the token after a lock was asked for
 abbrev pub locking : Token → (lock : ℕ) → Token
 locking token lock =
-    with_locks (noting token (lock_refusal (lock_answer_at token lock)))
+    with_locks (noting token (lock_refusal (token_lock_answer token lock)))
     (after_lock token.locks.now owner.Handler lock token.listed)
 
 -- the token after a lock was given back
 abbrev pub unlocking : Token → (lock : ℕ) → Token
 unlocking token lock =
-    with_locks (noting token (unlock_refusal (unlock_answer_at token lock)))
+    with_locks (noting token (unlock_refusal (token_unlock_answer token lock)))
     (after_unlock token.locks.now owner.Handler lock)
 
 -- the token after these bytes were written into its buffer
 abbrev pub writing : Token → List ℕ → Token
-writing token bytes = record token { buffer = record token.buffer { now = with_prefix bytes token.buffer.now } }
+writing token bytes = record token { buffer = record token.buffer { now = with_payload bytes token.buffer.now } }
 
 -- the token after this reply was sent
 abbrev pub sending : Token → Content → Token
 sending token content =
-    record (writing token (reply_bytes token.settings.now (arrival_at token) content)) {
-      reply = Some (reply_from token.settings.now (arrival_at token) content);
+    record (writing token (reply_bytes token.settings.now (token_arrival token) content)) {
+      reply = Some (reply_from token.settings.now (token_arrival token) content);
     }
 
 -- the token after a reply was asked for, by its answer
@@ -131,7 +131,7 @@ token_after_reply token content (replied.BadArg part) = token
 -- what is asked of a token while a handler works at it: of its message and its buffer; and no thread holds a lock that
 -- the handler may take
 pub record IsReadyToken (token : Token) : Type 0 where
-  pub ready : IsReady (arrival_at token) token.buffer.now
+  pub ready : IsReady (token_arrival token) token.buffer.now
   pub unblocked : blocking_lock token.locks.now token.listed ≡ None
 
 -- what a handler works on: the node's segment and cells, and the token
@@ -155,18 +155,18 @@ start_of opening = record {
 -- a token that was just made
 pub record IsFresh (token : Token) : Type 0 where
   pub unreplied : token.reply ≡ None
-  pub ready : IsReady (arrival_at token) token.buffer.now
+  pub ready : IsReady (token_arrival token) token.buffer.now
   pub free : AreFree token.listed token.locks.now
 
 -- the segment is that of the token's job, and the place of a Long's payload lies inside it
 pub record IsSegment (token : Token) (segment : List ℕ) : Type 0 where
   pub sized : length segment ≡ token.settings.now.segment
-  pub placed : IsPlaced (length segment) (arrival_at token).place
+  pub placed : IsPlaced (length segment) (token_arrival token).place
 
 -- the buffer after a reply, if there is one
 abbrev pub buffer_after : Parameters → Arrival → Option Content → List ℕ → List ℕ
 buffer_after settings arrival None buffer = buffer
-buffer_after settings arrival (Some content) buffer = with_prefix (reply_bytes settings arrival content) buffer
+buffer_after settings arrival (Some content) buffer = with_payload (reply_bytes settings arrival content) buffer
 
 -- the reply that was sent, if there is one
 abbrev pub reply_after : Parameters → Arrival → Option Content → Option Reply
@@ -179,8 +179,8 @@ leaving outcome token = record token {
   log = record token.log { now = notes token.log.now (map (violation token.message.role) outcome.refused) };
   locks = record token.locks { now = outcome.locks };
   buffer = record token.buffer
-      { now = buffer_after token.settings.now (arrival_at token) outcome.reply token.buffer.now };
-  reply = reply_after token.settings.now (arrival_at token) outcome.reply;
+      { now = buffer_after token.settings.now (token_arrival token) outcome.reply token.buffer.now };
+  reply = reply_after token.settings.now (token_arrival token) outcome.reply;
 }
 
 -- segment, cells and token are what this outcome leaves of those at the opening

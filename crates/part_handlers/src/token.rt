@@ -10,10 +10,10 @@ ghost use Rattle.part_handlers.specs.declared.rules.CallKind.TheVariants as call
 ghost use Rattle.part_handlers.specs.Asked.{IsSmall, answer_of, asked_content};
 ghost use Rattle.part_handlers.specs.Runs.{AreFree, IsReady, IsSpelled, refusal, reply_bytes};
 ghost use Rattle.part_handlers.specs.Runs.{first_fault, reply_faults};
-ghost use Rattle.part_handlers.specs.Tokens.{IsReadyToken, arrival_of, arrival_at, frame_of};
-ghost use Rattle.part_handlers.specs.Tokens.{judged_at, noting, answer_with_token, token_after_reply, writing};
-ghost use Rattle.part_handlers.specs.Tokens.{with_prefix};
-ghost use Rattle.part_handlers.specs.Tokens.{lock_answer_at, locking, unlock_answer_at, unlocking};
+ghost use Rattle.part_handlers.specs.Tokens.{IsReadyToken, arrival_of, token_arrival, frame_of};
+ghost use Rattle.part_handlers.specs.Tokens.{token_rule, noting, answer_with_token, token_after_reply, writing};
+ghost use Rattle.part_handlers.specs.Tokens.{with_payload};
+ghost use Rattle.part_handlers.specs.Tokens.{token_lock_answer, locking, token_unlock_answer, unlocking};
 ghost use Rattle.wire_message.specs.declared.limits.TheConstants.{MAX_DATAGRAM};
 
 use crate::log::Log;
@@ -86,7 +86,7 @@ impl<'a> Token<'a> {
     /// `source` is `me` they are its payload alone.
     pub fn close(self) -> Option<Reply>
         ensures log { let log_left = self.exit.0.now in
-            log_left ≡ (noting self.entry (refusal (judged_at self.entry call.Return))).log.now }
+            log_left ≡ (noting self.entry (refusal (token_rule self.entry call.Return))).log.now }
         ensures locks { let locks_left = self.exit.1.0.now in
             locks_left ≡ without owner.Handler self.entry.locks.now }
         ensures buffer { let buffer_left = self.exit.1.1.0.now in
@@ -116,42 +116,42 @@ impl<'a> Token<'a> {
 
     /// Whether the message is a request or a reply.
     pub fn role(&self) -> Role
-        ensures { result ≡ (arrival_at self.now).role }
+        ensures { result ≡ (token_arrival self.now).role }
     {
         self.message.role
     }
 
     /// The node that sent the message.
     pub fn source(&self) -> u16
-        ensures { result ≡ (arrival_at self.now).source }
+        ensures { result ≡ (token_arrival self.now).source }
     {
         self.message.source
     }
 
     /// The message's arguments.
     pub fn args(&self) -> &[i32]
-        ensures { result.now ≡ (arrival_at self.now).args }
+        ensures { result.now ≡ (token_arrival self.now).args }
     {
         self.message.args
     }
 
     /// The payload of a Medium message, in bytes; empty for the others. It may be passed to a reply.
     pub fn payload(&self) -> &'a [u8]
-        ensures { result.now ≡ (arrival_at self.now).payload }
+        ensures { result.now ≡ (token_arrival self.now).payload }
     {
         self.message.payload
     }
 
     /// Where a Long message's payload stands in the segment: the first byte and the length; None for the others.
     pub fn place(&self) -> Option<(u64, u64)>
-        ensures { result ≡ (arrival_at self.now).place }
+        ensures { result ≡ (token_arrival self.now).place }
     {
         self.message.place
     }
 
     /// Judges a call by the rule table, and notes a violation where it is forbidden; nothing else happens.
     pub fn attempt(&mut self, call: CallKind) -> Result<(), Forbidden>
-        ensures judged { result ≡ judged_at self.old call }
+        ensures judged { result ≡ token_rule self.old call }
         ensures noted { self.new ≡ noting self.old (refusal result) }
     {
         let context = self.message.role.context();
@@ -172,7 +172,7 @@ impl<'a> Token<'a> {
     /// holds a listed lock while the handler runs, the answer is never `Held`.
     pub fn lock(&mut self, lock: u8) -> LockAnswer
         requires { IsReadyToken self.old }
-        ensures answer { result ≡ lock_answer_at self.old lock }
+        ensures answer { result ≡ token_lock_answer self.old lock }
         ensures locked { self.new ≡ locking self.old lock }
         ensures never_held { result ≢ LockAnswer.Held }
         ensures ready { IsReadyToken self.new }
@@ -195,7 +195,7 @@ impl<'a> Token<'a> {
     /// the handler doesn't hold it, then `OutOfOrder` where it isn't the latest of the handler's locks. Else `Freed`.
     pub fn unlock(&mut self, lock: u8) -> UnlockAnswer
         requires { IsReadyToken self.old }
-        ensures answer { result ≡ unlock_answer_at self.old lock }
+        ensures answer { result ≡ token_unlock_answer self.old lock }
         ensures unlocked { self.new ≡ unlocking self.old lock }
         ensures ready { IsReadyToken self.new }
     {
@@ -308,9 +308,9 @@ impl<'a> Token<'a> {
 
     /// Judges a reply, and notes a violation where it is forbidden. It is allowed at a request's token alone, once.
     fn attempt_reply(&mut self) -> Result<(), Forbidden>
-        ensures judged { result ≡ judged_at self.old call.Reply }
+        ensures judged { result ≡ token_rule self.old call.Reply }
         ensures noted { self.new ≡ noting self.old (refusal result) }
-        ensures request { OnOk result ((arrival_at self.old).role ≡ role.Request) }
+        ensures request { OnOk result ((token_arrival self.old).role ≡ role.Request) }
     {
         self.attempt(CallKind::Reply)
     }
@@ -338,13 +338,13 @@ impl<'a> Token<'a> {
 
     /// Writes the bytes of a reply into the buffer, and tells how many there are.
     fn write(&mut self, asked: &AskedReply<'_>) -> usize
-        requires ready { IsReady (arrival_at self.old) self.old.buffer.now }
-        requires request { (arrival_at self.old).role ≡ role.Request }
+        requires ready { IsReady (token_arrival self.old) self.old.buffer.now }
+        requires request { (token_arrival self.old).role ≡ role.Request }
         requires small { IsSmall (asked_content asked.now) }
-        ensures len { result ≡ length (reply_bytes self.old.settings.now (arrival_at self.old)
+        ensures len { result ≡ length (reply_bytes self.old.settings.now (token_arrival self.old)
             (asked_content asked.now)) }
         ensures written { self.new ≡ writing self.old
-            (reply_bytes self.old.settings.now (arrival_at self.old) (asked_content asked.now)) }
+            (reply_bytes self.old.settings.now (token_arrival self.old) (asked_content asked.now)) }
         ensures spelled { IsSpelled (frame_of self.old) (Some (asked_content asked.now)) }
         ensures room { length self.new.buffer.now ≡ MAX_DATAGRAM }
     {
@@ -374,7 +374,7 @@ impl<'a> Token<'a> {
 fn put_prefix(bytes: &[u8], buffer: &mut [u8]) -> usize
     requires { length bytes.now ≤ length buffer.old }
     ensures len { result ≡ length bytes.now }
-    ensures written { buffer.new ≡ with_prefix bytes.now buffer.old }
+    ensures written { buffer.new ≡ with_payload bytes.now buffer.old }
     ensures room { length buffer.new ≡ length buffer.old }
 {
     buffer[..bytes.len()].copy_from_slice(bytes);

@@ -9,7 +9,7 @@ use Rattle.part_transfers.specs.declared.table.OperationRecord.{OperationRecord}
 use Rattle.part_transfers.specs.declared.slots.Waiting.{Waiting}
 use Rattle.part_transfers.specs.declared.transfers.Transfers.{Transfers}
 use Rattle.part_transfers.specs.Operation.{Operation, target, returned_of, has_out, come_back}
-use Rattle.part_transfers.specs.SlotsState.{entry_at}
+use Rattle.part_transfers.specs.ChunkSlots.{entry_at}
 use Rattle.part_transfers.specs.Outs.{Out, requests_of}
 use Rattle.part_transfers.specs.Stands.{Stands}
 use Rattle.part_transfers.proofs.Outs.{has_out_is, none_back, one_out, out_less}

@@ -16,7 +16,7 @@ use Rattle.part_transfers.specs.declared.table.OperationRecord.{OperationRecord}
 use Rattle.part_transfers.specs.declared.transfers.Transfers.{Transfers}
 use Rattle.part_transfers.specs.Operation.{Operation, unsynced_count, is_full, after_begin, fresh}
 use Rattle.part_transfers.specs.Table.{taken_count}
-use Rattle.part_transfers.specs.SlotsState.{SlotsState, entry_at}
+use Rattle.part_transfers.specs.ChunkSlots.{ChunkSlots, entry_at}
 use Rattle.part_transfers.specs.Outs.{outs}
 use Rattle.part_transfers.specs.Stands.{record_of, Keeps, Says, Stands}
 use Rattle.part_transfers.proofs.Tests.{get_set}
@@ -133,7 +133,7 @@ not_full operations room left =
 
 -- ---- the table
 
-pub stands_none : (places : List (Option OperationRecord)) (slots : SlotsState) → places ≡ replicate 256 None
+pub stands_none : (places : List (Option OperationRecord)) (slots : ChunkSlots) → places ≡ replicate 256 None
     → ((to slot : ℕ) → entry_at slots to slot ≡ None)
     → Stands (record { given = 0; table = places; slots = slots }) []
 stands_none places slots is none = record {

@@ -14,7 +14,7 @@ use Rattle.part_transfers.specs.declared.slots.Waiting.{Waiting}
 use Rattle.part_transfers.specs.declared.transfers.Transfers.{Transfers}
 use Rattle.part_transfers.specs.Operation.{Operation, SentChunk, target, returned_of, is_complete, with_sent, as_back, with_back}
 use Rattle.part_transfers.specs.Operation.{come_back, IsFreeSlot}
-use Rattle.part_transfers.specs.SlotsState.{SlotsState, entry_at, HasSet}
+use Rattle.part_transfers.specs.ChunkSlots.{ChunkSlots, entry_at, HasSet}
 use Rattle.part_transfers.specs.Outs.{Out, requests_of, outs}
 use Rattle.part_transfers.specs.Stands.{record_of, Keeps, Says, Stands}
 use Rattle.part_transfers.proofs.Tests.{get_set}
@@ -125,7 +125,7 @@ keeps_changed f places operations place there operation K at is stands stays =
 -- ---- the whole table
 
 pub stands_changed : (f : Operation → Operation) (table : Transfers) (operations : List Operation) (place : ℕ)
-    (there new : OperationRecord) (slots : SlotsState)
+    (there new : OperationRecord) (slots : ChunkSlots)
     → Stands table operations → slice_get table.table place ≡ Some (Some there)
     → ((o : Operation) → (f o).synced ≡ o.synced)
     → ((o : Operation) → element_at operations there.number ≡ Some o → there ≡ record_of there.number o
@@ -175,7 +175,7 @@ kept_noted number slot request bytes operation =
 
 pub stands_noted : (table : Transfers) (operations : List Operation) (place : ℕ) (there : OperationRecord)
     (to slot request : ℕ)
-    (bytes : List ℕ) (slots : SlotsState)
+    (bytes : List ℕ) (slots : ChunkSlots)
     → Stands table operations → slice_get table.table place ≡ Some (Some there) → target there.transfer ≡ to
     → IsFreeSlot operations to slot → HasSet table.slots to slot (Some (record {
       request = request;
@@ -263,7 +263,7 @@ kept_returned number to slot request operation one =
     none is = cc
 
 pub stands_returned : (table : Transfers) (operations : List Operation) (there : OperationRecord) (to slot : ℕ)
-    (waiting : Waiting) (slots : SlotsState)
+    (waiting : Waiting) (slots : ChunkSlots)
     → Stands table operations → entry_at table.slots to slot ≡ Some waiting
     → slice_get table.table waiting.place ≡ Some (Some there) → HasSet table.slots to slot None slots
     → Stands (record table {

@@ -7,7 +7,7 @@ use Rattle.std.proofs.lemmas.Nat.{div-mul-add}
 use Rattle.base_lists.proofs.Indexes.{get-set_same, get-set_other}
 use Rattle.part_transfers.specs.declared.slots.Waiting.{Waiting}
 use Rattle.part_transfers.specs.Table.{flat}
-use Rattle.part_transfers.specs.SlotsState.{SlotsState, HasSet}
+use Rattle.part_transfers.specs.ChunkSlots.{ChunkSlots, HasSet}
 
 -- a place of the grid is that of one slot of one node
 one_slot : (to slot node other width : ℕ) → slot < width → other < width → to * width + slot ≡ node * width + other
@@ -18,7 +18,7 @@ one_slot to slot node other width within also same =
     let start : to * width ≡ node * width = ap (λ n. n * width) row in
     (row, omega (arith, same, start))
 
-pub has_set : (slots : SlotsState) (to slot : ℕ) (entry : Option Waiting) (entries : List (Option Waiting))
+pub has_set : (slots : ChunkSlots) (to slot : ℕ) (entry : Option Waiting) (entries : List (Option Waiting))
     → to * slots.credits + slot < length entries
     → ((at : ℕ) → flat (slice_get entries at) ≡ flat (slice_get slots.entries at))
     → to < slots.nodes → slot < slots.credits

@@ -11,7 +11,7 @@ use Rattle.part_transfers.specs.declared.transfers.Transfers.{Transfers}
 use Rattle.part_transfers.specs.Operation.{Operation, is_complete}
 use Rattle.part_transfers.specs.Syncs.{Choice, go, chosen}
 use Rattle.part_transfers.specs.Table.{unless_picked, AreDropped}
-use Rattle.part_transfers.specs.SlotsState.{entry_at}
+use Rattle.part_transfers.specs.ChunkSlots.{entry_at}
 use Rattle.part_transfers.specs.Outs.{requests_of, outs}
 use Rattle.part_transfers.proofs.Outs.{one_out, outs_gone, complete_none}
 use Rattle.part_transfers.proofs.Said.{says_dropped}

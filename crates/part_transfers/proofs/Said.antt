@@ -9,7 +9,7 @@ use Rattle.part_transfers.specs.declared.table.OperationRecord.{OperationRecord}
 use Rattle.part_transfers.specs.declared.slots.Waiting.{Waiting}
 use Rattle.part_transfers.specs.declared.transfers.Transfers.{Transfers}
 use Rattle.part_transfers.specs.Operation.{Operation}
-use Rattle.part_transfers.specs.SlotsState.{entry_at}
+use Rattle.part_transfers.specs.ChunkSlots.{entry_at}
 use Rattle.part_transfers.specs.Outs.{Out, outs}
 use Rattle.part_transfers.specs.Table.{AreDropped}
 use Rattle.part_transfers.specs.Stands.{Says, Stands}

@@ -3,7 +3,7 @@ pub mod Syncs
 pub mod Queue
 pub mod Table
 pub mod Places
-pub mod SlotsState
+pub mod ChunkSlots
 pub mod Outs
 pub mod Stands
 pub mod Regions

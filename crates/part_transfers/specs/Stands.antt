@@ -12,7 +12,7 @@ use Rattle.part_transfers.specs.declared.table.Check.TheVariants.{Unissued, Unis
 use Rattle.part_transfers.specs.declared.transfers.Transfers.{Transfers}
 use Rattle.part_transfers.specs.Operation.{Operation, returned_of, size, chunk_start, chunk_size, is_complete}
 use Rattle.part_transfers.specs.Operation.{unsynced_count}
-use Rattle.part_transfers.specs.SlotsState.{entry_at}
+use Rattle.part_transfers.specs.ChunkSlots.{entry_at}
 use Rattle.part_transfers.specs.Outs.{Out, outs}
 use Rattle.part_transfers.specs.Table.{taken_count, on_place, fits_pick, has_passing, IsPlaceOf}
 use Rattle.part_transfers.specs.Syncs.{Choice, is_name, is_implicit}

@@ -1,7 +1,7 @@
 //! Which chunk is out in which slot of which node.
 
 ghost use Rattle.std.specs.Prelude.{◌≡◌, ◌<◌, ◌≤◌, None, IfOk, ℕ, length, slice_get, vec_capacity};
-ghost use Rattle.part_transfers.specs.SlotsState.{entry_at, HasSet};
+ghost use Rattle.part_transfers.specs.ChunkSlots.{entry_at, HasSet};
 ghost use Rattle.part_transfers.specs.Table.{flat};
 
 use std::alloc::{AllocError, Global};
@@ -25,9 +25,9 @@ pub(crate) struct Slots {
 
 impl Model for Slots {
     ghost use Rattle.std.specs.Prelude.{◌≤◌, ◌*◌, vec_capacity};
-    ghost use Rattle.part_transfers.specs.SlotsState.{SlotsState};
+    ghost use Rattle.part_transfers.specs.ChunkSlots.{ChunkSlots};
 
-    ghost Value = { SlotsState };
+    ghost Value = { ChunkSlots };
 
     ghost view = { λ s.
         record { nodes = s.nodes; credits = s.credits; entries = s.entries.items } };

@@ -69,7 +69,7 @@ message_of Vacant = None
 message_of (Opened number time buffer) = None
 message_of (Committed number time message) = Some message
 
--- the bytes of `old` with `written` at their prefix: a lent buffer keeps its length
+-- the bytes of `old` with `written` at their beginning: a lent buffer keeps its length
 abbrev pub refill : List ℕ → List ℕ → List ℕ
 refill old written = take (length old) (written ++ drop (length written) old)
 

@@ -370,7 +370,7 @@ impl<'a> Claimed<'a> {
     ghost use Rattle.part_window.specs.CreditLending.{claimed_row, with_claim_written, table_of};
     ghost use Rattle.part_window.specs.CreditLending.{node_of, slot_of};
 
-    /// The slot's buffer, of `BUFFER_BYTES` bytes, to write the message at its prefix.
+    /// The slot's buffer, of `BUFFER_BYTES` bytes, to write the message at its beginning.
     pub fn buffer(&mut self) -> &mut [u8]
         requires { IsOpenedAt (table_of self.old) (node_of self.old) (slot_of self.old) }
         ensures* writes_back { sem 𝓛 (Lends claimed_row (Array byte 0) self.entry result

@@ -193,7 +193,7 @@ impl<'a> Place<'a> {
     ghost use Rattle.part_window.specs.ReplyLending.{place_row, with_place_written, table_of, node_of};
     ghost use Rattle.part_window.specs.ReplyLending.{slot_of};
 
-    /// The slot's buffer, of `BUFFER_BYTES` bytes, to write the reply at its prefix.
+    /// The slot's buffer, of `BUFFER_BYTES` bytes, to write the reply at its beginning.
     pub fn buffer(&mut self) -> &mut [u8]
         requires { IsOpenedAt (table_of self.old) (node_of self.old) (slot_of self.old) }
         ensures* writes_back { sem 𝓛 (Lends place_row (Array byte 0) self.entry result

@@ -16,7 +16,7 @@ use Rattle.proc_linux.specs.declared.arrivals.Look.{Look}
 abbrev pub Arrival : Type 0
 Arrival = Result (List ℕ × SocketAddr) Error
 
--- where its bytes went to the prefix of a buffer, so many as is answered
+-- where its bytes went to the beginning of a buffer, so many as is answered
 abbrev pub arrival_of : Result (ℕ × SocketAddr) Error → (buf : List ℕ) → Arrival
 arrival_of (Ok got) buf = Ok (take got.0 buf, got.1)
 arrival_of (Err error) buf = Err error

@@ -16,7 +16,7 @@ use Rattle.base_io.specs.Link.{SentTold}
 use Rattle.base_io.specs.declared.link.LinkAnswer.{LinkAnswer}
 use Rattle.base_io.specs.declared.link.LinkAnswer.TheVariants as answer
 use Rattle.proc_seal.specs.Hmac.{hmac}
-use Rattle.proc_seal.specs.Seal.{tag, sealed_under, prefix, behind, is_sealed, opened_under, without_tag, opened_datagrams}
+use Rattle.proc_seal.specs.Seal.{tag, sealed_under, before_tag, tag_of, is_sealed, opened_under, without_tag, opened_datagrams}
 
 -- a tag has 16 bytes
 pub length-tag : (key datagram : List ℕ) → length (tag key datagram) ≡ 16
@@ -29,12 +29,12 @@ length-sealed key datagram =
 before : (key datagram : List ℕ) → length (sealed_under key datagram) - 16 ≡ length datagram
 before key datagram = ap (λ n. n - 16) (length-sealed key datagram) ∙ omega arith
 
-pub prefix-sealed : (key datagram : List ℕ) → prefix (sealed_under key datagram) ≡ datagram
-prefix-sealed key datagram =
+pub before_tag-sealed : (key datagram : List ℕ) → before_tag (sealed_under key datagram) ≡ datagram
+before_tag-sealed key datagram =
     ap (λ n. take n (sealed_under key datagram)) (before key datagram) ∙ take-append_seam datagram (tag key datagram)
 
-pub behind-sealed : (key datagram : List ℕ) → behind (sealed_under key datagram) ≡ tag key datagram
-behind-sealed key datagram =
+pub tag_of-sealed : (key datagram : List ℕ) → tag_of (sealed_under key datagram) ≡ tag key datagram
+tag_of-sealed key datagram =
     ap (λ n. drop n (sealed_under key datagram)) (before key datagram) ∙ drop-append_seam datagram (tag key datagram)
 
 is_sealed-sealed : (key datagram : List ℕ) → length datagram ≤ 8296 → is_sealed key (sealed_under key datagram) ≡ true
@@ -43,18 +43,18 @@ is_sealed-sealed key datagram short =
     let size = length-sealed key datagram in
     let least : 16 ≤ length datagram + 16 = omega arith in
     let most : length datagram + 16 ≤ 8312 = omega arith in
-    let same : behind whole ≡ tag key (prefix whole) =
-    behind-sealed key datagram ∙ ap (tag key) (sym (prefix-sealed key datagram)) in
+    let same : tag_of whole ≡ tag key (before_tag whole) =
+    tag_of-sealed key datagram ∙ ap (tag key) (sym (before_tag-sealed key datagram)) in
     both_true (both_true (ap (nat_le 16) size ∙ le-leb 16 (length datagram + 16) least)
     (ap (λ n. nat_le n 8312) size ∙ le-leb (length datagram + 16) 8312 most))
-    ((bytes_eq-Decides (behind whole) (tag key (prefix whole))).1 same)
+    ((bytes_eq-Decides (tag_of whole) (tag key (before_tag whole))).1 same)
 
 -- what is sealed is opened as it was
 pub opens : (key datagram : List ℕ) → length datagram ≤ 8296
     → opened_under key (sealed_under key datagram) ≡ Some datagram
 opens key datagram short =
-    ap (λ b. if b then Some (prefix (sealed_under key datagram)) else None) (is_sealed-sealed key datagram short)
-    ∙ ap Some (prefix-sealed key datagram)
+    ap (λ b. if b then Some (before_tag (sealed_under key datagram)) else None) (is_sealed-sealed key datagram short)
+    ∙ ap Some (before_tag-sealed key datagram)
 
 -- a datagram that was sent sealed is told without its tag
 pub told_sent : (key datagram : List ℕ) (to : ℕ) (told : Option (List (ℕ × List ℕ)))
@@ -63,7 +63,7 @@ pub told_sent : (key datagram : List ℕ) (to : ℕ) (told : Option (List (ℕ �
 told_sent key datagram to None = refl
 told_sent key datagram to (Some list) =
     ap Some (map_push without_tag list (to, sealed_under key datagram)
-    ∙ ap (λ d. map without_tag list ++ (to, d) ∷ []) (prefix-sealed key datagram))
+    ∙ ap (λ d. map without_tag list ++ (to, d) ∷ []) (before_tag-sealed key datagram))
 
 -- so a link before one that was sent it sealed tells that it was sent
 pub told_unsealed : (key datagram : List ℕ) (to : ℕ) (result : LinkAnswer) (old new : Option (List (ℕ × List ℕ)))

@@ -15,25 +15,25 @@ abbrev pub sealed_under : (key datagram : List ℕ) → List ℕ
 sealed_under key datagram = datagram ++ tag key datagram
 
 -- what stands before the tag
-abbrev pub prefix : (whole : List ℕ) → List ℕ
-prefix whole = take (length whole - 16) whole
+abbrev pub before_tag : (whole : List ℕ) → List ℕ
+before_tag whole = take (length whole - 16) whole
 
 -- the tag
-abbrev pub behind : (whole : List ℕ) → List ℕ
-behind whole = drop (length whole - 16) whole
+abbrev pub tag_of : (whole : List ℕ) → List ℕ
+tag_of whole = drop (length whole - 16) whole
 
 -- it is a datagram of at most 8,296 bytes with its tag
 abbrev pub is_sealed : (key whole : List ℕ) → Bool
 is_sealed key whole =
-    nat_le 16 (length whole) && nat_le (length whole) 8312 && bytes_eq (behind whole) (tag key (prefix whole))
+    nat_le 16 (length whole) && nat_le (length whole) 8312 && bytes_eq (tag_of whole) (tag key (before_tag whole))
 
 -- the datagram, where it is sealed under this key
 abbrev pub opened_under : (key whole : List ℕ) → Option (List ℕ)
-opened_under key whole = if is_sealed key whole then Some (prefix whole) else None
+opened_under key whole = if is_sealed key whole then Some (before_tag whole) else None
 
 -- a datagram that was sent to a node, without its tag
 abbrev pub without_tag : ℕ × List ℕ → ℕ × List ℕ
-without_tag whole = (whole.0, prefix whole.1)
+without_tag whole = (whole.0, before_tag whole.1)
 
 -- the datagrams among these that are sealed under this key, without their tags, where they are told
 abbrev pub opened_datagrams : (key : List ℕ) → Option (List (List ℕ)) → Option (List (List ℕ))

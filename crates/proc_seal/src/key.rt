@@ -38,7 +38,7 @@ fn are_same(one: &[u8; 16], other: &[u8; 16]) -> bool
     same
 }
 
-/// The prefix of a code.
+/// The beginning of a code.
 fn cut(code: &[u8; 32]) -> [u8; TAG_BYTES]
     ensures { result ≡ take 16 code.now }
 {

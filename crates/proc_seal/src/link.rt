@@ -85,7 +85,7 @@ fn seal(key: &Key, datagram: &[u8], buffer: &mut [u8]) -> usize
     len + TAG_BYTES
 }
 
-/// Copies a datagram to the prefix of a buffer, where it was sealed so, and answers how many bytes it has.
+/// Copies a datagram to the beginning of a buffer, where it was sealed so, and answers how many bytes it has.
 fn open(key: &Key, whole: &[u8], into: &mut [u8]) -> Option<usize>
     requires { MAX_DATAGRAM ≤ length into.old }
     ensures opened { option_map (λ len. take len into.new) result ≡ opened_under key.now whole.now }

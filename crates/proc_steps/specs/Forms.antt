@@ -54,7 +54,7 @@ use Rattle.law_traces.specs.declared.script_answer.ScriptAnswer.TheVariants as s
 
 -- ---- answers at which a step waits
 
--- a request can't go now: all credits are out, or a handler that would run waits for a lock
+-- a request can't go now: all credits are outstanding, or a handler that would run waits for a lock
 abbrev pub is_put_off : Answer → Bool
 is_put_off (answers.Asked asked.NotYet) = true
 is_put_off (answers.Asked (asked.LockBusy lock)) = true

@@ -1,7 +1,7 @@
 //! The steps of scripts: how each is tried on the endpoint of its node.
 //!
 //! A step is read as one of the forms of `law_traces` (`step_form`, in `specs/Forms.antt`), by the cells of its node
-//! as the try begins. Requests wait where all credits are out or a handler's lock is taken, `lock` waits where
+//! as the try begins. Requests wait where all credits are outstanding or a handler's lock is taken, `lock` waits where
 //! another one holds it, and the waiting forms of the synchronisations and of the barrier where what they ask for
 //! isn't complete. `until` waits for a cell. A blocking transfer begins an operation, and then synchronises it by
 //! its handle; a `put-nb` and a `put-nbi` begin one, and then look whether its own chunks are all issued. A transfer of

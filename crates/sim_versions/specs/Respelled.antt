@@ -1,4 +1,4 @@
--- The run of a job by another version of the datagram: its records differ in how notes of the barrier are spelled.
+-- The run of a job by another version of the datagram: its records differ in how notifications of the barrier are spelled.
 use Rattle.std.specs.Prelude.{◌≡◌, ℕ, ◌==◌, Bool, true, if◌then◌else◌, map, None, Some}
 use Rattle.std.specs.Prelude.{option_map}
 use Rattle.wire_message.specs.Content.{Content}

@@ -2,7 +2,7 @@
 //!
 //! The two versions spell a notification of the barrier otherwise, and nothing else that a node does looks at the
 //! version. So the records of the two runs differ in the contents of such requests alone, event by event, and each
-//! answer, and what the nodes hold and notification at the end, is the same. It has no code.
+//! answer, and what the nodes hold and note at the end, is the same. It has no code.
 #![tactic(auto)]
 
 ghost use Rattle.sim_versions.specs.Upgraded.{RunsAlike};

@@ -6,7 +6,7 @@ use Rattle.std.proofs.lemmas.Option.{slice_get_cases}
 use Rattle.spec_node.specs.Record.{Request, Run, element_at}
 use Rattle.node_rules.specs.EndpointRules.{Records}
 use Rattle.spec_network.specs.Plain.{IsFirstOut, plain_of, plain_request, is_back}
-use Rattle.sim_world.specs.Exchanges.{prefix_back}
+use Rattle.sim_world.specs.Exchanges.{leading_back}
 use Rattle.sim_world.specs.Stands.{StandsForPair}
 use Rattle.sim_world.specs.declared.exchanges.Exchange.{Exchange}
 use Rattle.sim_world.proofs.PairStands.{sent_is}
@@ -26,7 +26,7 @@ back_reads list xs rs place b P low says = elim ((slice_get_cases list place).1)
 
 -- the number after those at the prefix that are back is the lowest that is out
 pub first_out_is : (i j : ℕ) (list : List Exchange) (w : Records)
-    → StandsForPair list ((w i).asked j) ((w j).ran i) → IsFirstOut (plain_of w) i j (suc (prefix_back list))
+    → StandsForPair list ((w i).asked j) ((w j).ran i) → IsFirstOut (plain_of w) i j (suc (leading_back list))
 first_out_is i j list w P =
     let xs = (w i).asked j in
     let rs = (w j).ran i in
@@ -36,13 +36,13 @@ first_out_is i j list w P =
       last = omega (arith, count, prefix_within list);
       before = λ l some low. before l some low;
       out =
-          λ low. back_reads list xs rs (prefix_back list) false P (omega (arith, low, count))
+          λ low. back_reads list xs rs (leading_back list) false P (omega (arith, low, count))
           (λ d. prefix_is_out list d (omega (arith, low, count)));
     }
   where
-    before : (l : ℕ) → 1 ≤ l → l < suc (prefix_back list) → is_back (element_at ((w i).asked j) l) ≡ true
+    before : (l : ℕ) → 1 ≤ l → l < suc (leading_back list) → is_back (element_at ((w i).asked j) l) ≡ true
     before zero some low = absurd (omega (arith, some))
     before (suc place) some low =
-        let less : place < prefix_back list = omega (arith, low) in
+        let less : place < leading_back list = omega (arith, low) in
         back_reads list ((w i).asked j) ((w j).ran i) place true P (omega (arith, less, prefix_within list))
         (λ d. prefix_is_back list place d less)

@@ -22,6 +22,6 @@ abbrev pub with_returned : List Exchange → ℕ → List Exchange
 with_returned list number = update list (number - 1) with_credit_back
 
 -- how many exchanges at the beginning of the list are back
-abbrev pub prefix_back : List Exchange → ℕ
-prefix_back [] = 0
-prefix_back (exchange ∷ later) = if exchange.back then suc (prefix_back later) else 0
+abbrev pub leading_back : List Exchange → ℕ
+leading_back [] = 0
+leading_back (exchange ∷ later) = if exchange.back then suc (leading_back later) else 0

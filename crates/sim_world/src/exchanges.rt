@@ -3,7 +3,7 @@
 ghost use Rattle.std.specs.Prelude.{◌≡◌, ◌≤◌, ◌<◌, suc, ◌++◌, ◌∷◌, OnOk, length, [], IfSome};
 ghost use Rattle.std.specs.Prelude.{slice_get};
 ghost use Rattle.spec_node.specs.Record.{element_at};
-ghost use Rattle.sim_world.specs.Exchanges.{prefix_back, new_exchange, with_ran, with_returned};
+ghost use Rattle.sim_world.specs.Exchanges.{leading_back, new_exchange, with_ran, with_returned};
 
 use std::alloc::{AllocError, Global};
 use std::marker::Model;
@@ -31,7 +31,7 @@ pub struct Exchanges {
 impl Model for Exchanges {
     ghost use Rattle.std.specs.Prelude.{◌≡◌, ◌-◌, suc, vec_len, vec_capacity};
     ghost use Rattle.sim_world.specs.ExchangesState.{ExchangesState};
-    ghost use Rattle.sim_world.specs.Exchanges.{prefix_back};
+    ghost use Rattle.sim_world.specs.Exchanges.{leading_back};
 
     ghost Value = { ExchangesState };
 
@@ -40,7 +40,7 @@ impl Model for Exchanges {
       room = vec_capacity e.list - vec_len e.list;
     } };
 
-    ghost invariant = { λ e. e.first_out ≡ suc (prefix_back e.list.items) };
+    ghost invariant = { λ e. e.first_out ≡ suc (leading_back e.list.items) };
 }
 
 impl Exchanges {
@@ -106,7 +106,7 @@ impl Exchanges {
 
     /// The lowest number of a request that isn't back; where all are back, the number after the last.
     pub fn first_out(&self) -> u64
-        ensures { result ≡ suc (prefix_back self.now.list) }
+        ensures { result ≡ suc (leading_back self.now.list) }
     {
         self.first_out
     }
@@ -123,8 +123,8 @@ impl Exchanges {
 /// at none of those.
 fn first_out_from(list: &[Exchange], known: u64) -> u64
     requires first { 1 ≤ known }
-    requires last { known ≤ suc (prefix_back list.now) }
-    ensures { result ≡ suc (prefix_back list.now) }
+    requires last { known ≤ suc (leading_back list.now) }
+    ensures { result ≡ suc (leading_back list.now) }
 {
     for place in (known - 1) as usize..list.len() {
         if !list[place].back {

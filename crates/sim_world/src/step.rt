@@ -101,20 +101,20 @@ fn deliver<H: Handlers>(
 {
     let (sender, receiver) = way_of(context.event);
     if sender < receiver {
-        let (prefix, back) = endpoints.split_at_mut(receiver as usize);
+        let (below, above) = endpoints.split_at_mut(receiver as usize);
         arrive(
             context,
-            &prefix[sender as usize],
-            &mut back[0],
+            &below[sender as usize],
+            &mut above[0],
             exchanges,
             most,
         )
     } else {
-        let (prefix, back) = endpoints.split_at_mut(sender as usize);
+        let (below, above) = endpoints.split_at_mut(sender as usize);
         arrive(
             context,
-            &back[0],
-            &mut prefix[receiver as usize],
+            &above[0],
+            &mut below[receiver as usize],
             exchanges,
             most,
         )

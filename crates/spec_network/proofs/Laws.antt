@@ -72,7 +72,7 @@ of_request Told a = OfNode (OfRequest a)
 abbrev TellsNotYet : (Told : Type 0) → Asked → Type 0
 TellsNotYet Told a = of_request Told a ≡ of_request Told asked.NotYet
 
--- where a number is left, a request is told so exactly where all credits are out
+-- where a number is left, a request is told so exactly where all credits are outstanding
 not_yet_where : (Told : Type 0) (limits : Limits) (j : ℕ) (requests : List Request)
     → outstanding requests ≤ limits.credits
     → length requests < limits.last

@@ -13,8 +13,8 @@
 //!   world's counts are the records', `CountsAgree`);
 //! - a request that passes every earlier refusal, with a number left, is answered 'not yet' exactly where all credits
 //!   of its pair are outstanding (`NotYetExactly`);
-//! - a request that was sent and hasn't run runs where it comes, unless a lock defers it; its reply gets the slot of
-//!   its slot, and each other request of that slot is back (`FindsItsSlot`); the reply stands there, as the message
+//! - a request that was sent and hasn't run runs where it comes, unless a lock defers it; its reply gets the reply
+//!   slot of the request's slot, and each other request of that slot is back (`FindsItsSlot`); the reply stands there, as the message
 //!   of that slot and as the answer to repeats, until a later request of that slot runs (`ReplyStands`), and none does
 //!   before the request is back (`NonePasses`); a reply that comes while its request isn't back gives back that
 //!   request's credit, unless a lock defers it (`ReplyFindsItsRequest`);

@@ -172,8 +172,8 @@ abbrev pub unless_waiting : Option ℕ → Verdict → Verdict
 unless_waiting None verdict = verdict
 unless_waiting (Some lock) verdict = Waits lock
 
--- a request that passes the checks, by the greatest number run in its slot and the lock for which it waits: duplicate
--- suppression, by which a request runs at most once
+-- a request that passes the checks, by the greatest number run in its slot and the lock for which it waits: this is
+-- duplicate suppression, by which a request runs at most once
 abbrev pub verdict_of_number : (number greatest : ℕ) → Option ℕ → Verdict
 verdict_of_number number greatest lock =
     if number == greatest then Duplicated

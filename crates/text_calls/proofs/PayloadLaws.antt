@@ -11,7 +11,7 @@ use Rattle.text_calls.specs.declared.values.Payload.{Payload as PayloadValue}
 use Rattle.text_calls.specs.declared.values.Payload.TheVariants as payload
 use Rattle.base_text.specs.Lines.{Word}
 use Rattle.base_text.specs.HexBytes.{bytes_word, AreBytes}
-use Rattle.text_calls.specs.Payloads.{plus_prefix, plus_back, range_of, payload_of, body_payload_of}
+use Rattle.text_calls.specs.Payloads.{before_plus, behind_plus, range_of, payload_of, body_payload_of}
 use Rattle.text_calls.specs.Payloads.{payload_word, IsPayload, IsBodyPayload}
 use Rattle.base_text.proofs.Prefixes.{cond_no}
 use Rattle.base_text.proofs.Decimals.{own, number_of-decimal}
@@ -24,21 +24,21 @@ use Rattle.base_text.proofs.ByteLaws.{bytes_take, bytes_again, bytes_run}
 
 -- the bytes by their first `+`
 plus_by : (plus : Bool) (byte : ℕ) (bytes behind : List ℕ) → eqb byte 43 ≡ plus
-    → (plus_back bytes ≡ Some behind → bytes ≡ plus_prefix bytes ++ 43 ∷ behind) → cond plus (Some bytes)
-    (plus_back bytes) ≡ Some behind → ◌≡◌ {A = Word} (byte ∷ bytes)
-    (cond plus [] (byte ∷ plus_prefix bytes) ++ 43 ∷ behind)
+    → (behind_plus bytes ≡ Some behind → bytes ≡ before_plus bytes ++ 43 ∷ behind) → cond plus (Some bytes)
+    (behind_plus bytes) ≡ Some behind → ◌≡◌ {A = Word} (byte ∷ bytes)
+    (cond plus [] (byte ∷ before_plus bytes) ++ 43 ∷ behind)
 plus_by true byte bytes behind test more found =
     let same : bytes ≡ behind = cc in rw (eqb-true byte 43 test, same) refl
 plus_by false byte bytes behind test more found = ap (λ (word : Word). byte ∷ word) (more found)
 
-plus_whole : (word behind : Word) → plus_back word ≡ Some behind → word ≡ plus_prefix word ++ 43 ∷ behind
+plus_whole : (word behind : Word) → behind_plus word ≡ Some behind → word ≡ before_plus word ++ 43 ∷ behind
 plus_whole [] behind found = absurd (cc)
 plus_whole (byte ∷ bytes) behind found =
     plus_by (eqb byte 43) byte bytes behind refl (plus_whole bytes behind) found
 
 -- digits before a `+`
-plus_seam : (digits behind : Word) → AllDigits 10 digits → (plus_prefix (digits ++ 43 ∷ behind) ≡ digits)
-    × (plus_back (digits ++ 43 ∷ behind) ≡ Some behind)
+plus_seam : (digits behind : Word) → AllDigits 10 digits → (before_plus (digits ++ 43 ∷ behind) ≡ digits)
+    × (behind_plus (digits ++ 43 ∷ behind) ≡ Some behind)
 plus_seam [] behind all = (refl, refl)
 plus_seam (digit ∷ digits) behind all =
     let range = digit_from_value digit all.0 in
@@ -50,9 +50,9 @@ plus_seam (digit ∷ digits) behind all =
 range_takes : (word : Word) → Takes (λ said. (word ≡ payload_word said) × IsPayload said) (range_of word)
 unfolding range_of
 range_takes word =
-    takes_then (λ (behind : Word). word ≡ plus_prefix word ++ 43 ∷ behind)
+    takes_then (λ (behind : Word). word ≡ before_plus word ++ 43 ∷ behind)
     (record { so = λ behind found. plus_whole word behind found }) (λ behind split.
-    takes_then (λ number. (plus_prefix word ≡ decimal number) × (number < 2 ^ 64)) (number_takes (plus_prefix word))
+    takes_then (λ number. (before_plus word ≡ decimal number) × (number < 2 ^ 64)) (number_takes (before_plus word))
     (λ offset first. takes_then (λ number. (behind ≡ decimal number) × (number < 2 ^ 64)) (number_takes behind)
     (λ len second. takes_some {x = payload.Range offset len} (
       split ∙ ap (λ (digits : Word). digits ++ 43 ∷ behind) first.0

@@ -4,7 +4,7 @@ use Rattle.std.specs.Prelude.{is_none, if◌then◌else◌, codes}
 use Rattle.std.specs.Str.{bytes_eq}
 use Rattle.node_atomics.specs.BatchRequests.{batch_fault}
 use Rattle.node_atomics.specs.declared.word.WordOp.{WordOp}
-use Rattle.base_text.specs.Lines.{Word, ◌>>=◌, prefix}
+use Rattle.base_text.specs.Lines.{Word, ◌>>=◌, first_word}
 use Rattle.text_calls.specs.Forms.{Number, Value, Kind, Bytes, Payload, Integer, Implicit, Shape, End, ◌▸◌}
 use Rattle.text_calls.specs.Forms.{Many, Maker}
 use Rattle.text_calls.specs.Forms.{Bundles, Operations}
@@ -345,7 +345,7 @@ is_call_name scope name = scope.atomics || not (bytes_eq name (codes "atomic"))
 
 -- whether bytes have the form of a call
 unfoldable pub call_form : Scope → List ℕ → Bool
-call_form scope bytes = table_form (λ bytes. false) calls bytes && is_call_name scope (prefix bytes)
+call_form scope bytes = table_form (λ bytes. false) calls bytes && is_call_name scope (first_word bytes)
 
 -- the text of a call
 abbrev pub call_text : ScheduledCall → List ℕ

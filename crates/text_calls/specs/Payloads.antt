@@ -9,19 +9,19 @@ use Rattle.text_calls.specs.declared.values.Payload.{Payload as PayloadValue}
 use Rattle.text_calls.specs.declared.values.Payload.TheVariants as payload
 
 -- the bytes before the first `+`
-abbrev pub plus_prefix : (bytes : List ℕ) → List ℕ
-plus_prefix [] = []
-plus_prefix (byte ∷ bytes) = if byte == 43 then [] else byte ∷ plus_prefix bytes
+abbrev pub before_plus : (bytes : List ℕ) → List ℕ
+before_plus [] = []
+before_plus (byte ∷ bytes) = if byte == 43 then [] else byte ∷ before_plus bytes
 
 -- the bytes after it, where there is one
-abbrev pub plus_back : (bytes : List ℕ) → Option (List ℕ)
-plus_back [] = None
-plus_back (byte ∷ bytes) = if byte == 43 then Some bytes else plus_back bytes
+abbrev pub behind_plus : (bytes : List ℕ) → Option (List ℕ)
+behind_plus [] = None
+behind_plus (byte ∷ bytes) = if byte == 43 then Some bytes else behind_plus bytes
 
 -- a range by its word, `OFF+LEN`
 unfoldable pub range_of : Word → Option PayloadValue
 range_of word =
-    plus_back word >>= λ behind. number_of (plus_prefix word) >>= λ offset. number_of behind >>= λ len.
+    behind_plus word >>= λ behind. number_of (before_plus word) >>= λ offset. number_of behind >>= λ len.
     Some (payload.Range offset len)
 
 -- a payload of a schedule by its word: bytes, or a range

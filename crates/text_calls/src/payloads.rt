@@ -1,7 +1,7 @@
 //! Bytes and payloads, as words of a line.
 
 ghost use Rattle.std.specs.Prelude.{◌≡◌, ◌+◌, length, IfOk, IfSome, slice_index, drop};
-ghost use Rattle.text_calls.specs.Payloads.{plus_prefix, plus_back, range_of, payload_of};
+ghost use Rattle.text_calls.specs.Payloads.{before_plus, behind_plus, range_of, payload_of};
 ghost use Rattle.text_calls.specs.Payloads.{body_payload_of};
 ghost use Rattle.text_calls.specs.Forms.{Bytes as BytesPart, Payload as PayloadPart, BodyPayload};
 ghost use Rattle.text_calls.specs.Forms.{part_at};
@@ -30,8 +30,8 @@ pub fn bytes_at(alloc: Global, bytes: &[u8]) -> Result<(LineBytes, &[u8]), Miss>
 
 /// The bytes before the first `+`, and those after it.
 fn split_plus(word: &[u8]) -> Result<(&[u8], &[u8]), Other>
-    ensures prefix { IfOk result (λ x. x.0.now ≡ plus_prefix word.now) }
-    ensures back { Finds (λ x. x.1.now) result (plus_back word.now) }
+    ensures prefix { IfOk result (λ x. x.0.now ≡ before_plus word.now) }
+    ensures back { Finds (λ x. x.1.now) result (behind_plus word.now) }
 {
     let mut end = 0;
     while end < word.len() {

@@ -28,7 +28,7 @@ use Rattle.text_job.specs.JobReading.{with_handler}
 use Rattle.text_job.specs.JobReading.{with_steps, with_script, total_rounds, next, has_index, has_pair}
 use Rattle.text_job.specs.JobReading.{has_thread}
 use Rattle.text_job.specs.JobReading.{rounds_of, is_full, is_reserved, most_handlers, with_atomics}
-use Rattle.text_job.specs.JobReading.{prefix_with, read}
+use Rattle.text_job.specs.JobReading.{leading_job, read}
 use Rattle.text_job.specs.JobReading.{amounts_of, is_full_script, lines_of, with_collect}
 use Rattle.text_job.specs.PlanPieces.{most_pieces, event_pieces, schedule_pieces}
 use Rattle.text_job.specs.StepPieces.{step_pieces, steps_pieces}
@@ -1085,7 +1085,7 @@ whole_reach job is =
 
 -- bytes that begin with the text of a job are read as that job, and those behind it are left
 pub job_read : (job : Job) → IsJob job → (rest : List ℕ) → read start 1 (job_text job ++ rest)
-    ≡ Ok (prefix_with job (1 + length (job_lines job)) rest)
+    ≡ Ok (leading_job job (1 + length (job_lines job)) rest)
 job_read job is rest =
     reach_read (job_lines job) start (record { place = Over; job = job }) 1 rest (whole_reach job is)
     ∙ over_read job (1 + length (job_lines job)) rest

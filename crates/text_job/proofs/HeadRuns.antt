@@ -3,14 +3,14 @@ use Rattle.std.proofs.Common.{◌≡◌, ℕ, ◌+◌, List, [], ◌∷◌, Opti
 use Rattle.std.proofs.Common.{cond, refl, ap, sym, ◌∙◌}
 use Rattle.text_job.specs.Scopes.{scope_of}
 use Rattle.text_calls.specs.declared.scope.Scope.{Scope}
-use Rattle.base_text.specs.Lines.{prefix, back, after_newline}
+use Rattle.base_text.specs.Lines.{first_word, after_word, after_newline}
 use Rattle.base_text.specs.Lines as options
 use Rattle.text_calls.specs.Forms.{none_at, named_at, if_passes}
 use Rattle.text_job.specs.Places.{Setting, Version, Nodes, Credits, Threads, Segment, Last, Resend, Patience}
 use Rattle.text_job.specs.Places as places
 use Rattle.text_job.specs.Places.{AtSetting, AtSieve, AtPairs, setting_fits}
 use Rattle.text_job.specs.Places.{setting_row, item_form}
-use Rattle.text_job.specs.JobReading.{BadLine, Prefix, start, least_job, line_at, with_number, behind_setting}
+use Rattle.text_job.specs.JobReading.{BadLine, LeadingJob, start, least_job, line_at, with_number, behind_setting}
 use Rattle.text_job.specs.JobReading.{read}
 use Rattle.base_text.specs.Chains.{◌>>=◌}
 use Rattle.text_job.specs.HeadReading.{found_in_line, number_line, fitting_line, number_why, number_from}
@@ -57,7 +57,7 @@ tested : (setting : Setting) (scope : Scope) (bytes : List ℕ) → line_at (AtS
     ≡ fitting_line (setting_form setting scope.settings) bytes
 unfolding fitting_line number_line
 tested setting scope bytes = tested_of (setting_fits setting scope.settings) (named_at none_at
-    (setting_row setting ∷ []) (prefix bytes) (back bytes))
+    (setting_row setting ∷ []) (first_word bytes) (after_word bytes))
 
 -- a line is read by its setting, and the others from there on
 abbrev pub StepsOn : Setting → Job → (line : ℕ) → List ℕ → Type 0
@@ -98,7 +98,7 @@ then_on (Ok x) f k g h = h x
 then_on (Err e) f k g h = refl
 
 -- the pairs come behind the head
-abbrev pub pairs_on : Job × List ℕ → Result Prefix BadLine
+abbrev pub pairs_on : Job × List ℕ → Result LeadingJob BadLine
 pairs_on x = read (record { place = AtPairs; job = x.0 }) 11 x.1
 
 pub head_reads : (bytes : List ℕ) → read start 1 bytes ≡ (head_at bytes >>= pairs_on)

@@ -8,7 +8,7 @@ use Rattle.text_job.specs.HeadReading.{found_in_line}
 use Rattle.text_job.specs.Places.{AtAtomics, AtCollect}
 use Rattle.text_job.specs.Places.{Place, AtSetting, AtSieve, AtPairs, AtHandlers, AtBody, AtScripts, AtSteps}
 use Rattle.text_job.specs.Places.{AtSchedule, AtDone, Over, Item, item_form, item_text, IsItem}
-use Rattle.text_job.specs.JobReading.{State, BadLine, prefix_with, line_at, next, step, from_later_lines}
+use Rattle.text_job.specs.JobReading.{State, BadLine, leading_job, line_at, next, step, from_later_lines}
 use Rattle.text_job.specs.JobReading.{from_lines, over_or, read_lines, read}
 use Rattle.text_job.specs.Reading.{FailsAt}
 use Rattle.text_job.specs.declared.fault.JobFault.{JobFault}
@@ -148,7 +148,7 @@ line_bad place open_ job line (b ∷ bytes) h = goes_on place _ _ open_ ∙ rw h
 
 -- no line is to come
 pub over_read : (job : Job) (line : ℕ) (bytes : List ℕ) → read (record { place = Over; job = job }) line bytes ≡ Ok
-    (prefix_with job line bytes)
+    (leading_job job line bytes)
 unfolding read read_lines from_lines
 over_read job line [] = refl
 over_read job line (b ∷ bytes) = refl

@@ -11,12 +11,12 @@ use Rattle.text_job.specs.Places.{AtAtomics, AtCollect, AtSchedule, AtDone, Over
 use Rattle.text_job.specs.Scopes.{scope_of}
 use Rattle.text_job.specs.Places.{Named, Other, Item, item_text, item_form, HandlerItem, CollectItem}
 use Rattle.text_job.specs.Places.{AtomicsItem, PairItem}
-use Rattle.text_job.specs.JobReading.{State, BadLine, Prefix, start, line_at, why_at, next, onward}
+use Rattle.text_job.specs.JobReading.{State, BadLine, LeadingJob, start, line_at, why_at, next, onward}
 use Rattle.text_job.specs.JobReading.{after_item}
 use Rattle.text_job.specs.JobReading.{step, unless, after_section, after_handler_line, after_pair, has_index, has_pair, has_thread}
 use Rattle.text_job.specs.JobReading.{handler_why, section_why, pair_why, action_why, step_why, line_why}
 use Rattle.text_job.specs.JobReading.{is_full}
-use Rattle.text_job.specs.JobReading.{amounts_of, is_full_script, lines_of, prefix_with, of_prefix, alone}
+use Rattle.text_job.specs.JobReading.{amounts_of, is_full_script, lines_of, leading_job, of_prefix, alone}
 use Rattle.text_job.specs.JobReading.{within_size, read}
 use Rattle.text_job.specs.JobReading.{job_of}
 use Rattle.text_job.specs.PlanPieces.{scripts_pieces}
@@ -290,8 +290,8 @@ err_ok : {A B : Type 0} {a : A} {b : B} {r : Result A B} → r ≡ Err b → r �
 err_ok h k = cc
 
 -- what is read of lines that go on has a first step
-step_some : (count : ℕ) (state : State) (line : ℕ) (bytes : List ℕ) (end : State) (rest : List ℕ) (prefix : Prefix)
-    (result : Result Prefix BadLine) → IsOpen state.place → Walks count state bytes end rest
+step_some : (count : ℕ) (state : State) (line : ℕ) (bytes : List ℕ) (end : State) (rest : List ℕ) (prefix : LeadingJob)
+    (result : Result LeadingJob BadLine) → IsOpen state.place → Walks count state bytes end rest
     → EndsAs end rest line result → result ≡ Ok prefix → (to : State × List ℕ) × (step state bytes ≡ Ok to)
 step_some zero state line bytes end rest prefix result open_ w (Ends o e r) h = absurd (err_ok r h)
 step_some zero state line bytes end rest prefix result open_ w (Fails why o s f r) h = absurd (err_ok r h)
@@ -317,7 +317,7 @@ flat_same (c ∷ a) (d ∷ b) x y h k e = cons_same c d a b (cc) (flat_same a b 
 
 -- a whole line that isn't read
 wrong_line : (state : State) (number : ℕ) (rest : List ℕ) (why : LineWhy) (w : IsWhole rest) (more : List ℕ)
-    (prefix : Prefix) → IsOpen state.place → IsState state.place state.job → step state rest ≡ Err why
+    (prefix : LeadingJob) → IsOpen state.place → IsState state.place state.job → step state rest ≡ Err why
     → read state number (w.line ++ 10 ∷ more) ≡ Ok prefix → ⊥
 wrong_line state number rest why w more prefix open_ is f h =
     let bytes = w.line ++ 10 ∷ more in
@@ -334,9 +334,9 @@ first_some (b ∷ rest) some h = absurd (omega arith)
 
 -- a byte behind the end
 wrong_byte : (state : State) (number : ℕ) (bytes : List ℕ) (job : Job) (line : ℕ) → state.place ≡ Over
-    → (length bytes ≡ 0 → ⊥) → read state number bytes ≡ Ok (prefix_with job line []) → ⊥
+    → (length bytes ≡ 0 → ⊥) → read state number bytes ≡ Ok (leading_job job line []) → ⊥
 wrong_byte state number bytes job line over some h =
-    some (ap (λ (f : Prefix). length f.rest) (prefix_same (sym (ap
+    some (ap (λ (f : LeadingJob). length f.rest) (prefix_same (sym (ap
     (λ (p : Place). read (record { place = p; job = state.job }) number bytes) over
     ∙ over_read state.job number bytes) ∙ h)))
 
@@ -350,7 +350,7 @@ prefix_first count bytes end rest w =
 -- what a job's text would be read as behind the walk
 read_behind : (count : ℕ) (bytes : List ℕ) (end : State) (rest : List ℕ) (w : IsWalk count bytes end rest)
     (job : Job) (more : List ℕ) → IsJob job → job_text job ≡ first_lines (count + 1) bytes ++ more → read end
-    (1 + count) (first_lines 1 rest ++ more) ≡ Ok (prefix_with job (1 + length (job_lines job)) [])
+    (1 + count) (first_lines 1 rest ++ more) ≡ Ok (leading_job job (1 + length (job_lines job)) [])
 read_behind count bytes end rest w job more is e =
     let k = w.walked in
     let x = first_lines 1 rest ++ more in
@@ -378,7 +378,7 @@ no_prefix_line count bytes end rest w why open_ f whole job more is e =
     (first_none whole.more) in
     let text : first_lines 1 rest ++ more ≡ whole.line ++ 10 ∷ more = ap (λ (x : List ℕ). x ++ more) first
     ∙ append_assoc whole.line (10 ∷ []) more in
-    wrong_line end (1 + count) rest why whole more (prefix_with job (1 + length (job_lines job)) []) open_ w.walked.is f
+    wrong_line end (1 + count) rest why whole more (leading_job job (1 + length (job_lines job)) []) open_ w.walked.is f
     (ap (read end (1 + count)) (sym text) ∙ read_behind count bytes end rest w job more is e)
 
 -- ---- each reason
@@ -465,7 +465,7 @@ bad_same : {A : Type 0} {bad found : BadLine} → ◌≡◌ {A = Result A BadLin
 bad_same h = cc
 
 ends_mean : (bytes : List ℕ) (found : BadLine) (count : ℕ) (end : State) (rest : List ℕ)
-    (result : Result Prefix BadLine) → Walks count start bytes end rest → EndsAs end rest (1 + count) result → result
+    (result : Result LeadingJob BadLine) → Walks count start bytes end rest → EndsAs end rest (1 + count) result → result
     ≡ Err found → IsLineWrong bytes found.line found.why
 ends_mean bytes found count end rest result w (Ends open_ none r) h =
     subst (λ (b : BadLine). IsLineWrong bytes b.line b.why) (bad_same (sym r ∙ h))
@@ -506,19 +506,19 @@ line_prefix_means bytes line After h = absurd h
 
 -- ---- bytes behind a job
 
-ends_after : (bytes : List ℕ) (prefix : Prefix) (count : ℕ) (end : State) (rest : List ℕ)
-    (result : Result Prefix BadLine) → Walks count start bytes end rest → EndsAs end rest (1 + count) result → result
+ends_after : (bytes : List ℕ) (prefix : LeadingJob) (count : ℕ) (end : State) (rest : List ℕ)
+    (result : Result LeadingJob BadLine) → Walks count start bytes end rest → EndsAs end rest (1 + count) result → result
     ≡ Ok prefix → (length prefix.rest ≡ 0 → ⊥) → IsWrong bytes prefix.line After
 ends_after bytes prefix count end rest result w (Ends open_ none r) h some = absurd (err_ok r h)
 ends_after bytes prefix count end rest result w (Fails why open_ s f r) h some = absurd (err_ok r h)
 ends_after bytes prefix count end rest result w (IsOver over r) h some =
-    let same : prefix_with end.job (1 + count) rest ≡ prefix = prefix_same (sym r ∙ h) in
-    let bytes_behind : rest ≡ [] → ⊥ = λ e. some (ap (λ (f : Prefix). length f.rest) (sym same) ∙ ap length e) in
-    subst (λ (f : Prefix). IsWrong bytes f.line After) same
+    let same : leading_job end.job (1 + count) rest ≡ prefix = prefix_same (sym r ∙ h) in
+    let bytes_behind : rest ≡ [] → ⊥ = λ e. some (ap (λ (f : LeadingJob). length f.rest) (sym same) ∙ ap length e) in
+    subst (λ (f : LeadingJob). IsWrong bytes f.line After) same
     (wrong count (1 + count) bytes end rest After w refl
     (no_prefix_over count bytes end rest (walk_of count bytes end rest w) over bytes_behind) (over, bytes_behind))
 
-after_by : (bytes : List ℕ) (prefix : Prefix) (found : BadLine) (t : Bool) → eqb (length prefix.rest) 0 ≡ t
+after_by : (bytes : List ℕ) (prefix : LeadingJob) (found : BadLine) (t : Bool) → eqb (length prefix.rest) 0 ≡ t
     → read start 1 bytes ≡ Ok prefix → ◌≡◌ {A = Result Job BadLine}
     (cond t (Ok prefix.job) (Err (record { line = prefix.line; why = After }))) (Err found)
     → length bytes ≤ MAX_JOB_BYTES → Means bytes found.line found.why
@@ -531,7 +531,7 @@ after_by bytes prefix found false e r h few =
       few,
     )
 
-alone_means : (bytes : List ℕ) (found : BadLine) (r : Result Prefix BadLine) → read start 1 bytes ≡ r
+alone_means : (bytes : List ℕ) (found : BadLine) (r : Result LeadingJob BadLine) → read start 1 bytes ≡ r
     → of_prefix alone r ≡ Err found → length bytes ≤ MAX_JOB_BYTES → Means bytes found.line found.why
 alone_means bytes found (Err bad) e h few =
     line_means bytes found.line found.why few (read_means bytes found (e ∙ ap (λ (b : BadLine). Err b) (bad_same h)))
@@ -577,7 +577,7 @@ gives_none (Err (faults.Bad line why)) bytes h = inr (λ job is. err_ok h (text_
 -- ---- bytes that begin with a job's text
 
 -- a job's text that is too long
-long_by : (bytes : List ℕ) (prefix : Prefix) (found : BadLine) (x : Job × ℕ) (t : Bool)
+long_by : (bytes : List ℕ) (prefix : LeadingJob) (found : BadLine) (x : Job × ℕ) (t : Bool)
     → ltb MAX_JOB_BYTES (length bytes - length prefix.rest) ≡ t → read start 1 bytes ≡ Ok prefix → ◌≡◌
     {A = Result (Job × ℕ) BadLine} (cond t (Err (record { line = 0; why = Size })) (Ok x)) (Err found)
     → PrefixMeans bytes found.line found.why
@@ -596,7 +596,7 @@ long_by bytes prefix found x true e r h =
     subst (λ (b : BadLine). PrefixMeans bytes b.line b.why) (bad_same h) (refl, long)
 long_by bytes prefix found x false e r h = absurd (err_ok h refl)
 
-sized_means : (bytes : List ℕ) (found : BadLine) (r : Result Prefix BadLine) → read start 1 bytes ≡ r
+sized_means : (bytes : List ℕ) (found : BadLine) (r : Result LeadingJob BadLine) → read start 1 bytes ≡ r
     → of_prefix (within_size (length bytes)) r ≡ Err found → PrefixMeans bytes found.line found.why
 sized_means bytes found (Err bad) e h =
     line_prefix_means bytes found.line found.why

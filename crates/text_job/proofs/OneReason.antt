@@ -13,7 +13,7 @@ use Rattle.text_job.specs.Places.{AtScripts, AtSteps}
 use Rattle.text_job.specs.Places.{AtCollect, AtSchedule, AtDone, Over, Named, Other, Item, item_form}
 use Rattle.text_job.specs.Places.{HandlerItem, CollectItem, AtomicsItem}
 use Rattle.text_job.specs.JobReading.{BadLine, start, line_at, next, after_section, after_handler_line, after_collect, after_atomics}
-use Rattle.text_job.specs.JobReading.{prefix_with, of_prefix, alone, within_size, from_lines, read_lines, read, job_of}
+use Rattle.text_job.specs.JobReading.{leading_job, of_prefix, alone, within_size, from_lines, read_lines, read, job_of}
 use Rattle.text_job.specs.JobReading.{prefix_of}
 use Rattle.text_job.specs.JobReading.{most_handlers}
 use Rattle.text_job.specs.JobReading.{has_pair, has_index, is_reserved}
@@ -318,12 +318,12 @@ wrong_read bytes line why within w =
 
 -- bytes behind a job's text
 after_over : (place : Place) (job : Job) (line : ℕ) (rest : List ℕ) → place ≡ Over
-    → read (record { place = place; job = job }) line rest ≡ Ok (prefix_with job line rest)
+    → read (record { place = place; job = job }) line rest ≡ Ok (leading_job job line rest)
 after_over place job line rest over =
     ap (λ (p : Place). read (record { place = p; job = job }) line rest) over ∙ over_read job line rest
 
 alone_not : (job : Job) (line : ℕ) (rest : List ℕ) → rest ≢ []
-    → alone (prefix_with job line rest) ≡ Err (record { line = line; why = After })
+    → alone (leading_job job line rest) ≡ Err (record { line = line; why = After })
 alone_not job line [] some = absurd (some refl)
 alone_not job line (b ∷ rest) some =
     cond_no (eqb (length (b ∷ rest)) 0) _ _ (ne_eqb (length (b ∷ rest)) 0 (λ none. omega arith))
@@ -365,7 +365,7 @@ within_prefix bytes line why within w =
 -- a job's text that is too long
 long_read : (bytes : List ℕ) → IsTooLong bytes → prefix_of bytes ≡ Err (record { line = 0; why = Size })
 long_read bytes t =
-    let prefix = prefix_with t.job (1 + length (job_lines t.job)) t.rest in
+    let prefix = leading_job t.job (1 + length (job_lines t.job)) t.rest in
     let size : length bytes ≡ length (job_text t.job) + length t.rest =
     ap length t.text ∙ length-append (job_text t.job) t.rest in
     let long = t.long in

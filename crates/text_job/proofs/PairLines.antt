@@ -5,7 +5,7 @@ use Rattle.std.specs.Str.{bytes_eq}
 use Rattle.text_job.specs.Scopes.{scope_of}
 use Rattle.text_calls.specs.declared.scope.Scope.{Scope}
 use Rattle.wire_message.specs.declared.pairs.PairCredits.{PairCredits}
-use Rattle.base_text.specs.Lines.{◌>>=◌, prefix, after_newline}
+use Rattle.base_text.specs.Lines.{◌>>=◌, first_word, after_newline}
 use Rattle.base_text.specs.Reasons.{reason, why_of}
 use Rattle.text_job.specs.Places.{NamedOr, Named, Other, AtAtomics, atomics_at, atomics_or_later_at}
 use Rattle.text_job.specs.Places.{atomics_or_later_form, AtCollect, collect_at, collect_or_later_at}
@@ -38,31 +38,31 @@ mapped (Some x) f = mapped_end (after_newline x.1) f x.0
 
 -- a line that begins with the name, and one that doesn't
 named_line : {A B : Type 0} (name : List ℕ) (at : List ℕ → Option (A × List ℕ)) (other : List ℕ → Option
-    (B × List ℕ)) (bytes : List ℕ) → bytes_eq (prefix bytes) name ≡ true → item_of_line (named_or name at other) bytes
+    (B × List ℕ)) (bytes : List ℕ) → bytes_eq (first_word bytes) name ≡ true → item_of_line (named_or name at other) bytes
     ≡ ◌>>=◌ {B = NamedOr A B × List ℕ} (item_of_line at bytes) (λ x. Some (Named x.0, x.1))
 named_line {A} {B} name at other bytes b = rw b (mapped {A = A} {B = NamedOr A B} (at bytes) (λ x. Named x))
 
 other_line : {A B : Type 0} (name : List ℕ) (at : List ℕ → Option (A × List ℕ)) (other : List ℕ → Option
-    (B × List ℕ)) (bytes : List ℕ) → bytes_eq (prefix bytes) name ≡ false → item_of_line (named_or name at other) bytes
+    (B × List ℕ)) (bytes : List ℕ) → bytes_eq (first_word bytes) name ≡ false → item_of_line (named_or name at other) bytes
     ≡ ◌>>=◌ {B = NamedOr A B × List ℕ} (item_of_line other bytes) (λ x. Some (Other x.0, x.1))
 other_line {A} {B} name at other bytes b = rw b (mapped {A = B} {B = NamedOr A B} (other bytes) (λ x. Other x))
 
-pair_line : (scope : Scope) (bytes : List ℕ) → bytes_eq (prefix bytes) (codes "pair") ≡ true
+pair_line : (scope : Scope) (bytes : List ℕ) → bytes_eq (first_word bytes) (codes "pair") ≡ true
     → line_at AtPairs scope bytes ≡ (item_of_line (pair_at scope.settings) bytes >>= λ x. Some (Named x.0, x.1))
 pair_line scope bytes b =
     named_line (codes "pair") (pair_at scope.settings) (atomics_or_later_at scope) bytes b
 
-atomics_line : (scope : Scope) (bytes : List ℕ) → bytes_eq (prefix bytes) (codes "atomics") ≡ true
+atomics_line : (scope : Scope) (bytes : List ℕ) → bytes_eq (first_word bytes) (codes "atomics") ≡ true
     → line_at AtAtomics scope bytes ≡ (item_of_line (atomics_at scope) bytes >>= λ x. Some (Named x.0, x.1))
 atomics_line scope bytes b =
     named_line (codes "atomics") (atomics_at scope) (collect_or_later_at scope) bytes b
 
-collect_line : (scope : Scope) (bytes : List ℕ) → bytes_eq (prefix bytes) (codes "collect") ≡ true
+collect_line : (scope : Scope) (bytes : List ℕ) → bytes_eq (first_word bytes) (codes "collect") ≡ true
     → line_at AtCollect scope bytes ≡ (item_of_line (collect_at scope) bytes >>= λ x. Some (Named x.0, x.1))
 collect_line scope bytes b =
     named_line (codes "collect") (collect_at scope) (header_or_section_at scope.settings) bytes b
 
-header_line : (scope : Scope) (bytes : List ℕ) → bytes_eq (prefix bytes) (codes "handler") ≡ true
+header_line : (scope : Scope) (bytes : List ℕ) → bytes_eq (first_word bytes) (codes "handler") ≡ true
     → line_at AtHandlers scope bytes ≡ (item_of_line header_at bytes >>= λ x. Some (Named x.0, x.1))
 header_line scope bytes b =
     named_line (codes "handler") header_at (section_at scope.settings.nodes scope.settings.threads) bytes b
@@ -70,7 +70,7 @@ header_line scope bytes b =
 -- ---- pairs
 
 -- a pair is read, and there is room for it
-pub pair_read : (job : Job) (line : ℕ) (bytes rest : List ℕ) (pair : PairCredits) → bytes_eq (prefix bytes)
+pub pair_read : (job : Job) (line : ℕ) (bytes rest : List ℕ) (pair : PairCredits) → bytes_eq (first_word bytes)
     (codes "pair") ≡ true → item_of_line (pair_at job.settings) bytes ≡ Some (pair, rest) → pair_why job.settings.pairs pair
     ≡ None
     → read (record { place = AtPairs; job = job }) line bytes ≡ read
@@ -81,14 +81,14 @@ pair_read job line bytes rest pair b h w =
 
 -- a pair is read, and may not stand there
 pub pair_full : (job : Job) (line : ℕ) (bytes rest : List ℕ) (pair : PairCredits) (why : LineWhy) → bytes_eq
-    (prefix bytes) (codes "pair") ≡ true → item_of_line (pair_at job.settings) bytes ≡ Some (pair, rest)
+    (first_word bytes) (codes "pair") ≡ true → item_of_line (pair_at job.settings) bytes ≡ Some (pair, rest)
     → pair_why job.settings.pairs pair ≡ Some why
     → read (record { place = AtPairs; job = job }) line bytes ≡ Err (record { line = line; why = why })
 pair_full job line bytes rest pair why b h w =
     read_full AtPairs job line bytes rest (Named pair) why (pair_line (scope_of job) bytes b ∙ rw h refl) (rw w refl)
 
 -- a pair isn't read
-pub pair_bad : (job : Job) (line : ℕ) (bytes : List ℕ) → bytes_eq (prefix bytes) (codes "pair") ≡ true → item_of_line
+pub pair_bad : (job : Job) (line : ℕ) (bytes : List ℕ) → bytes_eq (first_word bytes) (codes "pair") ≡ true → item_of_line
     (pair_at job.settings) bytes ≡ None
     → read (record { place = AtPairs; job = job }) line bytes ≡ Err
     (record { line = line; why = reason (pairs_form (scope_of job)) bytes })
@@ -97,7 +97,7 @@ pair_bad job line bytes b h = line_bad AtPairs tt job line bytes (pair_line (sco
 -- ---- atomics
 
 -- the line of atomics is read
-pub atomics_read : (job : Job) (line : ℕ) (bytes rest : List ℕ) → bytes_eq (prefix bytes) (codes "atomics") ≡ true
+pub atomics_read : (job : Job) (line : ℕ) (bytes rest : List ℕ) → bytes_eq (first_word bytes) (codes "atomics") ≡ true
     → item_of_line (atomics_at (scope_of job)) bytes ≡ Some (tt, rest)
     → read (record { place = AtAtomics; job = job }) line bytes ≡ read
     (record { place = AtCollect; job = with_atomics job }) (line + 1) rest
@@ -106,7 +106,7 @@ atomics_read job line bytes rest b h =
     (atomics_line (scope_of job) bytes b ∙ rw h refl) refl
 
 -- it isn't read
-pub atomics_bad : (job : Job) (line : ℕ) (bytes : List ℕ) → bytes_eq (prefix bytes) (codes "atomics") ≡ true
+pub atomics_bad : (job : Job) (line : ℕ) (bytes : List ℕ) → bytes_eq (first_word bytes) (codes "atomics") ≡ true
     → item_of_line (atomics_at (scope_of job)) bytes ≡ None
     → read (record { place = AtAtomics; job = job }) line bytes ≡ Err
     (record { line = line; why = reason (atomics_or_later_form (scope_of job)) bytes })
@@ -117,7 +117,7 @@ atomics_bad job line bytes b h =
 
 -- the line of collectives is read
 pub collect_read : (job : Job) (line : ℕ) (bytes rest : List ℕ) (area : CollectArea)
-    → bytes_eq (prefix bytes) (codes "collect") ≡ true → item_of_line (collect_at (scope_of job)) bytes ≡ Some (area, rest)
+    → bytes_eq (first_word bytes) (codes "collect") ≡ true → item_of_line (collect_at (scope_of job)) bytes ≡ Some (area, rest)
     → read (record { place = AtCollect; job = job }) line bytes ≡ read
     (record { place = AtHandlers; job = with_collect area job }) (line + 1) rest
 collect_read job line bytes rest area b h =
@@ -125,7 +125,7 @@ collect_read job line bytes rest area b h =
     (collect_line (scope_of job) bytes b ∙ rw h refl) refl
 
 -- it isn't read
-pub collect_bad : (job : Job) (line : ℕ) (bytes : List ℕ) → bytes_eq (prefix bytes) (codes "collect") ≡ true
+pub collect_bad : (job : Job) (line : ℕ) (bytes : List ℕ) → bytes_eq (first_word bytes) (codes "collect") ≡ true
     → item_of_line (collect_at (scope_of job)) bytes ≡ None
     → read (record { place = AtCollect; job = job }) line bytes ≡ Err
     (record { line = line; why = reason (collect_or_later_form (scope_of job)) bytes })
@@ -135,7 +135,7 @@ collect_bad job line bytes b h =
 -- ---- handlers
 
 -- the first line of a handler is read, and there is room for it
-pub handler_read : (job : Job) (line : ℕ) (bytes rest : List ℕ) (header : HandlerHeader) → bytes_eq (prefix bytes)
+pub handler_read : (job : Job) (line : ℕ) (bytes rest : List ℕ) (header : HandlerHeader) → bytes_eq (first_word bytes)
     (codes "handler") ≡ true → item_of_line header_at bytes ≡ Some (header, rest) → handler_why (scope_of job) job.handlers header.index
     ≡ None
     → read (record { place = AtHandlers; job = job }) line bytes ≡ read
@@ -146,7 +146,7 @@ handler_read job line bytes rest header b h w =
 
 -- it is read, and may not stand there
 pub handler_full : (job : Job) (line : ℕ) (bytes rest : List ℕ) (header : HandlerHeader) (why : LineWhy) → bytes_eq
-    (prefix bytes) (codes "handler") ≡ true → item_of_line header_at bytes ≡ Some (header, rest)
+    (first_word bytes) (codes "handler") ≡ true → item_of_line header_at bytes ≡ Some (header, rest)
     → handler_why (scope_of job) job.handlers header.index ≡ Some why
     → read (record { place = AtHandlers; job = job }) line bytes ≡ Err (record { line = line; why = why })
 handler_full job line bytes rest header why b h w =
@@ -154,7 +154,7 @@ handler_full job line bytes rest header why b h w =
     (rw w refl)
 
 -- it isn't read
-pub handler_bad : (job : Job) (line : ℕ) (bytes : List ℕ) → bytes_eq (prefix bytes) (codes "handler") ≡ true
+pub handler_bad : (job : Job) (line : ℕ) (bytes : List ℕ) → bytes_eq (first_word bytes) (codes "handler") ≡ true
     → item_of_line header_at bytes ≡ None
     → read (record { place = AtHandlers; job = job }) line bytes ≡ Err
     (record { line = line; why = reason header_or_section_form bytes })
@@ -193,7 +193,7 @@ same_by here there job line bytes None is h =
 same_by here there job line bytes (Some x) is h =
     same_ok here there job line bytes x.1 x.0 (next there job x.0) is h refl
 
-pub pairs_over : (job : Job) (line : ℕ) (bytes : List ℕ) → bytes_eq (prefix bytes) (codes "pair") ≡ false → read
+pub pairs_over : (job : Job) (line : ℕ) (bytes : List ℕ) → bytes_eq (first_word bytes) (codes "pair") ≡ false → read
     (record { place = AtPairs; job = job }) line bytes ≡ read (record { place = AtAtomics; job = job }) line bytes
 pairs_over job line bytes b = same_by AtPairs AtAtomics job line bytes (line_at AtAtomics (scope_of job) bytes)
     (record {
@@ -205,7 +205,7 @@ pairs_over job line bytes b = same_by AtPairs AtAtomics job line bytes (line_at 
       bad_there = line_bad AtAtomics tt;
     }) refl
 
-pub atomics_over : (job : Job) (line : ℕ) (bytes : List ℕ) → bytes_eq (prefix bytes) (codes "atomics") ≡ false → read
+pub atomics_over : (job : Job) (line : ℕ) (bytes : List ℕ) → bytes_eq (first_word bytes) (codes "atomics") ≡ false → read
     (record { place = AtAtomics; job = job }) line bytes ≡ read (record { place = AtCollect; job = job }) line bytes
 atomics_over job line bytes b = same_by AtAtomics AtCollect job line bytes (line_at AtCollect (scope_of job) bytes)
     (record {
@@ -217,7 +217,7 @@ atomics_over job line bytes b = same_by AtAtomics AtCollect job line bytes (line
       bad_there = line_bad AtCollect tt;
     }) refl
 
-pub collect_over : (job : Job) (line : ℕ) (bytes : List ℕ) → bytes_eq (prefix bytes) (codes "collect") ≡ false → read
+pub collect_over : (job : Job) (line : ℕ) (bytes : List ℕ) → bytes_eq (first_word bytes) (codes "collect") ≡ false → read
     (record { place = AtCollect; job = job }) line bytes ≡ read (record { place = AtHandlers; job = job }) line bytes
 collect_over job line bytes b = same_by AtCollect AtHandlers job line bytes (line_at AtHandlers (scope_of job) bytes)
     (record {
@@ -229,7 +229,7 @@ collect_over job line bytes b = same_by AtCollect AtHandlers job line bytes (lin
       bad_there = line_bad AtHandlers tt;
     }) refl
 
-pub handlers_over : (job : Job) (line : ℕ) (bytes : List ℕ) → bytes_eq (prefix bytes) (codes "handler") ≡ false → read
+pub handlers_over : (job : Job) (line : ℕ) (bytes : List ℕ) → bytes_eq (first_word bytes) (codes "handler") ≡ false → read
     (record { place = AtHandlers; job = job }) line bytes ≡ read (record { place = AtScripts; job = job }) line bytes
 handlers_over job line bytes b = same_by AtHandlers AtScripts job line bytes (line_at AtScripts (scope_of job) bytes)
     (record {

@@ -8,7 +8,7 @@ use Rattle.std.proofs.lemmas.Fmt.{digits_decimal, decimal_nonempty}
 use Rattle.std.proofs.lemmas.Bool.{ne_eqb}
 use Rattle.wire_message.specs.Parameters.{Parameters}
 use Rattle.wire_message.specs.declared.pairs.PairCredits.{PairCredits}
-use Rattle.base_text.specs.Lines.{◌>>=◌, is_stop, prefix, back}
+use Rattle.base_text.specs.Lines.{◌>>=◌, is_stop, first_word, after_word}
 use Rattle.text_calls.specs.Forms.{none_at, none_text, none_fits, entry_text}
 use Rattle.text_steps.specs.Bodies.{action_at, action_text, IsAction}
 use Rattle.text_steps.specs.Events.{timed_at, IsTimed}
@@ -145,7 +145,7 @@ sections_exact nodes threads = table_exact none_at none_text none_fits sections 
 
 -- a line that begins with the name, and one that doesn't
 abbrev pub Begins : {A : Type 0} → (A → List ℕ) → List ℕ → Bool → Type 0
-Begins {A} text name b = (item : A) (rest : List ℕ) → bytes_eq (prefix (text item ++ 10 ∷ rest)) name ≡ b
+Begins {A} text name b = (item : A) (rest : List ℕ) → bytes_eq (first_word (text item ++ 10 ∷ rest)) name ≡ b
 
 named_or_takes : {A B : Type 0} (name : List ℕ) (at : List ℕ → Option (A × List ℕ)) (text : A → List ℕ)
     (fits : A → Type 0) (other_at : List ℕ → Option (B × List ℕ)) (other : B → List ℕ) (other_fits : B → Type 0)
@@ -154,7 +154,7 @@ named_or_takes : {A B : Type 0} (name : List ℕ) (at : List ℕ → Option (A �
     (named_or name at other_at bytes)
 named_or_takes {A} {B} name at text fits other_at other other_fits one two bytes = takes_if {P = λ
     (x : NamedOr A B × List ℕ). (bytes ≡ named_or_text text other x.0 ++ x.1) × named_or_fits fits other_fits x.0}
-    {b = bytes_eq (prefix bytes) name} {r = ◌>>=◌ {B = NamedOr A B × List ℕ} (at bytes) (λ x. Some (Named x.0, x.1))}
+    {b = bytes_eq (first_word bytes) name} {r = ◌>>=◌ {B = NamedOr A B × List ℕ} (at bytes) (λ x. Some (Named x.0, x.1))}
     {s = ◌>>=◌ {B = NamedOr A B × List ℕ} (other_at bytes) (λ x. Some (Other x.0, x.1))}
     (λ b. takes_then (λ (x : A × List ℕ). (bytes ≡ text x.0 ++ x.1) × fits x.0)
     (one.takes bytes) (λ x h. takes_some {x = (Named x.0, x.1)} h))
@@ -237,19 +237,19 @@ atomics_or_later_exact scope =
     (atomics_exact scope) (collect_or_later_exact scope) (λ line rest. refl) collect_unnamed
 
 -- the bytes of a word that was found, and those after it
-found_word : (bytes name : List ℕ) → bytes_eq (prefix bytes) name ≡ true → bytes ≡ name ++ back bytes
-found_word bytes name b = whole bytes ∙ ap (λ (w : List ℕ). w ++ back bytes) (same_word (prefix bytes) name b)
+found_word : (bytes name : List ℕ) → bytes_eq (first_word bytes) name ≡ true → bytes ≡ name ++ after_word bytes
+found_word bytes name b = whole bytes ∙ ap (λ (w : List ℕ). w ++ after_word bytes) (same_word (first_word bytes) name b)
 
 -- a line that isn't the line `end`
 abbrev pub IsOther : {A : Type 0} → (A → List ℕ) → (A → Type 0) → Type 0
-IsOther {A} text fits = (item : A) (rest : List ℕ) → fits item → bytes_eq (prefix (text item ++ 10 ∷ rest))
+IsOther {A} text fits = (item : A) (rest : List ℕ) → fits item → bytes_eq (first_word (text item ++ 10 ∷ rest))
     (codes "end") ≡ false
 
 end_or_takes : {A : Type 0} (at : List ℕ → Option (A × List ℕ)) (text : A → List ℕ) (fits : A → Type 0)
     → IsExact at text fits → (bytes : List ℕ) → Takes (λ x. (bytes ≡ end_or_text text x.0 ++ x.1)
     × end_or_fits fits x.0) (end_or at bytes)
 end_or_takes {A} at text fits exact bytes = takes_if
-    (λ b. takes_some {x = (None, back bytes)} (found_word bytes (codes "end") b, tt))
+    (λ b. takes_some {x = (None, after_word bytes)} (found_word bytes (codes "end") b, tt))
     (λ b. takes_then (λ (x : A × List ℕ). (bytes ≡ text x.0 ++ x.1) × fits x.0) (exact.takes bytes)
     (λ x h. takes_some {x = (Some x.0, x.1)} h))
 
@@ -280,7 +280,7 @@ action_other _ rest h = refl
 
 -- a step isn't the line `end`
 vis_other : (way : Way) (shape : VisShape) (register from to : ℕ) (rest : List ℕ)
-    → bytes_eq (prefix (entry_text none_text (entry_by way shape register from to) ++ 10 ∷ rest)) (codes "end") ≡ false
+    → bytes_eq (first_word (entry_text none_text (entry_by way shape register from to) ++ 10 ∷ rest)) (codes "end") ≡ false
 vis_other Put (shapes.Strided remote local len levels) register from to rest = refl
 vis_other Get (shapes.Strided remote local len levels) register from to rest = refl
 vis_other Put (shapes.Indexed remote local) register from to rest = refl
@@ -319,9 +319,9 @@ prefix_by true b w e = refl
 prefix_by false b w e = rw e refl
 
 -- another first byte
-pub no_end : (bs : List ℕ) → eqb (get_or bs 0 0) 101 ≡ false → bytes_eq (prefix bs) (codes "end") ≡ false
+pub no_end : (bs : List ℕ) → eqb (get_or bs 0 0) 101 ≡ false → bytes_eq (first_word bs) (codes "end") ≡ false
 no_end [] e = refl
-no_end (b ∷ bs) e = prefix_by (is_stop b) b (prefix bs) e
+no_end (b ∷ bs) e = prefix_by (is_stop b) b (first_word bs) e
 
 -- bytes that begin with digits begin with no `e`
 digits_first : (ds rest : List ℕ) → 0 < length ds → AllDigits 10 ds → eqb (get_or (ds ++ rest) 0 0) 101 ≡ false
@@ -341,7 +341,7 @@ timed_other scope t rest h =
 
 done_exact : IsExact done_at (λ u. codes "done") (λ u. Unit {0})
 done_exact = record {
-  takes = λ bytes. takes_if (λ b. takes_some {x = (tt, back bytes)} (found_word bytes (codes "done") b, tt))
+  takes = λ bytes. takes_if (λ b. takes_some {x = (tt, after_word bytes)} (found_word bytes (codes "done") b, tt))
       (λ b. takes_none);
   again = λ u rest h. refl;
   flat = λ u h. (refl, (refl, (refl, (refl, tt))));

@@ -10,7 +10,7 @@ use Rattle.text_job.specs.Places as places
 use Rattle.text_job.specs.Places.{Place, AtSetting, AtSieve, AtPairs, AtHandlers, AtBody, AtScripts, AtSteps}
 use Rattle.text_job.specs.Places.{AtAtomics, AtCollect, AtSchedule, AtDone, Over}
 use Rattle.text_job.specs.Places.{Version}
-use Rattle.text_job.specs.JobReading.{State, BadLine, Prefix, start, of_prefix, alone, within_size, read}
+use Rattle.text_job.specs.JobReading.{State, BadLine, LeadingJob, start, of_prefix, alone, within_size, read}
 use Rattle.text_job.specs.JobReading.{job_of}
 use Rattle.text_job.specs.JobReading.{prefix_of}
 use Rattle.text_job.specs.JobText.{Line, spell, setting_line, sieve_line, pair_line, handler_lines}
@@ -271,33 +271,33 @@ over_text count bytes place job rest walked over =
     (λ (p : Place). Walked count start bytes (record { place = p; job = job }) rest) over walked in
     (sound_job job w.is, w.text ∙ ap (λ (ls : List Line). spell ls ++ rest) (sym w.lines))
 
-pub prefix_same : {a b : Prefix} → ◌≡◌ {A = Result Prefix BadLine} (Ok a) (Ok b) → a ≡ b
+pub prefix_same : {a b : LeadingJob} → ◌≡◌ {A = Result LeadingJob BadLine} (Ok a) (Ok b) → a ≡ b
 prefix_same h = cc
 
-read_by : (bytes : List ℕ) (prefix : Prefix) (o : Outcome start 1 bytes (read start 1 bytes)) → EndsAs o.end o.rest
+read_by : (bytes : List ℕ) (prefix : LeadingJob) (o : Outcome start 1 bytes (read start 1 bytes)) → EndsAs o.end o.rest
     (1 + o.count) (read start 1 bytes) → read start 1 bytes ≡ Ok prefix
     → IsJob prefix.job × (bytes ≡ job_text prefix.job ++ prefix.rest)
 read_by bytes prefix o (Ends open_ e r) h = absurd (cc)
 read_by bytes prefix o (Fails why open_ s f r) h = absurd (cc)
 read_by bytes prefix o (IsOver over r) h =
-    subst (λ (f : Prefix). IsJob f.job × (bytes ≡ job_text f.job ++ f.rest)) (prefix_same (sym r ∙ h))
+    subst (λ (f : LeadingJob). IsJob f.job × (bytes ≡ job_text f.job ++ f.rest)) (prefix_same (sym r ∙ h))
     (over_text o.count bytes o.end.place o.end.job o.rest (walk_keeps o.count start bytes o.end o.rest start_is
     o.walks) over)
 
 -- the bytes begin with the text of what was read
-pub read_text : (bytes : List ℕ) (prefix : Prefix) → read start 1 bytes ≡ Ok prefix
+pub read_text : (bytes : List ℕ) (prefix : LeadingJob) → read start 1 bytes ≡ Ok prefix
     → IsJob prefix.job × (bytes ≡ job_text prefix.job ++ prefix.rest)
 read_text bytes prefix h = let o = read_outcome start 1 bytes in read_by bytes prefix o o.ends h
 
 -- so many bytes are behind it
-pub rest_size : (bytes : List ℕ) (prefix : Prefix) → read start 1 bytes ≡ Ok prefix → length bytes
+pub rest_size : (bytes : List ℕ) (prefix : LeadingJob) → read start 1 bytes ≡ Ok prefix → length bytes
     ≡ length (job_text prefix.job) + length prefix.rest
 rest_size bytes prefix h = ap length (read_text bytes prefix h).1 ∙ length-append (job_text prefix.job) prefix.rest
 
 -- ---- a job alone
 
-record IsAlone (read : Result Prefix BadLine) (job : Job) : Type 0 where
-  pub prefix : Prefix
+record IsAlone (read : Result LeadingJob BadLine) (job : Job) : Type 0 where
+  pub prefix : LeadingJob
   pub is : read ≡ Ok prefix
   pub none : prefix.rest ≡ []
   pub same : prefix.job ≡ job
@@ -306,7 +306,7 @@ no_bytes : (bytes : List ℕ) → length bytes ≡ 0 → bytes ≡ []
 no_bytes [] e = refl
 no_bytes (b ∷ bytes) e = absurd (omega arith)
 
-alone_by : (prefix : Prefix) (job : Job) (bad : BadLine) (t : Bool) → eqb (length prefix.rest) 0 ≡ t → ◌≡◌
+alone_by : (prefix : LeadingJob) (job : Job) (bad : BadLine) (t : Bool) → eqb (length prefix.rest) 0 ≡ t → ◌≡◌
     {A = Result Job BadLine} (cond t (Ok prefix.job) (Err bad)) (Ok job) → IsAlone (Ok prefix) job
 alone_by prefix job bad true e h = record {
   prefix = prefix;
@@ -316,7 +316,7 @@ alone_by prefix job bad true e h = record {
 }
 alone_by prefix job bad false e h = absurd (cc)
 
-alone_of : (read : Result Prefix BadLine) (job : Job) → of_prefix alone read ≡ Ok job → IsAlone read job
+alone_of : (read : Result LeadingJob BadLine) (job : Job) → of_prefix alone read ≡ Ok job → IsAlone read job
 alone_of (Err bad) job h = absurd (cc)
 alone_of (Ok prefix) job h = alone_by prefix job _ (eqb (length prefix.rest) 0) refl h
 
@@ -346,7 +346,7 @@ gives_found (Err fault) bytes h = tt
 
 -- ---- a job at the prefix
 
-begins_by : (bytes : List ℕ) (prefix : Prefix) (x : Job × ℕ) (bad : BadLine) (t : Bool)
+begins_by : (bytes : List ℕ) (prefix : LeadingJob) (x : Job × ℕ) (bad : BadLine) (t : Bool)
     → ltb MAX_JOB_BYTES (length bytes - length prefix.rest) ≡ t → read start 1 bytes ≡ Ok prefix → ◌≡◌
     {A = Result (Job × ℕ) BadLine} (cond t (Err bad) (Ok (prefix.job, length bytes - length prefix.rest))) (Ok x)
     → BeginsWith x.0 x.1 bytes
@@ -367,7 +367,7 @@ begins_by bytes prefix x bad false e h same =
     ok_is : {a b : Job × ℕ} → ◌≡◌ {A = Result (Job × ℕ) BadLine} (Ok a) (Ok b) → a ≡ b
     ok_is h = cc
 
-begins_with : (bytes : List ℕ) (x : Job × ℕ) (r : Result Prefix BadLine) → read start 1 bytes ≡ r
+begins_with : (bytes : List ℕ) (x : Job × ℕ) (r : Result LeadingJob BadLine) → read start 1 bytes ≡ r
     → of_prefix (within_size (length bytes)) r ≡ Ok x → BeginsWith x.0 x.1 bytes
 begins_with bytes x (Err bad) e h = absurd (cc)
 begins_with bytes x (Ok prefix) e h =

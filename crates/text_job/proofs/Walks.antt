@@ -4,8 +4,8 @@ use Rattle.std.proofs.Common.{None, Result, Ok, Err, refl, sym, ap, subst, ◌�
 use Rattle.std.specs.List.{AllByRecursion}
 use Rattle.text_job.specs.Scopes.{scope_of}
 use Rattle.text_job.specs.Places.{Place, Over, Item, item_text}
-use Rattle.text_job.specs.JobReading.{State, BadLine, Prefix, line_at, why_at, next, onward, after_item, step}
-use Rattle.text_job.specs.JobReading.{from_lines, prefix_with, over_or, after_step, read_lines, read}
+use Rattle.text_job.specs.JobReading.{State, BadLine, LeadingJob, line_at, why_at, next, onward, after_item, step}
+use Rattle.text_job.specs.JobReading.{from_lines, leading_job, over_or, after_step, read_lines, read}
 use Rattle.text_job.specs.JobText.{Line, spell}
 use Rattle.text_job.specs.Refusals.{so_far}
 use Rattle.base_text.specs.declared.why.LineWhy.{LineWhy}
@@ -138,14 +138,14 @@ walk_keeps (suc count) state bytes end rest is w =
 -- ---- reading walks
 
 -- the end of the text, a line that isn't read, or the end of a job
-pub data EndsAs (end : State) (rest : List ℕ) (line : ℕ) (result : Result Prefix BadLine) : Type 0 where
+pub data EndsAs (end : State) (rest : List ℕ) (line : ℕ) (result : Result LeadingJob BadLine) : Type 0 where
   Ends : IsOpen end.place → rest ≡ [] → result ≡ Err (record { line = line; why = Early }) → EndsAs end rest line result
   Fails : (why : LineWhy) → IsOpen end.place → (rest ≡ [] → ⊥) → step end rest ≡ Err why → result ≡ Err
       (record { line = line; why = why }) → EndsAs end rest line result
-  IsOver : end.place ≡ Over → result ≡ Ok (prefix_with end.job line rest) → EndsAs end rest line result
+  IsOver : end.place ≡ Over → result ≡ Ok (leading_job end.job line rest) → EndsAs end rest line result
 
 -- how a reading comes to its end
-pub record Outcome (state : State) (line : ℕ) (bytes : List ℕ) (result : Result Prefix BadLine) : Type 0 where
+pub record Outcome (state : State) (line : ℕ) (bytes : List ℕ) (result : Result LeadingJob BadLine) : Type 0 where
   pub count : ℕ
   pub end : State
   pub rest : List ℕ
@@ -153,7 +153,7 @@ pub record Outcome (state : State) (line : ℕ) (bytes : List ℕ) (result : Res
   pub ends : EndsAs end rest (line + count) result
 
 -- it ends at once
-at_once : (state : State) (line : ℕ) (bytes : List ℕ) (result : Result Prefix BadLine)
+at_once : (state : State) (line : ℕ) (bytes : List ℕ) (result : Result LeadingJob BadLine)
     → EndsAs state bytes (line + 0) result → Outcome state line bytes result
 at_once state line bytes result ends = record {
   count = 0;
@@ -164,7 +164,7 @@ at_once state line bytes result ends = record {
 }
 
 -- one step before
-one_before : (state : State) (line : ℕ) (bytes : List ℕ) (to : State) (more : List ℕ) (result : Result Prefix BadLine)
+one_before : (state : State) (line : ℕ) (bytes : List ℕ) (to : State) (more : List ℕ) (result : Result LeadingJob BadLine)
     → step state bytes ≡ Ok (to, more) → Outcome to (line + 1) more result → Outcome state line bytes result
 one_before state line bytes to more result h o = record {
   count = suc o.count;
@@ -193,15 +193,15 @@ told_over place over other e = ap (λ (p : Place). over_or p over other) e
 
 -- no line follows
 no_line : (state : State) (line : ℕ) (bytes : List ℕ) → bytes ≡ [] → IsOpen state.place ⊎ (state.place ≡ Over)
-    → Outcome state line bytes (over_or state.place (Ok (prefix_with state.job line [])) (Err
+    → Outcome state line bytes (over_or state.place (Ok (leading_job state.job line [])) (Err
     (record { line = line; why = Early })))
 no_line state line bytes none (inl open_) =
     at_once state line bytes _ (Ends open_ none (goes_on state.place _ _ open_
     ∙ ap (λ (n : ℕ). Err (record { line = n; why = Early })) (omega arith)))
 no_line state line bytes none (inr over) =
     at_once state line bytes _ (IsOver over (told_over state.place _ _ over
-    ∙ ap (λ (n : ℕ). Ok (prefix_with state.job n [])) (omega arith)
-    ∙ ap (λ (r : List ℕ). Ok (prefix_with state.job (line + 0) r)) (sym none)))
+    ∙ ap (λ (n : ℕ). Ok (leading_job state.job n [])) (omega arith)
+    ∙ ap (λ (r : List ℕ). Ok (leading_job state.job (line + 0) r)) (sym none)))
 
 -- a line follows where lines go on
 run_by : (later : List (List ℕ)) (state : State) (line : ℕ) (bytes : List ℕ) (r : Result (State × List ℕ) LineWhy)
@@ -218,14 +218,14 @@ run_by later state line bytes (Ok x) open_ h some on = one_before state line byt
 some_line : (later : List (List ℕ)) (state : State) (line : ℕ) (bytes : List ℕ)
     → IsOpen state.place ⊎ (state.place ≡ Over) → (bytes ≡ [] → ⊥) → ((to : State) (more : List ℕ)
     → step state bytes ≡ Ok (to, more) → Outcome to (line + 1) more (read_lines to (line + 1) later))
-    → Outcome state line bytes (over_or state.place (Ok (prefix_with state.job line bytes))
+    → Outcome state line bytes (over_or state.place (Ok (leading_job state.job line bytes))
     (after_step line (λ to. read_lines to (line + 1) later) (step state bytes)))
 some_line later state line bytes (inl open_) some on =
     subst (Outcome state line bytes) (sym (goes_on state.place _ _ open_))
     (run_by later state line bytes (step state bytes) open_ refl some on)
 some_line later state line bytes (inr over) some on =
     at_once state line bytes _ (IsOver over (told_over state.place _ _ over
-    ∙ ap (λ (n : ℕ). Ok (prefix_with state.job n bytes)) (omega arith)))
+    ∙ ap (λ (n : ℕ). Ok (leading_job state.job n bytes)) (omega arith)))
 
 run_outcome : (lines : List (List ℕ)) (state : State) (line : ℕ) (bytes : List ℕ) → from_lines bytes ≡ lines
     → Outcome state line bytes (read_lines state line lines)
@@ -233,7 +233,7 @@ unfolding read_lines
 run_outcome [] state line bytes e = no_line state line bytes (empty_lines bytes e) (open_or_over state.place)
 run_outcome (first ∷ later) state line bytes e =
     let f = first_of bytes first later e in
-    subst (λ (b : List ℕ). Outcome state line bytes (over_or state.place (Ok (prefix_with state.job line b))
+    subst (λ (b : List ℕ). Outcome state line bytes (over_or state.place (Ok (leading_job state.job line b))
     (after_step line (λ to. read_lines to (line + 1) later) (step state b)))) f.0
     (some_line later state line bytes (open_or_over state.place) f.1 (λ to more h.
     let one = step_of state bytes (to, more) h in

@@ -406,13 +406,13 @@ unfoldable pub from_lines : List ℕ → List (List ℕ)
 from_lines bytes = also_from bytes (from_later_lines bytes)
 
 -- a job with whose text bytes begin, the number of the line behind it, and the bytes from there on
-pub record Prefix : Type 0 where
+pub record LeadingJob : Type 0 where
   pub job : Job
   pub line : ℕ
   pub rest : List ℕ
 
-abbrev pub prefix_with : Job → (line : ℕ) → (rest : List ℕ) → Prefix
-prefix_with job line rest = record { job = job; line = line; rest = rest }
+abbrev pub leading_job : Job → (line : ℕ) → (rest : List ℕ) → LeadingJob
+leading_job job line rest = record { job = job; line = line; rest = rest }
 
 -- behind the last line of a job it is told, and else something goes on
 abbrev pub over_or : {A : Type 0} → Place → (told other : A) → A
@@ -420,30 +420,30 @@ over_or Over told other = told
 over_or place told other = other
 
 -- a line was read, or not
-abbrev pub after_step : (line : ℕ) → (State → Result Prefix BadLine) → Result (State × List ℕ) LineWhy
-    → Result Prefix BadLine
+abbrev pub after_step : (line : ℕ) → (State → Result LeadingJob BadLine) → Result (State × List ℕ) LineWhy
+    → Result LeadingJob BadLine
 after_step line more (Err why) = Err (record { line = line; why = why })
 after_step line more (Ok x) = more x.0
 
 -- the lines from these places on up to the last one of a job
-unfoldable pub read_lines : State → (line : ℕ) → List (List ℕ) → Result Prefix BadLine
+unfoldable pub read_lines : State → (line : ℕ) → List (List ℕ) → Result LeadingJob BadLine
 read_lines state line [] =
-    over_or state.place (Ok (prefix_with state.job line [])) (Err (record { line = line; why = Early }))
+    over_or state.place (Ok (leading_job state.job line [])) (Err (record { line = line; why = Early }))
 read_lines state line (bytes ∷ later) =
-    over_or state.place (Ok (prefix_with state.job line bytes))
+    over_or state.place (Ok (leading_job state.job line bytes))
     (after_step line (λ then_state. read_lines then_state (line + 1) later) (step state bytes))
 
 -- the bytes from a line on
-unfoldable pub read : State → (line : ℕ) → List ℕ → Result Prefix BadLine
+unfoldable pub read : State → (line : ℕ) → List ℕ → Result LeadingJob BadLine
 read state line bytes = read_lines state line (from_lines bytes)
 
--- what is made of a prefix, unless a line was bad
-abbrev pub of_prefix : {A : Type 0} → (Prefix → Result A BadLine) → Result Prefix BadLine → Result A BadLine
+-- what is made of the leading job, unless a line was bad
+abbrev pub of_prefix : {A : Type 0} → (LeadingJob → Result A BadLine) → Result LeadingJob BadLine → Result A BadLine
 of_prefix make (Ok prefix) = make prefix
 of_prefix make (Err bad) = Err bad
 
 -- the job, where no byte stands behind it
-abbrev pub alone : Prefix → Result Job BadLine
+abbrev pub alone : LeadingJob → Result Job BadLine
 alone prefix = if length prefix.rest == 0 then Ok prefix.job else Err (record { line = prefix.line; why = After })
 
 -- what a text is read as
@@ -454,7 +454,7 @@ job_of bytes =
     else of_prefix alone (read start 1 bytes)
 
 -- the job at the beginning of so many bytes, and the size of its text, which is not too long
-abbrev pub within_size : (count : ℕ) → Prefix → Result (Job × ℕ) BadLine
+abbrev pub within_size : (count : ℕ) → LeadingJob → Result (Job × ℕ) BadLine
 within_size count prefix =
     if nat_lt MAX_JOB_BYTES (count - length prefix.rest) then Err (record { line = 0; why = Size })
     else Ok (prefix.job, count - length prefix.rest)

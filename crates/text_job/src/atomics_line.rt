@@ -2,7 +2,7 @@
 
 ghost use Rattle.std.specs.Prelude.{◌≡◌, ◌≤◌, ◌+◌, codes, IfOk, true};
 ghost use Rattle.std.specs.Str.{bytes_eq};
-ghost use Rattle.base_text.specs.Lines.{prefix};
+ghost use Rattle.base_text.specs.Lines.{first_word};
 ghost use Rattle.text_job.specs.JobReading.{State, job_of_head, item_of_line, read};
 ghost use Rattle.text_job.specs.Places.{AtAtomics, AtCollect, atomics_at, atomics_or_later_form};
 ghost use Rattle.text_job.specs.Reading.{Continues};
@@ -41,7 +41,7 @@ fn atomics_line<'a>(scope: &Scope, bytes: &'a [u8]) -> Result<&'a [u8], Other>
 
 /// Why a line that begins with `atomics` isn't read.
 fn atomics_why(scope: &Scope, bytes: &[u8]) -> LineWhy
-    requires { bytes_eq (prefix bytes.now) (codes "atomics") ≡ true }
+    requires { bytes_eq (first_word bytes.now) (codes "atomics") ≡ true }
     ensures { result ≡ reason (atomics_or_later_form scope.now) bytes.now }
 {
     let (_, rest) = name_of(bytes);

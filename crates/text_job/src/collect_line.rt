@@ -2,7 +2,7 @@
 
 ghost use Rattle.std.specs.Prelude.{◌≡◌, ◌≤◌, ◌+◌, ◌==◌, ◌%◌, ◌&&◌, nat_le, codes, IfOk, true};
 ghost use Rattle.std.specs.Str.{bytes_eq};
-ghost use Rattle.base_text.specs.Lines.{prefix};
+ghost use Rattle.base_text.specs.Lines.{first_word};
 ghost use Rattle.text_job.specs.JobReading.{State, job_of_head, item_of_line, read};
 ghost use Rattle.text_job.specs.Places.{AtAtomics, AtCollect, AtHandlers, collect_at, collect_fits};
 ghost use Rattle.text_job.specs.Places.{collect_or_later_form};
@@ -93,7 +93,7 @@ fn collect_line<'a>(scope: &Scope, bytes: &'a [u8]) -> Result<(CollectArea, &'a 
 
 /// Why a line that begins with `collect` isn't read.
 fn collect_why(scope: &Scope, bytes: &[u8]) -> LineWhy
-    requires { bytes_eq (prefix bytes.now) (codes "collect") ≡ true }
+    requires { bytes_eq (first_word bytes.now) (codes "collect") ≡ true }
     ensures { result ≡ reason (collect_or_later_form scope.now) bytes.now }
 {
     let (_, rest) = name_of(bytes);

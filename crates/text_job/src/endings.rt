@@ -2,7 +2,7 @@
 
 ghost use Rattle.std.specs.Prelude.{◌≡◌, ◌≤◌, ◌+◌, None};
 ghost use Rattle.text_job.specs.Places.{AtDone, Over, done_at};
-ghost use Rattle.text_job.specs.JobReading.{State, item_of_line, job_of_head, prefix_with, behind_scripts};
+ghost use Rattle.text_job.specs.JobReading.{State, item_of_line, job_of_head, leading_job, behind_scripts};
 ghost use Rattle.text_job.specs.JobReading.{read};
 ghost use Rattle.base_text.specs.Found.{Finds};
 ghost use Rattle.text_job.specs.Reading.{GivesAt, Continues};
@@ -70,7 +70,7 @@ pub fn tail_at(
 ) -> Result<(Job, u32, &[u8]), JobFault>
     requires line { line ≤ 20000000 }
     requires none { job.schedule ≡ None }
-    ensures { GivesAt (λ x. prefix_with x.0 x.1 x.2.now) result
+    ensures { GivesAt (λ x. leading_job x.0 x.1 x.2.now) result
         (read (behind_scripts schedule job) line bytes.now) }
 {
     if !schedule {

@@ -4,7 +4,7 @@
 
 ghost use Rattle.std.specs.Prelude.{◌≡◌, ◌==◌};
 ghost use Rattle.std.specs.Str.{bytes_eq};
-ghost use Rattle.base_text.specs.Lines.{prefix};
+ghost use Rattle.base_text.specs.Lines.{first_word};
 ghost use Rattle.text_job.specs.Places.{form_fits, form_name, setting_name};
 
 use base_text::{begins, is_name};
@@ -103,7 +103,7 @@ impl JobForm {
     /// Whether a line begins with the name.
     #[inline(always)]
     pub(crate) fn begins(self, line: &[u8]) -> bool
-        ensures { result ≡ bytes_eq (prefix line.now) (form_name self) }
+        ensures { result ≡ bytes_eq (first_word line.now) (form_name self) }
     {
         begins(self.name(), line)
     }

@@ -9,7 +9,7 @@ ghost use Rattle.text_job.specs.JobReading.{most_beside};
 ghost use Rattle.text_job.specs.JobReading.{most_handlers, with_body, with_handler, handler_why};
 ghost use Rattle.text_job.specs.JobReading.{read};
 ghost use Rattle.text_job.specs.Scopes.{scope_of};
-ghost use Rattle.base_text.specs.Lines.{prefix};
+ghost use Rattle.base_text.specs.Lines.{first_word};
 ghost use Rattle.base_text.specs.Found.{Reads};
 ghost use Rattle.text_job.specs.Reading.{GivesAt, Continues};
 ghost use Rattle.base_text.specs.Reasons.{reason};
@@ -176,7 +176,7 @@ fn next_header<'a>(
     line: u32,
     bytes: &'a [u8],
 ) -> Result<(HandlerHeader, &'a [u8]), JobFault>
-    requires { bytes_eq (prefix bytes.now) (codes "handler") ≡ true }
+    requires { bytes_eq (first_word bytes.now) (codes "handler") ≡ true }
     ensures value { (job : JobState) → scope_of job ≡ scope.now → job.handlers ≡ before.now →
         Continues (λ x. read (record { place = AtBody (new_handler x.0); job = job }) (line + 1) x.1.now)
         result (read (record { place = AtHandlers; job = job }) line bytes.now) }

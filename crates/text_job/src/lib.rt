@@ -16,8 +16,8 @@
 //!
 //! `read_job_prefix` is the same reader where any bytes may stand behind a job's text [`found`, `one`, `bad`, `meant`,
 //! `told`, `none`]: it tells the one job with whose text the bytes begin, and the size of that text (`BeginsWith`);
-//! else the first bad line of the prefix (`prefix_of`), with what that means (`PrefixMeans`), or that the text at the
-//! prefix is too long.
+//! else the first bad line of the beginning (`prefix_of`), with what that means (`PrefixMeans`), or that the text at the
+//! beginning is too long.
 #![tactic(auto)]
 
 mod atomics_line;

@@ -3,7 +3,7 @@
 ghost use Rattle.std.specs.Prelude.{◌≡◌, ◌≢◌, ◌≤◌, ◌<◌, ◌+◌, ◌*◌, ◌-◌, ◌==◌, ◌&&◌, true, [], length, codes, IfOk};
 ghost use Rattle.std.specs.Str.{bytes_eq};
 ghost use Rattle.wire_message.specs.Parameters.{AreInRange, credits_in_all};
-ghost use Rattle.base_text.specs.Lines.{prefix};
+ghost use Rattle.base_text.specs.Lines.{first_word};
 ghost use Rattle.text_calls.specs.Forms.{Number, part_at};
 ghost use Rattle.text_job.specs.JobReading.{State, item_of_line, has_pair, job_of_head, read};
 ghost use Rattle.text_job.specs.Places.{AtAtomics, AtPairs, pair_at, pair_fits, pairs_form};
@@ -96,7 +96,7 @@ fn pair_line<'a>(
 
 /// Why a line that begins with `pair` isn't read.
 fn pair_why(bytes: &[u8]) -> LineWhy
-    requires { bytes_eq (prefix bytes.now) (codes "pair") ≡ true }
+    requires { bytes_eq (first_word bytes.now) (codes "pair") ≡ true }
     ensures { (scope : AnyScope) → result ≡ reason (pairs_form scope) bytes.now }
 {
     let (_, rest) = name_of(bytes);

@@ -6,7 +6,7 @@ ghost use Rattle.text_job.specs.Refusals.{PrefixMeans, IsBadPrefix, IsBadLine, I
 ghost use Rattle.text_job.specs.Refusals.{IsNoMemory, IsTold, Means};
 ghost use Rattle.base_text.specs.declared.why.LineWhy.{LineWhy as Why};
 ghost use Rattle.text_job.specs.declared.job.Job.{Job as JobState};
-ghost use Rattle.text_job.specs.JobReading.{prefix_of, prefix_with, job_of, read, start};
+ghost use Rattle.text_job.specs.JobReading.{prefix_of, leading_job, job_of, read, start};
 ghost use Rattle.text_job.specs.Reading.{GivesAt};
 
 use crate::collect_line::services_from;
@@ -26,7 +26,7 @@ pub const MAX_JOB_BYTES: usize = 4_194_304;
 
 /// The job with whose text the bytes begin, the number of the line behind it, and the bytes from there on.
 fn prefix_at(alloc: Global, bytes: &[u8]) -> Result<(Job, u32, &[u8]), JobFault>
-    ensures { GivesAt (λ x. prefix_with x.0 x.1 x.2.now) result (read start 1 bytes.now) }
+    ensures { GivesAt (λ x. leading_job x.0 x.1 x.2.now) result (read start 1 bytes.now) }
 {
     let (head, rest) = match head_at(bytes) {
         Ok(read) => read,
@@ -124,7 +124,7 @@ pub fn read_job(alloc: Global, bytes: &[u8]) -> Result<Job, JobFault>
 /// # Errors
 ///
 /// `NoMemory` where memory ran out, else `Bad` exactly where the bytes begin with no job's text: with the first bad
-/// line of the prefix and the first reason that applies to it, or `Size` for line 0 where they begin with the text of a
+/// line of the job and the first reason that applies to it, or `Size` for line 0 where they begin with the text of a
 /// job that is good, but too long. `After` never comes.
 pub fn read_job_prefix(alloc: Global, bytes: &[u8]) -> Result<(Job, usize), JobFault>
     // The bytes begin with the text of what is read, which has this size.
@@ -136,7 +136,7 @@ pub fn read_job_prefix(alloc: Global, bytes: &[u8]) -> Result<(Job, usize), JobF
     ensures bad { IfErr result (λ fault. IsNoMemory fault ⊎ IsBadPrefix bytes.now fault) }
     // What that means, apart from the reader.
     ensures meant { IfErr result (λ fault. IsPrefixMeant bytes.now fault) }
-    // What is so meant of a line is told: no prefix has two bad lines, and no line two reasons.
+    // What is so meant of a line is told: no job has two bad lines, and no line two reasons.
     ensures told { (line : ℕ) (why : Why) → PrefixMeans bytes.now line why → IsTold result line why }
     // Where no job is read, the bytes begin with no job's text, unless memory ran out.
     ensures none { IfErr result (λ fault. IsNoMemory fault ⊎

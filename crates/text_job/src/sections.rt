@@ -2,7 +2,7 @@
 
 ghost use Rattle.std.specs.Prelude.{◌≡◌, ◌||◌, ◌&&◌, ◌==◌, nat_le, nat_lt, codes, true};
 ghost use Rattle.std.specs.Str.{bytes_eq};
-ghost use Rattle.base_text.specs.Lines.{prefix};
+ghost use Rattle.base_text.specs.Lines.{first_word};
 ghost use Rattle.text_job.specs.Places.{header_at, header_or_section_form, section_at};
 ghost use Rattle.text_job.specs.Places.{section_form};
 ghost use Rattle.text_job.specs.JobReading.{item_of_line};
@@ -79,7 +79,7 @@ pub fn header_line(alloc: Global, bytes: &[u8]) -> Result<(HandlerHeader, &[u8])
 
 /// Why a line that begins with `handler` isn't read.
 pub fn header_why(bytes: &[u8]) -> LineWhy
-    requires { bytes_eq (prefix bytes.now) (codes "handler") ≡ true }
+    requires { bytes_eq (first_word bytes.now) (codes "handler") ≡ true }
     ensures { result ≡ reason header_or_section_form bytes.now }
 {
     let (_, rest) = name_of(bytes);

@@ -4,7 +4,7 @@ use Rattle.wire_message.specs.Content.{Content, short_reply, medium_reply, long_
 use Rattle.part_handlers.specs.declared.token.Token.{Token}
 use Rattle.part_handlers.specs.declared.message.Replied.{Replied}
 use Rattle.part_handlers.specs.declared.message.Replied.TheVariants as answers
-use Rattle.part_handlers.specs.Tokens.{At, Stage, answer_with_token, token_after_reply, arrival_at, frame_of, leaving, stage}
+use Rattle.part_handlers.specs.Tokens.{At, Stage, answer_with_token, token_after_reply, token_arrival, frame_of, leaving, stage}
 use Rattle.part_handlers.specs.Tokens.{start_of}
 use Rattle.part_handlers.specs.Runs.{Outcome, IsSpelled, replying}
 use Rattle.part_handlers.proofs.Laws.{replying-leaving, cells-replying, writes-replying, IsSpelled-replying}
@@ -56,26 +56,26 @@ reply_at opening outcome segment cells old new content at asks =
 -- the numbers of the operands are those at the outcome so far
 values_at : (opening : Stage) (outcome : Outcome) (segment : List ℕ) (cells : List ℤ) (old : Token)
     (operands items : List Operand) → At opening outcome (stage segment cells old) → items ≡ operands
-    → map (operand_value cells (arrival_at old).args) items
+    → map (operand_value cells (token_arrival old).args) items
     ≡ map (operand_at (frame_of opening.token) outcome) operands
 values_at opening outcome segment cells old operands items at same =
-    ap (map (operand_value cells (arrival_at old).args)) same
-    ∙ (ap (λ (numbers : List ℤ). map (operand_value numbers (arrival_at old).args) operands) at.cells_are
-    ∙ ap (λ (token : Token). map (operand_value outcome.cells (arrival_at token).args) operands) at.token_is)
+    ap (map (operand_value cells (token_arrival old).args)) same
+    ∙ (ap (λ (numbers : List ℤ). map (operand_value numbers (token_arrival old).args) operands) at.cells_are
+    ∙ ap (λ (token : Token). map (operand_value outcome.cells (token_arrival token).args) operands) at.token_is)
 
 -- the bytes of a payload are those at the outcome so far
 load_at : (opening : Stage) (outcome : Outcome) (segment : List ℕ) (cells : List ℤ) (old : Token) (load : Payload)
     (bytes : List ℕ) → At opening outcome (stage segment cells old)
-    → Some bytes ≡ payload_bytes (arrival_at old) segment load
+    → Some bytes ≡ payload_bytes (token_arrival old) segment load
     → payload_bytes (frame_of opening.token).arrival (segment_at (start_of opening) outcome) load ≡ Some bytes
 load_at opening outcome segment cells old load bytes at told =
-    sym (told ∙ (ap (λ (token : Token). payload_bytes (arrival_at token) segment load) at.token_is
-    ∙ ap (λ (now : List ℕ). payload_bytes (arrival_at opening.token) now load) at.segment_is))
+    sym (told ∙ (ap (λ (token : Token). payload_bytes (token_arrival token) segment load) at.token_is
+    ∙ ap (λ (now : List ℕ). payload_bytes (token_arrival opening.token) now load) at.segment_is))
 
 -- a Short reply of a body
 pub short_at : (opening : Stage) (outcome : Outcome) (segment : List ℕ) (cells : List ℤ) (old new : Token)
     (handler : ℕ) (operands items : List Operand) → At opening outcome (stage segment cells old) → items ≡ operands
-    → AsksReply (short_reply handler (map (operand_value cells (arrival_at old).args) items)) old new
+    → AsksReply (short_reply handler (map (operand_value cells (token_arrival old).args) items)) old new
     → At opening (after_reply (frame_of opening.token) (start_of opening) outcome (reply.Short handler operands))
     (stage segment cells new)
 short_at opening outcome segment cells old new handler operands items at same asks =
@@ -87,8 +87,8 @@ short_at opening outcome segment cells old new handler operands items at same as
 pub medium_at : (opening : Stage) (outcome : Outcome) (segment : List ℕ) (cells : List ℤ) (old new : Token)
     (handler : ℕ) (load : Payload) (bytes : List ℕ) (operands items : List Operand)
     → At opening outcome (stage segment cells old) → items ≡ operands
-    → Some bytes ≡ payload_bytes (arrival_at old) segment load
-    → AsksReply (medium_reply handler (map (operand_value cells (arrival_at old).args) items) bytes) old new
+    → Some bytes ≡ payload_bytes (token_arrival old) segment load
+    → AsksReply (medium_reply handler (map (operand_value cells (token_arrival old).args) items) bytes) old new
     → At opening (after_reply (frame_of opening.token) (start_of opening) outcome (reply.Medium handler load operands))
     (stage segment cells new)
 medium_at opening outcome segment cells old new handler load bytes operands items at same told asks =
@@ -102,8 +102,8 @@ medium_at opening outcome segment cells old new handler load bytes operands item
 pub long_at : (opening : Stage) (outcome : Outcome) (segment : List ℕ) (cells : List ℤ) (old new : Token)
     (handler offset : ℕ) (load : Payload) (bytes : List ℕ) (operands items : List Operand)
     → At opening outcome (stage segment cells old) → items ≡ operands
-    → Some bytes ≡ payload_bytes (arrival_at old) segment load
-    → AsksReply (long_reply handler (map (operand_value cells (arrival_at old).args) items) offset bytes) old new
+    → Some bytes ≡ payload_bytes (token_arrival old) segment load
+    → AsksReply (long_reply handler (map (operand_value cells (token_arrival old).args) items) offset bytes) old new
     → At opening (after_reply (frame_of opening.token) (start_of opening) outcome (reply.Long handler load offset operands))
     (stage segment cells new)
 long_at opening outcome segment cells old new handler offset load bytes operands items at same told asks =

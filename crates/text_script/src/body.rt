@@ -1,7 +1,7 @@
 //! The body of a handler, as it runs.
 
 ghost use Rattle.std.specs.Prelude.{length};
-ghost use Rattle.part_handlers.specs.Tokens.{At, IsFresh, IsReadyToken, IsSegment, arrival_at, frame_of, stage};
+ghost use Rattle.part_handlers.specs.Tokens.{At, IsFresh, IsReadyToken, IsSegment, token_arrival, frame_of, stage};
 ghost use Rattle.part_handlers.specs.Tokens.{start_of};
 ghost use Rattle.part_handlers.specs.Runs.{IsPlaced, nothing_done};
 ghost use Rattle.text_script.specs.Bodies.{acts};
@@ -16,7 +16,7 @@ use text_steps::Action;
 
 /// Does an action.
 fn do_action(action: &Action, segment: &mut Segment, cells: &mut Cells, token: &mut Token<'_>)
-    requires placed { IsPlaced (length segment.old) (arrival_at token.old).place }
+    requires placed { IsPlaced (length segment.old) (token_arrival token.old).place }
     requires ready { IsReadyToken token.old }
     ensures at { AtAction action.now (stage segment.old cells.old token.old)
         (stage segment.new cells.new token.new) }

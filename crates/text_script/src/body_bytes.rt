@@ -2,7 +2,7 @@
 
 ghost use Rattle.std.specs.Prelude.{◌≡◌, length};
 ghost use Rattle.std.specs.Option.{option_map};
-ghost use Rattle.part_handlers.specs.Tokens.{arrival_at};
+ghost use Rattle.part_handlers.specs.Tokens.{token_arrival};
 ghost use Rattle.part_handlers.specs.Runs.{IsPlaced};
 ghost use Rattle.text_script.specs.Bodies.{kept_write, message_bytes, overwritten_if, payload_bytes, range_bytes};
 
@@ -12,8 +12,8 @@ use text_calls::Payload;
 
 /// The payload of the message that the token is for; of a Long the bytes at its place, of a Short none.
 pub(crate) fn message_bytes<'b, 'a: 'b>(segment: &'b Segment, token: &Token<'a>) -> &'b [u8]
-    requires { IsPlaced (length segment.now) (arrival_at token.now).place }
-    ensures { result.now ≡ message_bytes (arrival_at token.now) segment.now }
+    requires { IsPlaced (length segment.now) (token_arrival token.now).place }
+    ensures { result.now ≡ message_bytes (token_arrival token.now) segment.now }
 {
     match token.place() {
         Some((offset, len)) => segment.part(offset, len).unwrap(),
@@ -34,9 +34,9 @@ pub(crate) fn payload_bytes<'b, 'a: 'b>(
     segment: &'b Segment,
     token: &Token<'a>,
 ) -> Option<&'b [u8]>
-    requires { IsPlaced (length segment.now) (arrival_at token.now).place }
+    requires { IsPlaced (length segment.now) (token_arrival token.now).place }
     ensures { option_map (λ lent. lent.now) result
-        ≡ payload_bytes (arrival_at token.now) segment.now payload.now }
+        ≡ payload_bytes (token_arrival token.now) segment.now payload.now }
 {
     match payload {
         Payload::Bytes { bytes } => Some(bytes.items()),

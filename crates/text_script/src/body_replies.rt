@@ -2,7 +2,7 @@
 
 ghost use Rattle.std.specs.Prelude.{◌≡◌, ◌≤◌, length, map};
 ghost use Rattle.wire_message.specs.Content.{short_reply, medium_reply, long_reply};
-ghost use Rattle.part_handlers.specs.Tokens.{IsReadyToken, arrival_at, stage};
+ghost use Rattle.part_handlers.specs.Tokens.{IsReadyToken, token_arrival, stage};
 ghost use Rattle.part_handlers.specs.Runs.{IsPlaced};
 ghost use Rattle.text_script.specs.ActionResult.{AsksReply, AtReply};
 ghost use Rattle.text_script.specs.Bodies.{operand_value};
@@ -19,7 +19,7 @@ fn reply_short(handler: u8, operands: &[Operand], cells: &Cells, token: &mut Tok
     requires few { length operands.now ≤ 17 }
     requires ready { IsReadyToken token.old }
     ensures asks { AsksReply (short_reply handler
-        (map (operand_value cells.now (arrival_at token.old).args) operands.now)) token.old token.new }
+        (map (operand_value cells.now (token_arrival token.old).args) operands.now)) token.old token.new }
     ensures ready { IsReadyToken token.new }
 {
     let values = values_of(operands, cells, token.args());
@@ -37,7 +37,7 @@ fn reply_medium(
     requires few { length operands.now ≤ 17 }
     requires ready { IsReadyToken token.old }
     ensures asks { AsksReply (medium_reply handler
-        (map (operand_value cells.now (arrival_at token.old).args) operands.now) payload.now)
+        (map (operand_value cells.now (token_arrival token.old).args) operands.now) payload.now)
         token.old token.new }
     ensures ready { IsReadyToken token.new }
 {
@@ -57,7 +57,7 @@ fn reply_long(aim: Aim, payload: &[u8], operands: &[Operand], cells: &Cells, tok
     requires few { length operands.now ≤ 17 }
     requires ready { IsReadyToken token.old }
     ensures asks { AsksReply (long_reply aim.handler
-        (map (operand_value cells.now (arrival_at token.old).args) operands.now) aim.offset payload.now)
+        (map (operand_value cells.now (token_arrival token.old).args) operands.now) aim.offset payload.now)
         token.old token.new }
     ensures ready { IsReadyToken token.new }
 {
@@ -67,7 +67,7 @@ fn reply_long(aim: Aim, payload: &[u8], operands: &[Operand], cells: &Cells, tok
 
 /// Asks for a reply; does nothing at all where the range of its payload is outside the segment.
 pub(crate) fn do_reply(reply: &ReplyAction, segment: &Segment, cells: &Cells, token: &mut Token<'_>)
-    requires placed { IsPlaced (length segment.now) (arrival_at token.old).place }
+    requires placed { IsPlaced (length segment.now) (token_arrival token.old).place }
     requires ready { IsReadyToken token.old }
     ensures at { AtReply reply.now (stage segment.now cells.now token.old)
         (stage segment.now cells.now token.new) }

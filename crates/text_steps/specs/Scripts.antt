@@ -1,7 +1,7 @@
 -- The forms of steps in a script.
 use Rattle.std.specs.Prelude.{ℕ, List, [], ◌∷◌, Option, Some, Bool, true, false, not, ◌&&◌, ◌||◌, codes}
 use Rattle.std.specs.Str.{bytes_eq}
-use Rattle.base_text.specs.Lines.{Word, ◌>>=◌, ◌<|>◌, prefix}
+use Rattle.base_text.specs.Lines.{Word, ◌>>=◌, ◌<|>◌, first_word}
 use Rattle.text_calls.specs.Forms.{Value, Integer, Implicit, Collective, Shape, End, ◌▸◌, Many, Maker, Values}
 use Rattle.text_calls.specs.Forms.{Row, Entry}
 use Rattle.text_calls.specs.Forms.{row_at, table_at, entry_text, IsOf, none_at, none_text, none_fits, U64, U16, U8}
@@ -173,7 +173,7 @@ is_waiting_name scope name =
 
 -- whether bytes have the form of one
 unfoldable pub waiting_form : Scope → List ℕ → Bool
-waiting_form scope bytes = table_form (λ bytes. false) waits bytes && is_waiting_name scope (prefix bytes)
+waiting_form scope bytes = table_form (λ bytes. false) waits bytes && is_waiting_name scope (first_word bytes)
 
 -- the text of one
 abbrev pub waiting_text : WaitingStep → List ℕ

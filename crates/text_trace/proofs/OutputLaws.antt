@@ -17,7 +17,7 @@ use Rattle.base_text.specs.Reasons.{is_text}
 use Rattle.text_trace.specs.TraceText.{line_of_number, trace_text, IsTrace}
 use Rattle.base_text.specs.Chains.{◌>>=◌}
 use Rattle.text_trace.specs.TraceReading.{BadLine, read_line, setting_of, entries_at, line_at, words_of}
-use Rattle.text_trace.specs.TraceReading.{at_line, entry_or_end, with_prefix}
+use Rattle.text_trace.specs.TraceReading.{at_line, entry_or_end, behind_entries}
 use Rattle.text_trace.specs.OutputText.{status_text, output_text, IsOutput}
 use Rattle.text_trace.specs.OutputReading.{status_of, status_at, output_at}
 use Rattle.text_trace.proofs.LineLaws.{ok_is, bind_ok, at_ok, line_takes, cut_again, words_joined, read_takes}
@@ -270,7 +270,7 @@ read_shorter line f bytes x e =
 
 -- behind an entry, or the line `end`
 entry_bad : (room threads line : ℕ) (bad : BadLine) (o : Option Entry) (rest : List ℕ)
-    → cond (is_none o) (Ok ([], rest)) (with_prefix (option_to_list o) (entries_at room threads (line + 1) rest))
+    → cond (is_none o) (Ok ([], rest)) (behind_entries (option_to_list o) (entries_at room threads (line + 1) rest))
     ≡ Err bad
     → (entries_at room threads (line + 1) rest ≡ Err bad → bad.line ≤ (line + 1) + length rest)
     → bad.line ≤ (line + 1) + length rest
@@ -287,7 +287,7 @@ unfolding entries_at
 entries_bad zero threads line bytes bad low e = absurd (omega (arith, low))
 entries_bad (suc room) threads line bytes bad low e =
     elim (err_cases (read_line line (entry_or_end threads) bytes) (λ next. cond (is_none next.0) (Ok ([], next.1))
-    (with_prefix (option_to_list next.0) (entries_at room threads (line + 1) next.1))) bad e) [
+    (behind_entries (option_to_list next.0) (entries_at room threads (line + 1) next.1))) bad e) [
       | inl failed ↦
           (let here = line_of_bad line (line_at bytes >>= λ cut. entry_or_end threads (words_of cut.0) >>= λ value.
           Ok (value, cut.1)) bad failed in omega (arith, here))

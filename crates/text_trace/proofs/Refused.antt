@@ -17,7 +17,7 @@ use Rattle.text_trace.specs.TraceReading.{BadLine, decoded_bytes, entries_at, en
 use Rattle.text_trace.specs.TraceReading.{number_between, read_line, second_of, few_got, setting_of, thread_of}
 use Rattle.base_text.specs.HexBytes.{pairs_of}
 use Rattle.base_text.specs.Words.{number_of}
-use Rattle.text_trace.specs.TraceReading.{turn_of, TurnWords, with_prefix, within}
+use Rattle.text_trace.specs.TraceReading.{turn_of, TurnWords, behind_entries, within}
 use Rattle.text_trace.specs.LineRefusals.{Means, TextKind}
 use Rattle.text_trace.specs.TraceRefusals.{AtVersion, AtJob, AtRank, AtEntries, HasForm, IsNamed, MayStand, TracePlace}
 use Rattle.text_trace.specs.TraceRefusals.{place_behind}
@@ -258,7 +258,7 @@ lines_are version threads trace fits is = (
 
 -- what is left of a trace whose first entry was read
 prefix_err : (entry : Entry) (r : Result (List Entry × List ℕ) BadLine) (bad : BadLine)
-    → with_prefix (entry ∷ []) r ≡ Err bad → r ≡ Err bad
+    → behind_entries (entry ∷ []) r ≡ Err bad → r ≡ Err bad
 prefix_err entry (Ok x) bad h = absurd (cc)
 prefix_err entry (Err b) bad h = ap (λ (y : BadLine). Err y) (err_is {A = List Entry × List ℕ} h)
 
@@ -298,7 +298,7 @@ module _ {A : Type 0} (kind : TextKind A) (has : HasLines kind) (threads : ℕ) 
       (words : Line) → AllByRecursion (IsEntry threads) entries → Reached kind has (lines_to entries) bytes rest
       → line ≡ suc (length (lines_to entries)) → rest ≡ line_text words ++ more → IsNext threads words next
       → ReadOn room line entries rest more bad
-      → cond (is_none next) (Ok ([], more)) (with_prefix (option_to_list next) (entries_at room threads (line + 1) more))
+      → cond (is_none next) (Ok ([], more)) (behind_entries (option_to_list next) (entries_at room threads (line + 1) more))
       ≡ Err bad → Means kind bytes bad.line bad.why
   next_means room line entries rest more bad None words is reached count text said on e = absurd (cc)
   next_means room line entries rest more bad (Some entry) words is reached count text said on e =
@@ -323,7 +323,7 @@ module _ {A : Type 0} (kind : TextKind A) (has : HasLines kind) (threads : ℕ) 
       → line ≡ suc (length (lines_to entries)) → ((more : List ℕ) → ReadOn room line entries rest more bad)
       → (read_line line (entry_or_end threads) rest ≡ Err bad) ⊎ ((x : Option Entry × List ℕ)
       × ((read_line line (entry_or_end threads) rest ≡ Ok x) × (cond (is_none x.0) (Ok ([], x.1))
-      (with_prefix (option_to_list x.0) (entries_at room threads (line + 1) x.1)) ≡ Err bad)))
+      (behind_entries (option_to_list x.0) (entries_at room threads (line + 1) x.1)) ≡ Err bad)))
       → Means kind bytes bad.line bad.why
   line_means room line entries rest bad is reached count on (inl e) =
       fails_behind kind has (lines_to entries) bytes rest line (entry_or_end threads) bad reached count
@@ -344,7 +344,7 @@ module _ {A : Type 0} (kind : TextKind A) (has : HasLines kind) (threads : ℕ) 
       (λ more entry all shorter on next e. entries_mean room (line + 1) (entries ++ entry ∷ []) more bad
       (omega (arith, lt, shorter)) all on next e)
       (bind_err (read_line line (entry_or_end threads) rest) (λ x. cond (is_none x.0) (Ok ([], x.1))
-      (with_prefix (option_to_list x.0) (entries_at room threads (line + 1) x.1))) bad h)
+      (behind_entries (option_to_list x.0) (entries_at room threads (line + 1) x.1))) bad h)
 
 -- ---- the lines of a trace
 

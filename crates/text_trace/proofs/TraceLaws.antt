@@ -9,7 +9,7 @@ use Rattle.text_trace.specs.declared.trace.Trace.{Trace}
 use Rattle.base_text.specs.Lines.{Word}
 use Rattle.base_text.specs.LineTexts.{Line, line_text, spell, IsWord}
 use Rattle.text_trace.specs.TraceText.{entry_line, end_line, line_of_number, entry_lines, trace_text, IsEntry}
-use Rattle.text_trace.specs.TraceReading.{with_prefix, read_line, setting_of, entry_or_end, entries_at}
+use Rattle.text_trace.specs.TraceReading.{behind_entries, read_line, setting_of, entry_or_end, entries_at}
 use Rattle.text_trace.proofs.LineLaws.{ok_is, bind_ok, read_takes, read_again}
 use Rattle.text_trace.proofs.WordLaws.{IsIn, setting_takes, setting_again, IsNext, next_takes}
 use Rattle.text_trace.proofs.WordLaws.{next_again, next_end, end_is_line, entry_is_line, number_is_line}
@@ -43,7 +43,7 @@ went_on threads bytes mid e x text is k = record {
 one_more : (room threads line : ℕ) (o : Option Entry) (bytes mid : List ℕ) (x : List Entry × List ℕ) (words : Line)
     → bytes ≡ line_text words ++ mid → IsNext threads words o
     → ((y : List Entry × List ℕ) → entries_at room threads (line + 1) mid ≡ Ok y → EntriesRead threads mid y)
-    → cond (is_none o) (Ok ([], mid)) (with_prefix (option_to_list o) (entries_at room threads (line + 1) mid)) ≡ Ok x
+    → cond (is_none o) (Ok ([], mid)) (behind_entries (option_to_list o) (entries_at room threads (line + 1) mid)) ≡ Ok x
     → EntriesRead threads bytes x
 one_more room threads line None bytes mid x words text n more e =
     let made : List Entry × List ℕ = ([], mid) in
@@ -61,7 +61,7 @@ unfolding entries_at
 entries_take zero threads line bytes x e = absurd (cc)
 entries_take (suc room) threads line bytes x e =
     let a = bind_ok (read_line line (entry_or_end threads) bytes) (λ y. cond (is_none y.0) (Ok ([], y.1))
-    (with_prefix (option_to_list y.0) (entries_at room threads (line + 1) y.1))) x e in
+    (behind_entries (option_to_list y.0) (entries_at room threads (line + 1) y.1))) x e in
     let l = read_takes line (entry_or_end threads) bytes a.0 a.1 in
     one_more room threads line a.0.0 bytes a.0.1 x l.words l.text (next_takes threads l.words a.0.0 l.says)
     (λ y. entries_take room threads (line + 1) a.0.1 y) a.2

@@ -35,13 +35,13 @@ pub record Before (bytes : List ℕ) (line : ℕ) : Type 0 where
   pub text : bytes ≡ spell lines ++ rest
   pub count : line ≡ suc (length lines)
 
--- the bytes end behind the prefix of a text
+-- the bytes end behind the beginning of a text
 pub record EndsEarly {A : Type 0} (kind : TextKind A) (bytes : List ℕ) (line : ℕ) : Type 0 where
   pub before : Before bytes line
   pub prefix : IsPrefix kind (spell before.lines)
   pub none : before.rest ≡ []
 
--- the line isn't one of words, behind the prefix of a text
+-- the line isn't one of words, behind the beginning of a text
 pub record HasNoText {A : Type 0} (kind : TextKind A) (bytes : List ℕ) (line : ℕ) : Type 0 where
   pub before : Before bytes line
   pub prefix : IsPrefix kind (spell before.lines)

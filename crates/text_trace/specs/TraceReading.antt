@@ -129,13 +129,13 @@ entry_or_end threads words =
 -- ---- traces
 
 -- what was read before, and what is read on
-abbrev pub with_prefix : {A B E : Type 0} → List A → Result (List A × B) E → Result (List A × B) E
-with_prefix prefix read = read >>= λ more. Ok (prefix ++ more.0, more.1)
+abbrev pub behind_entries : {A B E : Type 0} → List A → Result (List A × B) E → Result (List A × B) E
+behind_entries prefix read = read >>= λ more. Ok (prefix ++ more.0, more.1)
 
 -- the entries from this line on up to the line `end`, and the bytes after it. The room is more than the number of lines
 unfoldable pub entries_at : (room threads line : ℕ) → List ℕ → Result (List Entry × List ℕ) BadLine
 entries_at zero threads line bytes = Err (record { line = line; why = Early })
 entries_at (suc room) threads line bytes =
     read_line line (entry_or_end threads) bytes >>= λ next.
-    if is_none next.0 then Ok ([], next.1) else with_prefix (option_to_list next.0) (entries_at room threads (line + 1)
+    if is_none next.0 then Ok ([], next.1) else behind_entries (option_to_list next.0) (entries_at room threads (line + 1)
     next.1)

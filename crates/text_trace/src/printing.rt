@@ -12,7 +12,7 @@ use base_turns::{Bytes, Entry};
 use itoa::Buffer;
 
 /// The most bytes of an entry's line before what it got: `turn`, two numbers of 20 digits, and three spaces.
-const PREFIX: usize = 47;
+const HEAD_BYTES: usize = 47;
 
 /// Writes the word of what a turn got.
 fn write_got<K: Sink>(sink: &mut BufferedSink<K>, got: &Option<Bytes>) -> Wrote
@@ -42,7 +42,7 @@ pub fn print_entry<K: Sink>(sink: &mut BufferedSink<K>, entry: &Entry) -> Wrote
     ensures { GathersAll (outbox K.taken K.faults sink.old) (outbox K.taken K.faults sink.new)
         (line_text (entry_line entry.entry.now)) result }
 {
-    if let Wrote::Fault = sink.make_room(PREFIX) {
+    if let Wrote::Fault = sink.make_room(HEAD_BYTES) {
         return Wrote::Fault;
     }
     sink.put(LineName::Turn.word());

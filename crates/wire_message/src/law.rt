@@ -25,7 +25,7 @@ pub fn written_again<'a>(parts: &Outgoing<'_>, buf: &'a mut [u8]) -> Option<View
 }
 
 /// Writes a notification as arguments and reads them again in its version: it is the same notification.
-pub fn noted_again(
+pub fn notification_again(
     notification: &BarrierNotification,
     nodes: u16,
     version: u8,

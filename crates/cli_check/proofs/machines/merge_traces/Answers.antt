@@ -10,8 +10,8 @@ use Rattle.cli_check.proofs.Merged.{Prefixes, HasNoRun, first_threads, merged_er
 use Rattle.cli_check.proofs.Rejected.{length-rejected, traces_of_job}
 use Rattle.cli_check.proofs.machines.merge_traces.Goals as goal
 
-pub rejected_traces-requires : goal.rejected_traces-requires
-rejected_traces-requires g c =
+pub accepted_traces-requires : goal.accepted_traces-requires
+accepted_traces-requires g c =
     let count = ap length c.deref.ensures.value in
     let nodes = c.requires.job.settings.nodes in
     record {
@@ -23,7 +23,7 @@ pub merge-requires : goal.merge-requires
 merge-requires g c =
     let job = c.args.job.now in
     let judged = c.deref-2.result.now in
-    let same = c.deref-2.ensures.value ∙ c.in-Ok-rejected_traces.ensures job
+    let same = c.deref-2.ensures.value ∙ c.in-Ok-accepted_traces.ensures job
     (subst (λ (all : List RecorderKept). AreFirstRecorders job all) (sym c.deref.ensures.value) c.in-Ok.ensures) in
     let as_read = ap length same ∙ length-rejected job 0 c.args.traces.items ∙ c.requires.count in
     let count = ap length c.as_mut_slice.ensures.value in
@@ -44,7 +44,7 @@ pub returns-in-Err : goal.returns-in-Err
 returns-in-Err g c =
     let job = c.args.job.now in
     let judged = c.deref-2.result.now in
-    let same = c.deref-2.ensures.value ∙ c.in-Ok-rejected_traces.ensures job
+    let same = c.deref-2.ensures.value ∙ c.in-Ok-accepted_traces.ensures job
     (subst (λ (all : List RecorderKept). AreFirstRecorders job all) (sym c.deref.ensures.value) c.in-Ok.ensures) in
     let as_read = ap length same ∙ length-rejected job 0 c.args.traces.items ∙ c.requires.count in
     let Recorders : List RecorderKept → Type 0 = λ all. Prefixes all judged c.merge.new.machines (Err c.in-Err.fault) in
@@ -58,7 +58,7 @@ pub returns-in-Ok-close_all : goal.returns-in-Ok-close_all
 returns-in-Ok-close_all g c =
     let job = c.args.job.now in
     let judged = c.deref-2.result.now in
-    let same = c.deref-2.ensures.value ∙ c.in-Ok-rejected_traces.ensures job
+    let same = c.deref-2.ensures.value ∙ c.in-Ok-accepted_traces.ensures job
     (subst (λ (all : List RecorderKept). AreFirstRecorders job all) (sym c.deref.ensures.value) c.in-Ok.ensures) in
     let as_read = ap length same ∙ length-rejected job 0 c.args.traces.items ∙ c.requires.count in
     let first = c.in-Ok.recorders in

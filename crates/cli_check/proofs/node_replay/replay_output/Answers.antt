@@ -5,7 +5,7 @@ use Rattle.base_turns.specs.declared.entry.Entry.{Entry}
 use Rattle.text_trace.specs.Sending.{Replays}
 use Rattle.cli_check.proofs.Merged.{recorders}
 use Rattle.cli_check.specs.Recording.{opening_record}
-use Rattle.cli_check.specs.Rejected.{refused_turns, rejected_entries, rejected_trace}
+use Rattle.cli_check.specs.Rejected.{refused_turns, accepted_entries, accepted_trace}
 use Rattle.cli_check.proofs.node_replay.replay_output.Goals as goal
 
 pub returns : goal.returns
@@ -14,12 +14,12 @@ returns c =
     let rank = c.args.rank in
     let output = c.args.output in
     let first = c.in_ok-recorder.ensures in
-    let rejected : c.in-Ok.trace ≡ rejected_trace job rank output.trace =
+    let rejected : c.in-Ok.trace ≡ accepted_trace job rank output.trace =
     c.in-Ok.ensures job rank (c.endpoint-3.ensures job rank first) in
-    let entries : c.as_slice-3.result.now ≡ rejected_entries job rank output.trace.entries =
+    let entries : c.as_slice-3.result.now ≡ accepted_entries job rank output.trace.entries =
     c.as_slice-3.ensures ∙ ap (λ (trace : Trace). trace.entries) rejected in
     let replays : Replays recorders c.in_ok-recorder.recorder c.replay.new.machine
-    (rejected_entries job rank output.trace.entries) c.in-Ok-replay.replayed =
+    (accepted_entries job rank output.trace.entries) c.in-Ok-replay.replayed =
     subst (λ (all : List Entry). Replays recorders c.in_ok-recorder.recorder c.replay.new.machine all
     c.in-Ok-replay.replayed) entries c.in-Ok-replay.ensures in
     record {

@@ -1,6 +1,6 @@
 -- The nodes that the merge leaves, or why there are none.
 use Rattle.std.proofs.Common.{refl, sym, ◌∙◌, arith, inl}
-use Rattle.cli_check.specs.Rejected.{rejected_traces}
+use Rattle.cli_check.specs.Rejected.{accepted_traces}
 use Rattle.cli_check.proofs.Ends.{nodes_ranked}
 use Rattle.cli_check.proofs.Rejected.{length-rejected}
 use Rattle.cli_check.proofs.run.run_traces.Goals as goal
@@ -11,7 +11,7 @@ merge_traces-requires g c = record { job = c.requires.job; count = c.requires.co
 pub tell_run-requires : goal.tell_run-requires
 tell_run-requires g c =
     let merged = c.in-Ok.ensures in
-    let judged = rejected_traces c.args.job.now c.args.traces.items in
+    let judged = accepted_traces c.args.job.now c.args.traces.items in
     record {
       few = omega (
         arith,

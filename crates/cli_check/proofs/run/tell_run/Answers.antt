@@ -6,7 +6,7 @@ use Rattle.base_io.specs.declared.writing.Wrote.TheVariants as wrote
 use Rattle.sim_run.proofs.LinesWritten.{both_said}
 use Rattle.cli_check.specs.Merging.{AreReports, texts_of}
 use Rattle.cli_check.specs.StepLines.{ends_from, steps_from}
-use Rattle.cli_check.specs.Rejected.{rejected_traces}
+use Rattle.cli_check.specs.Rejected.{accepted_traces}
 use Rattle.cli_check.specs.TracesRun.{AreNodesAfter, AreRanked}
 use Rattle.cli_check.specs.declared.recorder.NodeReport.{NodeReport}
 use Rattle.cli_check.proofs.Ends.{texts_same}
@@ -26,7 +26,7 @@ write_ends-requires g c =
 
 pub returns-in-Fault : goal.returns-in-Fault
 returns-in-Fault g c = λ job traces merged.
-    let judged = rejected_traces job traces in
+    let judged = accepted_traces job traces in
     let texts = ap texts_of c.deref.ensures.value ∙ texts_same job judged c.args.report.reports.items merged.reports in
     record {
       run = merged.run;
@@ -38,7 +38,7 @@ returns-in-Fault g c = λ job traces merged.
 
 pub returns-in-Done : goal.returns-in-Done
 returns-in-Done g c = λ job traces merged.
-    let judged = rejected_traces job traces in
+    let judged = accepted_traces job traces in
     let texts = ap texts_of c.deref.ensures.value ∙ texts_same job judged c.args.report.reports.items merged.reports in
     let Nodes : List EndpointState → Type 0 = λ nodes. AreNodesAfter job judged nodes in
     let Reports : List NodeReport → Type 0 = λ reports. AreReports job judged reports in
@@ -60,7 +60,7 @@ returns-in-Done g c = λ job traces merged.
 
 pub returns-in-Fault-write_ends : goal.returns-in-Fault-write_ends
 returns-in-Fault-write_ends g c = λ job traces merged.
-    let judged = rejected_traces job traces in
+    let judged = accepted_traces job traces in
     let texts = ap texts_of c.deref.ensures.value ∙ texts_same job judged c.args.report.reports.items merged.reports in
     let Nodes : List EndpointState → Type 0 = λ nodes. AreNodesAfter job judged nodes in
     let Reports : List NodeReport → Type 0 = λ reports. AreReports job judged reports in

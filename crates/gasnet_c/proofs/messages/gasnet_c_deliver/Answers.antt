@@ -8,5 +8,5 @@ returns-then-not-handle-clause-tells c =
 
 pub returns-clause-tells : goal.returns-clause-tells
 returns-clause-tells c =
-    asked_tells c.args.reply.now c.args.handle.now.slot.held c.put.new.handle.slot.held c.deref_mut.result.now
+    asked_tells c.args.reply.now c.args.handle.now.place.held c.put.new.handle.place.held c.deref_mut.result.now
     c.deliver-told.new.self c.args.now _ c.deliver-told.result _ (search rules) (search rules) c.deliver-told.ensures

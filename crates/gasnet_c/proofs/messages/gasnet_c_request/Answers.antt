@@ -12,9 +12,9 @@ returns-then-not-handle-clause-tells c = λ apart meaning.
 
 pub returns-clause-tells : goal.returns-clause-tells
 returns-clause-tells c = λ apart meaning.
-    let held = c.args.handle.now.slot.held in
+    let held = c.args.handle.now.place.held in
     let same = c.asked_call-call.ensures.call in
     subst (λ (call : Call). Tells meaning held c.args.now (event.Call 0 call) c.stepped.result c.stepped.new.buffer
-    c.stepped.new.handle.slot.held) same
+    c.stepped.new.handle.place.held) same
     (c.stepped.ensures.quiet (subst (λ (call : Call). RunsNoneIn held (event.Call 0 call)) (sym same)
     (asks_another_in held c.args.ask.now apart)) meaning)

@@ -8,7 +8,7 @@ returns-then-not-handle-clause-tells c =
 
 pub returns-clause-tells : goal.returns-clause-tells
 returns-clause-tells c =
-    own_in c.args.handle.now.slot.held c.put.new.handle.slot.held c.deref_mut.result.now c.happen-told.new.self
+    own_in c.args.handle.now.place.held c.put.new.handle.place.held c.deref_mut.result.now c.happen-told.new.self
     c.args.now _ c.happen-told.result (search rules) (search rules)
     (own_of c.deref_mut.result.now c.happen-told.new.self c.args.now c.asked_call-call.result _ c.args.run.now
     c.args.reply_left c.happen-told.result c.happen-told.new.buffer

@@ -5,5 +5,5 @@ use Rattle.gasnet_c.proofs.retransmission.gasnet_c_next_due.Goals as goal
 
 pub returns-clause-tells : goal.returns-clause-tells
 returns-clause-tells c =
-    let held : c.args.handle.now.slot.held ≡ Some c.deref.result.now = search rules in
+    let held : c.args.handle.now.place.held ≡ Some c.deref.result.now = search rules in
     subst (λ (node : Option EndpointState). TellsNextDue node c.next_due-time.result) (sym held) c.next_due-time.ensures

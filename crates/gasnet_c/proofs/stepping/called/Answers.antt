@@ -10,6 +10,6 @@ returns-then-not-handle-clause-tells c = λ meaning.
 
 pub returns-clause-tells : goal.returns-clause-tells
 returns-clause-tells c = λ meaning.
-    subst (λ (buffer : List ℕ). Tells meaning c.args.handle.now.slot.held c.args.now (event.Call 0 c.args.call)
-    c.stepped.result buffer c.stepped.new.handle.slot.held) (empty_is c.stepped.new.buffer (omega arith))
-    (c.stepped.ensures.quiet (asks_none_in c.args.handle.now.slot.held c.args.call c.requires.asks_none) meaning)
+    subst (λ (buffer : List ℕ). Tells meaning c.args.handle.now.place.held c.args.now (event.Call 0 c.args.call)
+    c.stepped.result buffer c.stepped.new.handle.place.held) (empty_is c.stepped.new.buffer (omega arith))
+    (c.stepped.ensures.quiet (asks_none_in c.args.handle.now.place.held c.args.call c.requires.asks_none) meaning)

@@ -6,4 +6,4 @@ returns-then-not-handle-clause-tells c = λ meaning.
     dead_tells meaning _ _ _ _ _ (dead_is_none _ _ c.requires c.if-not-handle.true) c.dead.ensures
 
 pub returns-clause-tells : goal.returns-clause-tells
-returns-clause-tells c = λ meaning. c.stepped.ensures.quiet (tick_runs_none c.args.handle.now.slot.held) meaning
+returns-clause-tells c = λ meaning. c.stepped.ensures.quiet (tick_runs_none c.args.handle.now.place.held) meaning

@@ -1,6 +1,6 @@
 use Rattle.std.proofs.Common.{◌≡◌, ◌∙◌, ℕ, ℤ, List, Some, Option, None, length, ap, sym, subst, false, refl}
 use Rattle.std.specs.Prelude.{is_some}
-use Rattle.part_handlers.specs.Tokens.{At, arrival_at, stage}
+use Rattle.part_handlers.specs.Tokens.{At, token_arrival, stage}
 use Rattle.part_handlers.specs.Runs.{Outcome}
 use Rattle.node_atomics.specs.declared.word.WordOp.{WordOp}
 use Rattle.node_atomics.specs.BatchRequests.{BatchRequest, number_of_halves, ops_said, place_fault}
@@ -18,7 +18,7 @@ returns-clause-at c cells opening outcome at =
     let token = c.args.token.now in
     let segment = c.args.segment.now in
     let same : c.deref.result.now ≡ ops = c.deref.ensures.0 ∙ sym c.deref-2.ensures.0 in
-    let says : Says (length segment) (arrival_at token).args (arrival_at token).payload request = record {
+    let says : Says (length segment) (token_arrival token).args (token_arrival token).payload request = record {
       four = ap length (sym c.args-2.ensures) ∙ c.if-args-ne4.false;
       local = c.number_at-local.ensures ∙ ap (λ (args : List ℤ). number_of_halves args 0) c.args-3.ensures;
       tag = c.number_at-tag.ensures ∙ ap (λ (args : List ℤ). number_of_halves args 2) c.args-4.ensures;
@@ -31,5 +31,5 @@ returns-clause-at c cells opening outcome at =
     } in
     subst (λ (done : Outcome). At opening done (stage c.do_batch.new.segment cells c.do_batch.new.token))
     (after_request_is opening outcome segment cells token request at
-    (request_said_so (length segment) (arrival_at token).args (arrival_at token).payload request says))
+    (request_said_so (length segment) (token_arrival token).args (token_arrival token).payload request says))
     (c.do_batch.ensures.at cells opening outcome at)

@@ -2,7 +2,7 @@
 use Rattle.std.proofs.Common.{◌≡◌, ℕ, ℤ, ◌%◌, true, List, length, Some, sym, ap, ap₂, ◌∙◌}
 use Rattle.std.specs.Prelude.{◌==◌, ◌&&◌, nat_le}
 use Rattle.part_segment.specs.Image.{written_by}
-use Rattle.part_handlers.specs.Tokens.{arrival_at}
+use Rattle.part_handlers.specs.Tokens.{token_arrival}
 use Rattle.part_collective_area.specs.Served.{header_at, number_at}
 use Rattle.part_collective_area.proofs.Stamping.{header_told, stamped_at}
 use Rattle.part_collective_area.proofs.serving.serve.Goals as goal
@@ -11,9 +11,9 @@ pub returns-clause-served : goal.returns-clause-served
 returns-clause-served c = λ cells opening outcome at.
     let token = c.args.token.now in
     let segment = c.args.segment.now in
-    let args : List ℤ = (arrival_at token).args in
+    let args : List ℤ = (token_arrival token).args in
     let offset = c.in-Some.offset in
-    let place : (arrival_at token).place ≡ Some (offset, c.in-Some.field-0-1) =
+    let place : (token_arrival token).place ≡ Some (offset, c.in-Some.field-0-1) =
     sym c.place.ensures ∙ c.in-Some.is in
     let good : ((length args == 4) && (nat_le 16 offset && ((offset % 8 == 0) && nat_le offset (length segment))))
     ≡ true =
@@ -29,5 +29,5 @@ returns-clause-served c = λ cells opening outcome at.
     (c.write_header.ensures.written
     ∙ (ap₂ (λ (one word : ℕ). written_by segment (header_at offset one word)) stamp shape
     ∙ ap (written_by segment)
-    (sym (header_told (length segment) args (arrival_at token).place offset c.in-Some.field-0-1 place good))))
+    (sym (header_told (length segment) args (token_arrival token).place offset c.in-Some.field-0-1 place good))))
     c.write_header.ensures.same_length

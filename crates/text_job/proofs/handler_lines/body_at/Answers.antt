@@ -1,7 +1,7 @@
 use Rattle.std.proofs.Common.{◌∙◌, ◌+◌, refl, sym, ap, subst, arith, length, length-append, List, Result}
 use Rattle.std.proofs.lemmas.Bool.{le-leb, lt-leb}
 use Rattle.text_job.specs.Places.{AtHandlers, AtBody}
-use Rattle.text_job.specs.JobReading.{BadLine, Prefix, read, with_action, with_body, with_handler}
+use Rattle.text_job.specs.JobReading.{BadLine, LeadingJob, read, with_action, with_body, with_handler}
 use Rattle.text_job.specs.Reading.{FailsAt}
 use Rattle.base_text.specs.declared.why.LineWhy.TheVariants.{Count}
 use Rattle.text_steps.specs.declared.steps.Action.{Action}
@@ -11,7 +11,7 @@ use Rattle.text_job.proofs.handler_lines.body_at.Goals as goal
 
 pub returns-in-Err-clause-value : goal.returns-in-Err-clause-value
 returns-in-Err-clause-value c = λ plain job.
-    subst (λ (r : Result Prefix BadLine). FailsAt c.in-Err.fault r) (c.loop-read.invariant.so_far plain job)
+    subst (λ (r : Result LeadingJob BadLine). FailsAt c.in-Err.fault r) (c.loop-read.invariant.so_far plain job)
     (line_fails (AtBody (with_body c.loop-read.actions.items plain)) tt job c.loop-read.line c.loop-read.rest.now
     c.in-Err.fault c.in-Err.ensures)
 

@@ -1,6 +1,6 @@
 use Rattle.std.proofs.Common.{◌∙◌, ◌<◌, ◌∷◌, [], ◌++◌, sym, ap, subst, arith, length, length-append, List, Result}
 use Rattle.text_job.specs.Places.{AtHandlers}
-use Rattle.text_job.specs.JobReading.{BadLine, Prefix, new_handler, read}
+use Rattle.text_job.specs.JobReading.{BadLine, LeadingJob, new_handler, read}
 use Rattle.text_job.specs.Reading.{FailsAt}
 use Rattle.text_job.specs.declared.job.HandlerText.{HandlerText}
 use Rattle.text_job.specs.declared.job.Job.{Job}
@@ -9,7 +9,7 @@ use Rattle.text_job.proofs.handler_lines.handlers_at.Goals as goal
 
 pub returns-in-Err-clause-value : goal.returns-in-Err-clause-value
 returns-in-Err-clause-value c = λ plain flag.
-    subst (λ (r : Result Prefix BadLine). FailsAt c.in-Err.fault r) (c.loop-alloc.invariant.so_far plain flag)
+    subst (λ (r : Result LeadingJob BadLine). FailsAt c.in-Err.fault r) (c.loop-alloc.invariant.so_far plain flag)
     (c.in-Err.ensures.value (record plain { handlers = c.loop-alloc.texts.items }) flag (sym c.deref.ensures.value))
 
 pub returns-in-Err-body_at-clause-value : goal.returns-in-Err-body_at-clause-value
@@ -17,7 +17,7 @@ returns-in-Err-body_at-clause-value c = λ plain flag.
     let job : Job = record plain { handlers = c.loop-alloc.texts.items } in
     let same = sym (c.loop-alloc.invariant.so_far plain flag)
     ∙ c.in-Ok.ensures.value job flag (sym c.deref.ensures.value) in
-    subst (λ (r : Result Prefix BadLine). FailsAt c.in-Err-body_at.fault r) (sym same)
+    subst (λ (r : Result LeadingJob BadLine). FailsAt c.in-Err-body_at.fault r) (sym same)
     (c.in-Err-body_at.ensures.value (new_handler c.in-Ok.read.0) job)
 
 pub loop-alloc-preserved : goal.loop-alloc-preserved

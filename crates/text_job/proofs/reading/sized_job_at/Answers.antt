@@ -1,5 +1,5 @@
 use Rattle.std.proofs.Common.{◌∙◌, ℕ, sym, ap, subst, arith, length, Result}
-use Rattle.text_job.specs.JobReading.{BadLine, prefix_with, of_prefix, read, within_size, start}
+use Rattle.text_job.specs.JobReading.{BadLine, leading_job, of_prefix, read, within_size, start}
 use Rattle.text_job.specs.Reading.{FailsAt}
 use Rattle.text_job.specs.declared.job.Job.{Job}
 use Rattle.text_job.proofs.JobRuns.{prefix_fails, prefix_reads, is_sized, not_sized}
@@ -8,7 +8,7 @@ use Rattle.text_job.proofs.reading.sized_job_at.Goals as goal
 
 pub overflow_sub-size : goal.overflow_sub-size
 overflow_sub-size c =
-    let size = rest_size c.args.bytes.now (prefix_with c.in-Ok.read.0 c.in-Ok.read.1 c.in-Ok.read.2.now) c.in-Ok.ensures
+    let size = rest_size c.args.bytes.now (leading_job c.in-Ok.read.0 c.in-Ok.read.1 c.in-Ok.read.2.now) c.in-Ok.ensures
     in
     omega (arith, size)
 

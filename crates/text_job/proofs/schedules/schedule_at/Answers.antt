@@ -1,7 +1,7 @@
 use Rattle.std.proofs.Common.{◌∙◌, ◌≡◌, ◌≤◌, ◌+◌, refl, sym, ap, subst, arith, length-append, List, Some, Result}
 use Rattle.std.proofs.Common.{true, false}
 use Rattle.text_job.specs.Places.{AtSchedule, AtDone}
-use Rattle.text_job.specs.JobReading.{BadLine, Prefix, amounts_of, is_full, with_line, read}
+use Rattle.text_job.specs.JobReading.{BadLine, LeadingJob, amounts_of, is_full, with_line, read}
 use Rattle.text_job.specs.PlanPieces.{scripts_pieces}
 use Rattle.text_job.specs.Reading.{FailsAt}
 use Rattle.base_text.specs.declared.why.LineWhy.TheVariants.{Count}
@@ -15,7 +15,7 @@ use Rattle.text_job.proofs.schedules.schedule_at.Goals as goal
 
 pub returns-in-Err-clause-value : goal.returns-in-Err-clause-value
 returns-in-Err-clause-value c = λ plain same before.
-    subst (λ (r : Result Prefix BadLine). FailsAt c.in-Err.fault r)
+    subst (λ (r : Result LeadingJob BadLine). FailsAt c.in-Err.fault r)
     (c.loop-read.invariant.lines_so_far plain same before)
     (line_fails AtSchedule tt (record plain { schedule = Some c.loop-read.lines.items }) c.loop-read.line
     c.loop-read.rest.now c.in-Err.fault (rw same c.in-Err.ensures))

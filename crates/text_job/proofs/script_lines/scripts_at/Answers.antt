@@ -1,7 +1,7 @@
 use Rattle.std.proofs.Common.{◌≡◌, ◌∙◌, ◌+◌, ◌∷◌, [], ◌++◌, sym, ap, subst, arith, length-append, List, Result}
 use Rattle.std.proofs.Common.{Bool, true}
 use Rattle.text_job.specs.Places.{AtScripts, section_fits}
-use Rattle.text_job.specs.JobReading.{BadLine, Prefix, begun_script, behind_scripts, behind_section}
+use Rattle.text_job.specs.JobReading.{BadLine, LeadingJob, begun_script, behind_scripts, behind_section}
 use Rattle.text_job.specs.JobReading.{section_why}
 use Rattle.text_job.specs.JobReading.{with_steps, read}
 use Rattle.text_job.specs.Reading.{FailsAt}
@@ -17,7 +17,7 @@ use Rattle.text_job.proofs.script_lines.scripts_at.Goals as goal
 
 pub returns-in-Err-clause-value : goal.returns-in-Err-clause-value
 returns-in-Err-clause-value c = λ plain same.
-    subst (λ (r : Result Prefix BadLine). FailsAt c.in-Err.fault r) (c.loop-read.invariant.so_far plain same)
+    subst (λ (r : Result LeadingJob BadLine). FailsAt c.in-Err.fault r) (c.loop-read.invariant.so_far plain same)
     (c.in-Err.ensures.value (record plain { scripts = c.loop-read.scripts.items }) (ap (λ (s : Scope). s.settings) same) (sym c.deref.ensures.value))
 
 pub returns-in_default-clause-value : goal.returns-in_default-clause-value
@@ -34,7 +34,7 @@ returns-in-Err-steps_at-clause-value c = λ plain same.
     let begun = sym (c.loop-read.invariant.so_far plain same)
     ∙ c.in-Ok.ensures.value job (ap (λ (s : Scope). s.settings) same) (sym c.deref.ensures.value)
     ∙ ap (λ (s : Section). read (behind_section job s) (c.loop-read.line + 1) c.in-Ok.read.1.now) c.in-Script.is in
-    subst (λ (r : Result Prefix BadLine). FailsAt c.in-Err-steps_at.fault r) (sym begun)
+    subst (λ (r : Result LeadingJob BadLine). FailsAt c.in-Err-steps_at.fault r) (sym begun)
     (c.in-Err-steps_at.ensures.value (begun_script c.in-Script.node c.in-Script.thread) job same
     (sym c.loop-read.invariant.pieces))
 

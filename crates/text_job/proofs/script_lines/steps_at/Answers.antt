@@ -1,7 +1,7 @@
 use Rattle.std.proofs.Common.{◌∙◌, ◌≡◌, ◌+◌, refl, sym, ap, subst, arith, length, length-append, List, Result}
 use Rattle.std.proofs.Common.{true, false}
 use Rattle.text_job.specs.Places.{AtScripts, AtSteps}
-use Rattle.text_job.specs.JobReading.{BadLine, Prefix, is_full_script, read, with_script, with_step}
+use Rattle.text_job.specs.JobReading.{BadLine, LeadingJob, is_full_script, read, with_script, with_step}
 use Rattle.text_job.specs.JobReading.{with_steps}
 use Rattle.text_job.specs.PlanPieces.{scripts_pieces}
 use Rattle.text_job.specs.StepPieces.{steps_pieces}
@@ -16,7 +16,7 @@ use Rattle.text_job.proofs.script_lines.steps_at.Goals as goal
 
 pub returns-in-Err-clause-value : goal.returns-in-Err-clause-value
 returns-in-Err-clause-value c = λ plain job same before.
-    subst (λ (r : Result Prefix BadLine). FailsAt c.in-Err.fault r)
+    subst (λ (r : Result LeadingJob BadLine). FailsAt c.in-Err.fault r)
     (c.loop-read.invariant.so_far plain job same before)
     (line_fails (AtSteps (with_steps c.loop-read.steps.items plain)) tt job c.loop-read.line c.loop-read.rest.now
     c.in-Err.fault (rw same c.in-Err.ensures))

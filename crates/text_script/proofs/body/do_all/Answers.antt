@@ -2,7 +2,7 @@
 use Rattle.std.proofs.Common.{◌≡◌, ◌∙◌, ap, refl, sym, subst, length, take, ◌+◌, ◌<◌, ℕ, List, get_or}
 use Rattle.std.proofs.lemmas.List.Sums.{fold_more}
 use Rattle.part_handlers.specs.declared.token.Token.{Token}
-use Rattle.part_handlers.specs.Tokens.{At, Stage, arrival_at, frame_of, stage, start_of}
+use Rattle.part_handlers.specs.Tokens.{At, Stage, token_arrival, frame_of, stage, start_of}
 use Rattle.part_handlers.specs.Runs.{Frame, IsPlaced, Outcome, Start, nothing_done}
 use Rattle.part_handlers.proofs.Laws.{leaving-untouched}
 use Rattle.text_steps.specs.declared.steps.Action.{Action}
@@ -21,11 +21,11 @@ acts_more opening now frame start i actions action outcome low is at =
 
 -- the place of a Long's payload stays inside the segment
 placed_at : (opening now : Stage) (outcome : Outcome) → At opening outcome now
-    → IsPlaced (length opening.segment) (arrival_at opening.token).place
-    → IsPlaced (length now.segment) (arrival_at now.token).place
+    → IsPlaced (length opening.segment) (token_arrival opening.token).place
+    → IsPlaced (length now.segment) (token_arrival now.token).place
 placed_at opening now outcome at placed =
-    subst (λ (token : Token). IsPlaced (length now.segment) (arrival_at token).place) (sym at.token_is)
-    (subst (λ (len : ℕ). IsPlaced len (arrival_at opening.token).place) (sym at.same_length) placed)
+    subst (λ (token : Token). IsPlaced (length now.segment) (token_arrival token).place) (sym at.token_is)
+    (subst (λ (len : ℕ). IsPlaced len (token_arrival opening.token).place) (sym at.same_length) placed)
 
 pub loop-action-init : goal.loop-action-init
 loop-action-init c =

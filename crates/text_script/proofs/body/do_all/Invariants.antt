@@ -1,5 +1,5 @@
 use Rattle.std.proofs.Common.{length, take}
-use Rattle.part_handlers.specs.Tokens.{At, IsReadyToken, arrival_at, frame_of, stage, start_of}
+use Rattle.part_handlers.specs.Tokens.{At, IsReadyToken, token_arrival, frame_of, stage, start_of}
 use Rattle.part_handlers.specs.Runs.{IsPlaced, nothing_done}
 use Rattle.text_script.specs.Bodies.{acts}
 use Rattle.text_script.proofs.body.do_all.Given as goal
@@ -12,6 +12,6 @@ invariant-loop-action l = record {
       (acts (frame_of l.initial.token) (start_of opening) (nothing_done (start_of opening))
       (take l.action-index l.actions))
       (stage l.segment l.cells l.token));
-  placed : IsPlaced (length l.segment) (arrival_at l.token).place;
+  placed : IsPlaced (length l.segment) (token_arrival l.token).place;
   ready : IsReadyToken l.token;
 }

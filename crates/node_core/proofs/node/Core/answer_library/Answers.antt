@@ -3,7 +3,7 @@ use Rattle.node_core.proofs.node.Core.answer_library.Goals as goal
 
 pub invariant_of-self : goal.invariant_of-self
 invariant_of-self c = (
-  rw c.commit_reply.ensures.kept (sized_reply _ _ _ _ _ _ _ _ c.self.invariant.0),
+  rw c.keep_reply.ensures.kept (sized_reply _ _ _ _ _ _ _ _ c.self.invariant.0),
   c.self.invariant.1,
   c.self.invariant.2,
   c.self.invariant.3,
@@ -11,7 +11,7 @@ invariant_of-self c = (
 
 pub invariant_of-self-2 : goal.invariant_of-self-2
 invariant_of-self-2 c = (
-  rw c.commit_reply-2.ensures.kept (sized_reply _ _ _ _ _ _ _ _ c.self.invariant.0),
+  rw c.keep_reply-2.ensures.kept (sized_reply _ _ _ _ _ _ _ _ c.self.invariant.0),
   c.self.invariant.1,
   c.self.invariant.2,
   c.self.invariant.3,

@@ -13,13 +13,13 @@ use Rattle.node_endpoint.proofs.Barriers.{among_here, among_undue, among_unasked
 use Rattle.node_endpoint.proofs.extended.Extended.next_notification.Goals as goal
 use Rattle.node_endpoint.proofs.extended.Extended.next_notification.Goals.{in_default, in-Some+else-can_ask}
 
-pub returns-then-is_quiet-clause-next : goal.returns-then-is_quiet-clause-next
-returns-then-is_quiet-clause-next c meaning node S =
+pub returns-then-has_notified_nothing-clause-next : goal.returns-then-has_notified_nothing-clause-next
+returns-then-has_notified_nothing-clause-next c meaning node S =
     let core = c.args.core.now in
     rw (lt-ltb core.me core.settings.nodes c.requires.me_in)
     (sym (among_quiet (notification_to core.settings.nodes core.me node.local.barrier)
     (can_ask (site_of (job_here meaning (endpoint_of core c.args.self.now)) core.me) node) 0 core.settings.nodes
-    (c.is_quiet.ensures.none c.if-is_quiet.true core.settings.nodes core.me node.local.barrier S.barrier)))
+    (c.has_notified_nothing.ensures.none c.if-has_notified_nothing.true core.settings.nodes core.me node.local.barrier S.barrier)))
 
 pub returns-then-can_ask-clause-next : goal.returns-then-can_ask-clause-next
 returns-then-can_ask-clause-next c meaning node S =

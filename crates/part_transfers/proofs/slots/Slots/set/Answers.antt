@@ -1,11 +1,11 @@
 use Rattle.std.proofs.Common.{◌≡◌, ◌<◌, ◌+◌, ◌*◌, set, sym, ap₂, subst, length}
-use Rattle.part_transfers.specs.SlotsState.{SlotsState, HasSet}
+use Rattle.part_transfers.specs.ChunkSlots.{ChunkSlots, HasSet}
 use Rattle.part_transfers.proofs.Entries.{has_set}
 use Rattle.part_transfers.proofs.slots.Slots.set.Goals as goal
 
 pub returns : goal.returns
 returns c =
-    let inside : SlotsState = record {
+    let inside : ChunkSlots = record {
       nodes = c.self.inside.nodes;
       credits = c.self.inside.credits;
       entries = c.self.inside.entries.items;
@@ -22,5 +22,5 @@ returns c =
     (has_set inside c.args.to c.args.slot c.args.entry entries
     (subst (λ n. n < length entries) place c.reach.ensures.inside)
     c.reach.ensures.same
-    (subst (λ (v : SlotsState). c.args.to < v.nodes) (sym is) c.requires.to_in)
-    (subst (λ (v : SlotsState). c.args.slot < v.credits) (sym is) c.requires.slot_in)))
+    (subst (λ (v : ChunkSlots). c.args.to < v.nodes) (sym is) c.requires.to_in)
+    (subst (λ (v : ChunkSlots). c.args.slot < v.credits) (sym is) c.requires.slot_in)))

@@ -4,7 +4,7 @@ use Rattle.part_transfers.specs.declared.table.OperationRecord.{OperationRecord}
 use Rattle.part_transfers.specs.declared.operation.Next.{Next}
 use Rattle.part_transfers.specs.Operation.{Operation, target, with_sent, issue}
 use Rattle.base_lists.specs.Numbered.{element_at, change}
-use Rattle.part_transfers.specs.SlotsState.{HasSet}
+use Rattle.part_transfers.specs.ChunkSlots.{HasSet}
 use Rattle.part_transfers.specs.Stands.{Stands}
 use Rattle.part_transfers.proofs.Issued.{next_is_first}
 use Rattle.part_transfers.proofs.Changed.{stands_noted}

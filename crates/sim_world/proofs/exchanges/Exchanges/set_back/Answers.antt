@@ -1,5 +1,5 @@
 use Rattle.std.proofs.Common.{◌-◌, refl, ap, arith}
-use Rattle.sim_world.specs.Exchanges.{prefix_back, with_credit_back}
+use Rattle.sim_world.specs.Exchanges.{leading_back, with_credit_back}
 use Rattle.sim_world.proofs.Prefixes.{prefix_grows, written_is}
 use Rattle.sim_world.proofs.exchanges.Exchanges.set_back.Goals as goal
 
@@ -10,7 +10,7 @@ first_out_from-self-inside-requires-clause-last c =
       c.self.invariant,
       prefix_grows c.self.inside.list.items (c.args.number - 1)
           (with_credit_back c.index_mut.result.now) refl,
-      ap prefix_back c.deref.ensures.value,
+      ap leading_back c.deref.ensures.value,
     )
 
 pub returns : goal.returns
