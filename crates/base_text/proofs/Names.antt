@@ -6,7 +6,7 @@ use Rattle.std.proofs.lemmas.Bool.Decides.{eqb_tells}
 use Rattle.std.specs.Str.{bytes_eq}
 use Rattle.std.proofs.lemmas.Slice.Eq.{bytes_eq-Decides}
 use Rattle.std.proofs.Math.Seq.{drop-append_seam}
-use Rattle.base_text.specs.Lines.{is_stop, first_word, after_word}
+use Rattle.base_text.specs.Lines.{is_stop, first_word, behind_word}
 use Rattle.base_text.specs.Words.{GoesWith, IsSame}
 use Rattle.base_text.proofs.Prefixes.{Runs, StopsAt, parted, prefix_len}
 use Rattle.base_text.proofs.Decimals.{upto}
@@ -129,15 +129,15 @@ name_other bytes name count few other = unequal (first_word bytes) name (λ same
 
 -- the bytes behind the first word
 pub behind_first : (bytes name : List ℕ) → bytes_eq (first_word bytes) name ≡ true → (length name ≤ length bytes)
-    × (drop (length name) bytes ≡ after_word bytes)
+    × (drop (length name) bytes ≡ behind_word bytes)
 behind_first bytes name test =
     let same : first_word bytes ≡ name = (bytes_eq-Decides (first_word bytes) name).0 test in
     let equal : length (first_word bytes) ≡ length name = ap length same in
-    let long : length (first_word bytes ++ after_word bytes) ≡ length (first_word bytes) + length (after_word bytes) = length-append _ _ in
-    let split : length bytes ≡ length (first_word bytes ++ after_word bytes) = ap length (whole bytes) in (
+    let long : length (first_word bytes ++ behind_word bytes) ≡ length (first_word bytes) + length (behind_word bytes) = length-append _ _ in
+    let split : length bytes ≡ length (first_word bytes ++ behind_word bytes) = ap length (whole bytes) in (
       omega (arith, long, split, equal),
       ap (λ (count : ℕ). drop count bytes) (sym equal) ∙ ap (drop (length (first_word bytes))) (whole bytes)
-          ∙ drop-append_seam (first_word bytes) (after_word bytes),
+          ∙ drop-append_seam (first_word bytes) (behind_word bytes),
     )
 
 -- whether it is the word, by whether it goes on

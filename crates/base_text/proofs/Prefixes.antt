@@ -2,7 +2,7 @@
 use Rattle.std.proofs.Common.{◌≡◌, ℕ, zero, suc, ◌<◌, ◌≤◌, List, [], ◌∷◌, length, take, drop, get_or, Bool, true}
 use Rattle.std.proofs.Common.{false, cond, ◌||◌, map, refl, ap, ◌∙◌, arith}
 use Rattle.std.specs.List.{list_any}
-use Rattle.base_text.specs.Lines.{is_stop, first_word, after_word}
+use Rattle.base_text.specs.Lines.{is_stop, first_word, behind_word}
 
 -- a test that passes
 pub cond_yes : {A : Type 0} (b : Bool) (x y : A) → b ≡ true → cond b x y ≡ x
@@ -34,7 +34,7 @@ stops_from bs i b e f lt = by_test (is_stop (get_or bs i 0)) (λ s. let t = f (l
 
 -- the prefix and the back of bytes
 abbrev pub AreParted : List ℕ → ℕ → Type 0
-AreParted bs i = (first_word bs ≡ take i bs) × (after_word bs ≡ drop i bs)
+AreParted bs i = (first_word bs ≡ take i bs) × (behind_word bs ≡ drop i bs)
 
 -- where a word ends, the bytes are parted
 pub parted : (bs : List ℕ) (i : ℕ) → i ≤ length bs → Runs bs i → StopsAt bs i → AreParted bs i

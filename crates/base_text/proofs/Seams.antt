@@ -1,7 +1,7 @@
 -- Where words end.
 use Rattle.std.proofs.Common.{◌≡◌, ℕ, List, [], ◌∷◌, ◌++◌, Bool, true, false, cond, refl, ap, ◌∙◌}
 use Rattle.std.proofs.lemmas.Bool.{eqb-true}
-use Rattle.base_text.specs.Lines.{is_stop, first_word, after_word, after_space, after_newline}
+use Rattle.base_text.specs.Lines.{is_stop, first_word, behind_word, after_space, after_newline}
 use Rattle.base_text.proofs.Prefixes.{cond_yes, cond_no}
 use Rattle.base_text.proofs.Takes.{Takes, takes_some, takes_none, takes_if}
 use Rattle.base_text.proofs.WordRuns.{IsRun}
@@ -12,12 +12,12 @@ is_end [] = true
 is_end (b ∷ bs) = is_stop b
 
 -- the prefix and the back are the whole
-pub whole_by : (t : Bool) (b : ℕ) (bs : List ℕ) → bs ≡ first_word bs ++ after_word bs → ◌≡◌ {A = List ℕ} (b ∷ bs)
-    (cond t [] (b ∷ first_word bs) ++ cond t (b ∷ bs) (after_word bs))
+pub whole_by : (t : Bool) (b : ℕ) (bs : List ℕ) → bs ≡ first_word bs ++ behind_word bs → ◌≡◌ {A = List ℕ} (b ∷ bs)
+    (cond t [] (b ∷ first_word bs) ++ cond t (b ∷ bs) (behind_word bs))
 whole_by true b bs e = refl
 whole_by false b bs e = ap (λ w. b ∷ w) e
 
-pub whole : (bs : List ℕ) → bs ≡ first_word bs ++ after_word bs
+pub whole : (bs : List ℕ) → bs ≡ first_word bs ++ behind_word bs
 whole [] = refl
 whole (b ∷ bs) = whole_by (is_stop b) b bs (whole bs)
 
@@ -27,7 +27,7 @@ prefix_seam [] [] h e = refl
 prefix_seam [] (b ∷ bs) h e = cond_yes _ _ _ e
 prefix_seam (b ∷ w) rest h e = cond_no _ _ _ h.0 ∙ ap (λ v. b ∷ v) (prefix_seam w rest h.1 e)
 
-pub back_seam : (w rest : List ℕ) → IsRun w → is_end rest ≡ true → after_word (w ++ rest) ≡ rest
+pub back_seam : (w rest : List ℕ) → IsRun w → is_end rest ≡ true → behind_word (w ++ rest) ≡ rest
 back_seam [] [] h e = refl
 back_seam [] (b ∷ bs) h e = cond_yes _ _ _ e
 back_seam (b ∷ w) rest h e = cond_no _ _ _ h.0 ∙ back_seam w rest h.1 e

@@ -2,7 +2,7 @@
 use Rattle.std.proofs.Common.{◌≡◌, ℕ, ◌<◌, ◌^◌, List, [], ◌++◌, length, Option, Some, None, refl, ap, sym, ◌∙◌}
 use Rattle.std.proofs.Common.{decimal, append-nil}
 use Rattle.std.proofs.lemmas.List.{nil_from_length}
-use Rattle.base_text.specs.Lines.{◌>>=◌, first_word, after_word}
+use Rattle.base_text.specs.Lines.{◌>>=◌, first_word, behind_word}
 use Rattle.base_text.specs.Words.{number_of, number_read}
 use Rattle.base_text.proofs.Decimals.{number_of-decimal, no_number}
 use Rattle.base_text.proofs.WordRuns.{decimal_run}
@@ -21,9 +21,9 @@ prefix_decimal : (number : ℕ) → number < 2 ^ 64 → first_word (decimal numb
 prefix_decimal number fits =
     ap first_word (sym (append-nil (decimal number))) ∙ prefix_seam (decimal number) [] (decimal_run number fits) refl
 
-back_decimal : (number : ℕ) → number < 2 ^ 64 → after_word (decimal number) ≡ []
+back_decimal : (number : ℕ) → number < 2 ^ 64 → behind_word (decimal number) ≡ []
 back_decimal number fits =
-    ap after_word (sym (append-nil (decimal number))) ∙ back_seam (decimal number) [] (decimal_run number fits) refl
+    ap behind_word (sym (append-nil (decimal number))) ∙ back_seam (decimal number) [] (decimal_run number fits) refl
 
 -- what is none isn't some
 none_some : {A : Type 0} (option : Option A) (value : A) → option ≡ None → option ≡ Some value → ⊥
@@ -35,8 +35,8 @@ pub whole_some : (word rest : List ℕ) (number : ℕ) → number_read word ≡ 
     → number_of word ≡ Some number
 unfolding number_read
 whole_some word rest number read none =
-    let both = parts (number_of (first_word word)) (after_word word) rest number read in
-    let behind : after_word word ≡ [] = both.1 ∙ nil_from_length rest none in
+    let both = parts (number_of (first_word word)) (behind_word word) rest number read in
+    let behind : behind_word word ≡ [] = both.1 ∙ nil_from_length rest none in
     let same : word ≡ first_word word = whole word ∙ ap (λ (bytes : List ℕ). first_word word ++ bytes) behind
     ∙ append-nil (first_word word) in
     ap number_of same ∙ both.0
@@ -46,12 +46,12 @@ pub whole_rest : (word rest : List ℕ) (number : ℕ) → number_read word ≡ 
     → number_of word ≡ None
 unfolding number_read
 whole_rest word rest number read some = no_number word (λ other fits same.
-    let both = parts (number_of (first_word word)) (after_word word) rest number read in
-    some (ap length (sym both.1 ∙ ap after_word same ∙ back_decimal other fits)))
+    let both = parts (number_of (first_word word)) (behind_word word) rest number read in
+    some (ap length (sym both.1 ∙ ap behind_word same ∙ back_decimal other fits)))
 
 -- no number
 pub whole_none : (word : List ℕ) → number_read word ≡ None → number_of word ≡ None
 unfolding number_read
 whole_none word none = no_number word (λ other fits same.
-    none_some (number_read word) (other, after_word word) none
+    none_some (number_read word) (other, behind_word word) none
     (rw (ap first_word same ∙ prefix_decimal other fits, number_of-decimal other fits) refl))

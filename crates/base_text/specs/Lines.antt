@@ -27,9 +27,9 @@ first_word [] = []
 first_word (b ∷ bs) = if is_stop b then [] else b ∷ first_word bs
 
 -- the bytes from there on
-abbrev pub after_word : List ℕ → List ℕ
-after_word [] = []
-after_word (b ∷ bs) = if is_stop b then b ∷ bs else after_word bs
+abbrev pub behind_word : List ℕ → List ℕ
+behind_word [] = []
+behind_word (b ∷ bs) = if is_stop b then b ∷ bs else behind_word bs
 
 -- the bytes after a space
 abbrev pub after_space : List ℕ → Option (List ℕ)

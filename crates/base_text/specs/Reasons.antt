@@ -1,7 +1,7 @@
 -- Why a line isn't read: the first reason that applies.
 use Rattle.std.specs.Prelude.{ℕ, zero, suc, List, [], ◌∷◌, length, Option, Some, None, Result, Ok, Err, Bool}
 use Rattle.std.specs.Prelude.{true, false, not, ◌&&◌, nat_le, ◌==◌, if◌then◌else◌}
-use Rattle.base_text.specs.Lines.{after_word}
+use Rattle.base_text.specs.Lines.{behind_word}
 use Rattle.base_text.specs.declared.why.LineWhy.{LineWhy}
 use Rattle.base_text.specs.declared.why.LineWhy.TheVariants.{Early, Text, Form, Value as BadValue}
 
@@ -33,7 +33,7 @@ words_left (b ∷ bs) = if b == 10 then 0 else (if b == 32 then suc (words_left 
 -- the bytes after a space and a word
 abbrev pub after_word : List ℕ → List ℕ
 after_word [] = []
-after_word (b ∷ bs) = if b == 32 then after_word bs else []
+after_word (b ∷ bs) = if b == 32 then behind_word bs else []
 
 -- the bytes after a number of them
 abbrev pub after_words : ℕ → List ℕ → List ℕ

@@ -5,7 +5,7 @@ use Rattle.std.specs.Prelude.{nat_lt, nat_le, ◌==◌, if◌then◌else◌, dec
 use Rattle.std.specs.Str.{bytes_eq}
 use Rattle.std.specs.Str.Parse.{digits_value, AllDigits}
 use Rattle.std.specs.Int.{IsInRange}
-use Rattle.base_text.specs.Lines.{Word, ◌>>=◌, is_stop, first_word, after_word}
+use Rattle.base_text.specs.Lines.{Word, ◌>>=◌, is_stop, first_word, behind_word}
 
 -- the number below 2 ^ 64 whose decimal text, without leading zero, the word is
 unfoldable pub number_of : Word → Option ℕ
@@ -14,7 +14,7 @@ number_of word = if bytes_eq word (decimal (digits_value 10 word)) && nat_lt (di
 
 -- the number that the first word is, and the bytes after it
 unfoldable pub number_read : List ℕ → Option (ℕ × List ℕ)
-number_read bytes = number_of (first_word bytes) >>= λ n. Some (n, after_word bytes)
+number_read bytes = number_of (first_word bytes) >>= λ n. Some (n, behind_word bytes)
 
 -- a digit stands at a place
 abbrev pub HasDigit : List ℕ → ℕ → Type 0

@@ -2,7 +2,7 @@
 
 ghost use Rattle.std.specs.Prelude.{◌≡◌, IsTrue, ◌↔◌, is_some, IfSome};
 ghost use Rattle.std.specs.Str.{bytes_eq};
-ghost use Rattle.base_text.specs.Lines.{is_stop, first_word, after_word, after_space, after_newline};
+ghost use Rattle.base_text.specs.Lines.{is_stop, first_word, behind_word, after_space, after_newline};
 ghost use Rattle.base_text.specs.Lines.{has_space, has_more};
 ghost use Rattle.base_text.specs.Words.{GoesOn, GoesWith, IsSame};
 ghost use Rattle.base_text.specs.Found.{Finds};
@@ -50,7 +50,7 @@ pub fn goes_on(bytes: &[u8], i: usize) -> bool
 /// The first word, and the bytes after it.
 pub fn name_of(bytes: &[u8]) -> (&[u8], &[u8])
     ensures name { result.0.now ≡ first_word bytes.now }
-    ensures rest { result.1.now ≡ after_word bytes.now }
+    ensures rest { result.1.now ≡ behind_word bytes.now }
 {
     let mut end = 0;
     while goes_on(bytes, end) {
@@ -89,7 +89,7 @@ pub fn begins(name: &[u8], bytes: &[u8]) -> bool
 #[inline(always)]
 pub fn behind_name<'a>(bytes: &'a [u8], name: &[u8]) -> Option<&'a [u8]>
     ensures name { is_some result ≡ bytes_eq (first_word bytes.now) name.now }
-    ensures rest { IfSome result (λ rest. rest.now ≡ after_word bytes.now) }
+    ensures rest { IfSome result (λ rest. rest.now ≡ behind_word bytes.now) }
 {
     if !begins(name, bytes) {
         return None;

@@ -202,7 +202,7 @@ refused_at caller follows old now new plan thread from place transfer answer tri
 
 -- the calls of the parts are those that the answer tells
 made_by : {K : Type 0} (caller : Ghosts K) (old new : K) (asked : BeginCall) (refused : Option ℕ)
-    → Makes caller old (in_region asked (tried asked.from refused (drop asked.from asked.plan.pieces))) new
+    → Makes caller old (in_region asked (pieces_tried asked.from refused (drop asked.from asked.plan.pieces))) new
     → Makes caller old (calls_made asked (vis_by asked.from refused)) new
 made_by caller old new asked None made = made
 made_by caller old new asked (Some next) made = elim (cases_Bool (next == asked.from)) [
@@ -222,7 +222,7 @@ pub begins_all : {K : Type 0} (caller : Ghosts K) → Follows caller → (old op
 begins_all caller follows old opened tried_by new asked refused opens tries closes =
     let opening = on_transfers asked.thread RegionBegin ∷ [] in
     let all = beginnings asked.plan asked.thread (drop asked.from asked.plan.pieces) in
-    let some = beginnings asked.plan asked.thread (tried asked.from refused (drop asked.from asked.plan.pieces)) in
+    let some = beginnings asked.plan asked.thread (pieces_tried asked.from refused (drop asked.from asked.plan.pieces)) in
     let ending = on_transfers asked.thread (RegionEnd asked.register) ∷ [] in
     record {
       answered = λ whole stands.

@@ -1,6 +1,6 @@
 -- The table of calls.
 use Rattle.std.proofs.Common.{◌≡◌, refl, ap, ◌∙◌, false, ℕ, List, map}
-use Rattle.base_text.specs.Lines.{◌>>=◌, first_word, after_word}
+use Rattle.base_text.specs.Lines.{◌>>=◌, first_word, behind_word}
 use Rattle.text_calls.specs.declared.scope.Scope.{Scope}
 use Rattle.text_calls.specs.declared.scheduled.ScheduledCall.{ScheduledCall}
 use Rattle.text_calls.specs.declared.scheduled.ScheduledCall.TheVariants as call
@@ -88,7 +88,7 @@ rows_are = refl
 
 -- reading a call is reading the words of the form of its name
 pub read_calls : (scope : Scope) (bytes : List ℕ)
-    → call_at scope bytes ≡ (call_named (first_word bytes) >>= λ form. form_at scope form (after_word bytes))
+    → call_at scope bytes ≡ (call_named (first_word bytes) >>= λ form. form_at scope form (behind_word bytes))
 unfolding call_at form_at call_named
 read_calls scope bytes =
     ap (λ (rows : List (Row ⊥ ScheduledCall)). table_at none_at rows (call_fits scope) bytes) rows_are

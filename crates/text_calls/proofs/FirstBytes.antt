@@ -4,7 +4,7 @@ use Rattle.std.proofs.Common.{eqb, refl, ap, sym, subst, ◌∙◌}
 use Rattle.std.proofs.lemmas.Bool.{ne_eqb, eqb-true}
 use Rattle.text_calls.specs.declared.values.Operand.{Operand}
 use Rattle.text_calls.specs.declared.values.Operand.TheVariants as operand
-use Rattle.base_text.specs.Lines.{◌>>=◌, is_stop, first_word, after_word}
+use Rattle.base_text.specs.Lines.{◌>>=◌, is_stop, first_word, behind_word}
 use Rattle.base_text.specs.Words.{number_of, number_read, number_in, negative_number, plain, integer_of}
 use Rattle.base_text.specs.Words.{integer_read}
 use Rattle.text_calls.specs.Kinds.{schedule_operand, body_operand}
@@ -42,23 +42,23 @@ map_word None f rest = refl
 map_word (Some n) f rest = refl
 
 -- an integer behind a sign
-signed_is : (bs : List ℕ) → (integer_of (first_word (45 ∷ bs)) >>= λ z. Some (z, after_word (45 ∷ bs))) ≡ integer_read (45 ∷ bs)
+signed_is : (bs : List ℕ) → (integer_of (first_word (45 ∷ bs)) >>= λ z. Some (z, behind_word (45 ∷ bs))) ≡ integer_read (45 ∷ bs)
 unfolding integer_of integer_read number_read
-signed_is bs = then_word (number_of (first_word bs)) negative_number (after_word bs)
+signed_is bs = then_word (number_of (first_word bs)) negative_number (behind_word bs)
 
 -- an integer without one
-plain_is : (bs : List ℕ) → eqb (get_or bs 0 0) 45 ≡ false → (integer_of (first_word bs) >>= λ z. Some (z, after_word bs))
+plain_is : (bs : List ℕ) → eqb (get_or bs 0 0) 45 ≡ false → (integer_of (first_word bs) >>= λ z. Some (z, behind_word bs))
     ≡ integer_read bs
 unfolding integer_of integer_read number_read
-plain_is bs e = rw (first_same bs 45 refl refl, e) (then_word (number_of (first_word bs)) plain (after_word bs))
+plain_is bs e = rw (first_same bs 45 refl refl, e) (then_word (number_of (first_word bs)) plain (behind_word bs))
 
 integer_by : (t : Bool) (bs : List ℕ) → eqb (get_or bs 0 0) 45 ≡ t →
-    (integer_of (first_word bs) >>= λ z. Some (z, after_word bs)) ≡ integer_read bs
+    (integer_of (first_word bs) >>= λ z. Some (z, behind_word bs)) ≡ integer_read bs
 integer_by true bs e = rw (letter_is bs 45 e refl) (signed_is (drop 1 bs))
 integer_by false bs e = plain_is bs e
 
 -- an integer, by the first byte
-integer_found : (bs : List ℕ) → (integer_of (first_word bs) >>= λ z. Some (z, after_word bs)) ≡ integer_read bs
+integer_found : (bs : List ℕ) → (integer_of (first_word bs) >>= λ z. Some (z, behind_word bs)) ≡ integer_read bs
 integer_found bs = integer_by (eqb (get_or bs 0 0) 45) bs refl
 
 -- the first word as an integer
@@ -69,12 +69,12 @@ integer_is bs = integer_found bs
 -- a cell
 cell_is : (bs : List ℕ) → word_at Value (99 ∷ bs) ≡ value_read (99 ∷ bs)
 unfolding word_at value_read schedule_operand
-cell_is bs = map_word (number_in 0 255 (first_word bs)) operand.Cell (after_word bs)
+cell_is bs = map_word (number_in 0 255 (first_word bs)) operand.Cell (behind_word bs)
 
 -- no cell
 number_is : (bs : List ℕ) → eqb (get_or bs 0 0) 99 ≡ false → word_at Value bs ≡ value_read bs
 unfolding word_at value_read schedule_operand
-number_is bs e = rw (first_same bs 99 refl refl, e) (map_word (integer_of (first_word bs)) operand.Number (after_word bs) ∙ ap
+number_is bs e = rw (first_same bs 99 refl refl, e) (map_word (integer_of (first_word bs)) operand.Number (behind_word bs) ∙ ap
     (λ (o : Option (ℤ × List ℕ)). o >>= λ x. Some (operand.Number x.0, x.1)) (integer_found bs))
 
 value_by : (t : Bool) (bs : List ℕ) → eqb (get_or bs 0 0) 99 ≡ t → word_at Value bs ≡ value_read bs
@@ -88,11 +88,11 @@ value_is bs = value_by (eqb (get_or bs 0 0) 99) bs refl
 -- an argument
 argument_is : (bs : List ℕ) → word_at BodyValue (97 ∷ bs) ≡ body_value_read (97 ∷ bs)
 unfolding word_at body_value_read body_operand
-argument_is bs = map_word (number_in 0 15 (first_word bs)) operand.Argument (after_word bs)
+argument_is bs = map_word (number_in 0 15 (first_word bs)) operand.Argument (behind_word bs)
 
 -- the same in two steps
 as_word : (bs : List ℕ) → word_at Value bs ≡ ◌>>=◌ {B = Operand × List ℕ} (schedule_operand (first_word bs)) (λ x. Some
-    (x, after_word bs))
+    (x, behind_word bs))
 unfolding word_at
 as_word bs = refl
 

@@ -4,7 +4,7 @@ use Rattle.std.proofs.Common.{Option, Some, refl, ap, sym, subst, ◌∙◌, ari
 use Rattle.std.specs.List.{AllByRecursion, flat_map}
 use Rattle.std.specs.Str.{bytes_eq}
 use Rattle.std.proofs.lemmas.Bool.{leb-true, le-leb, or_parts}
-use Rattle.base_text.specs.Lines.{Word, is_stop, first_word, after_word, after_space}
+use Rattle.base_text.specs.Lines.{Word, is_stop, first_word, behind_word, after_space}
 use Rattle.text_calls.specs.Forms.{Part, Meaning, word_text, IsSaid, word_at, part_at, each_at, parts_at}
 use Rattle.base_text.specs.Lines.{has_space}
 use Rattle.text_calls.specs.Forms.{many_at, Together, together_text, AreTogether, together_at}
@@ -33,7 +33,7 @@ pub word_at_takes : (p : Part) (bytes : List ℕ) → Takes (IsWordOf p bytes) (
 unfolding word_at
 word_at_takes p bytes =
     takes_then (λ x. (first_word bytes ≡ word_text p x) × IsSaid p x) (word_takes p (first_word bytes)) (λ x h. takes_some
-    (whole bytes ∙ ap (λ (w : Word). w ++ after_word bytes) h.0, h.1))
+    (whole bytes ∙ ap (λ (w : Word). w ++ behind_word bytes) h.0, h.1))
 
 pub word_at_again : (p : Part) (x : Meaning p) (rest : List ℕ) → IsSaid p x → is_end rest ≡ true → word_at p
     (word_text p x ++ rest) ≡ Some (x, rest)
@@ -547,7 +547,7 @@ pub record IsTable {X A : Type 0} (rows : List (Row X A)) (entry : A → Entry X
 
 -- what a table makes, by the first word and the bytes after it
 table_by : {X A : Type 0} (at : List ℕ → Option (X × List ℕ)) (rows : List (Row X A)) (test : A → Bool)
-    (row : Row X A) (tail : List ℕ) (a : A) (rest : List ℕ) → first_word (row.name ++ tail) ≡ row.name → after_word (row.name
+    (row : Row X A) (tail : List ℕ) (a : A) (rest : List ℕ) → first_word (row.name ++ tail) ≡ row.name → behind_word (row.name
     ++ tail) ≡ tail → named_at at rows row.name tail ≡ Some (a, rest) → test a ≡ true → table_at at rows test
     (row.name ++ tail) ≡ Some (a, rest)
 table_by at rows test row tail a rest f b n t = rw (f, b, n) (cond_yes _ _ _ t)
@@ -559,8 +559,8 @@ pub table_exact : {X A : Type 0} (at : List ℕ → Option (X × List ℕ)) (tex
     (IsOf fits entry test)
 table_exact {X} {A} at text fits rows entry test exact table = record {
   takes = λ bytes. takes_then (IsMadeOf text fits entry bytes)
-      (takes_weaker (IsMadeOf text fits entry (first_word bytes ++ after_word bytes))
-      (named_takes at text fits entry exact rows table.makes (first_word bytes) (after_word bytes)) (λ x h.
+      (takes_weaker (IsMadeOf text fits entry (first_word bytes ++ behind_word bytes))
+      (named_takes at text fits entry exact rows table.makes (first_word bytes) (behind_word bytes)) (λ x h.
       (whole bytes ∙ h.0, h.1)))
       (λ x h. takes_if {b = test x.0} (λ t. takes_some (h.0, (h.1, t))) (λ t. takes_none));
   again = λ a rest h.

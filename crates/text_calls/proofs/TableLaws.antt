@@ -2,7 +2,7 @@
 use Rattle.std.proofs.Common.{◌≡◌, ℕ, ◌+◌, List, [], ◌∷◌, Option, Some, None, Bool, true, false, cond, refl, ap, ◌∙◌}
 use Rattle.std.proofs.Common.{map}
 use Rattle.std.specs.Str.{bytes_eq}
-use Rattle.base_text.specs.Lines.{Word, ◌>>=◌, first_word, after_word}
+use Rattle.base_text.specs.Lines.{Word, ◌>>=◌, first_word, behind_word}
 use Rattle.base_text.specs.Reasons.{words_left}
 use Rattle.text_calls.specs.Forms.{Shape, End, ◌▸◌, Many, Any, Bundles, Split, Inner, Row, row_at, named_at, if_passes}
 use Rattle.text_calls.specs.Forms.{table_at}
@@ -37,12 +37,12 @@ then_passed (Some form) at test = refl
 -- the same for a line, and for what passes a test
 pub read_table : {F X A : Type 0} (at : List ℕ → Option (X × List ℕ)) (row : F → Row X A) (forms : List F)
     (test : A → Bool) (bytes : List ℕ) → table_at at (map row forms) test bytes
-    ≡ (first_named (λ form. (row form).name) forms (first_word bytes) >>= λ form. row_at at (row form) (after_word bytes)
+    ≡ (first_named (λ form. (row form).name) forms (first_word bytes) >>= λ form. row_at at (row form) (behind_word bytes)
     >>= if_passes test)
 read_table at row forms test bytes =
-    ap (λ o. o >>= if_passes test) (read_named at row forms (first_word bytes) (after_word bytes))
+    ap (λ o. o >>= if_passes test) (read_named at row forms (first_word bytes) (behind_word bytes))
     ∙ then_passed (first_named (λ form. (row form).name) forms (first_word bytes))
-    (λ form. row_at at (row form) (after_word bytes)) test
+    (λ form. row_at at (row form) (behind_word bytes)) test
 
 -- ---- the words of a form
 

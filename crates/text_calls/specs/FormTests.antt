@@ -2,7 +2,7 @@
 use Rattle.std.specs.Prelude.{ℕ, ◌+◌, ◌-◌, ◌*◌, ◌%◌, List, [], ◌∷◌, length, Option, Some, None}
 use Rattle.std.specs.Prelude.{Bool, false, ◌&&◌, nat_le, ◌==◌, if◌then◌else◌}
 use Rattle.std.specs.Str.{bytes_eq}
-use Rattle.base_text.specs.Lines.{Word, first_word, after_word, after_space}
+use Rattle.base_text.specs.Lines.{Word, first_word, behind_word, after_space}
 use Rattle.base_text.specs.Reasons.{words_left, after_words}
 use Rattle.text_calls.specs.Forms.{Shape, End, ◌▸◌, Many, Any, Bundles, Split, Inner, Row, Number, parts_of}
 use Rattle.text_calls.specs.Forms.{part_at}
@@ -46,4 +46,4 @@ named_form form (row ∷ rows) name bytes = if bytes_eq name row.name then shape
 
 -- whether bytes have a form of the table
 abbrev pub table_form : {X A : Type 0} → (form : List ℕ → Bool) → List (Row X A) → List ℕ → Bool
-table_form form rows bytes = named_form form rows (first_word bytes) (after_word bytes)
+table_form form rows bytes = named_form form rows (first_word bytes) (behind_word bytes)

@@ -7,7 +7,7 @@ use Rattle.std.specs.Int.{w32}
 use Rattle.std.specs.Int.RustNames.{FitsSigned}
 use Rattle.std.specs.List.{AllByRecursion, flat_map}
 use Rattle.std.specs.Str.{bytes_eq}
-use Rattle.base_text.specs.Lines.{Word, ◌>>=◌, first_word, after_word, after_space, has_space}
+use Rattle.base_text.specs.Lines.{Word, ◌>>=◌, first_word, behind_word, after_space, has_space}
 use Rattle.base_text.specs.Words.{integer_of, integer_read, number_in}
 use Rattle.text_calls.specs.Kinds.{operand_of, operand_word, IsOperand}
 use Rattle.text_calls.specs.Kinds.{kind_word, named_kinds, IsNamed, role_word, all_roles, implicit_word, all_implicit}
@@ -111,7 +111,7 @@ word_says Collective word = first_named collective_word all_collectives word
 
 -- what the first word says, and the bytes after it
 unfoldable pub word_at : (p : Part) → List ℕ → Option (Meaning p × List ℕ)
-word_at p bytes = word_says p (first_word bytes) >>= λ x. Some (x, after_word bytes)
+word_at p bytes = word_says p (first_word bytes) >>= λ x. Some (x, behind_word bytes)
 
 -- the same behind a space
 unfoldable pub part_at : (p : Part) → List ℕ → Option (Meaning p × List ℕ)
@@ -345,7 +345,7 @@ if_passes test x = if test x.0 then Some x else None
 -- what a table makes of bytes, and the bytes after them
 abbrev pub table_at : {X A : Type 0} → (at : List ℕ → Option (X × List ℕ)) → List (Row X A) → (A → Bool) → List ℕ
     → Option (A × List ℕ)
-table_at at rows test bytes = named_at at rows (first_word bytes) (after_word bytes) >>= if_passes test
+table_at at rows test bytes = named_at at rows (first_word bytes) (behind_word bytes) >>= if_passes test
 
 -- the bytes of an entry
 abbrev pub entry_text : {X A : Type 0} → (text : X → List ℕ) → Entry X A → List ℕ

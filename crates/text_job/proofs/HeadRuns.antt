@@ -3,7 +3,7 @@ use Rattle.std.proofs.Common.{◌≡◌, ℕ, ◌+◌, List, [], ◌∷◌, Opti
 use Rattle.std.proofs.Common.{cond, refl, ap, sym, ◌∙◌}
 use Rattle.text_job.specs.Scopes.{scope_of}
 use Rattle.text_calls.specs.declared.scope.Scope.{Scope}
-use Rattle.base_text.specs.Lines.{first_word, after_word, after_newline}
+use Rattle.base_text.specs.Lines.{first_word, behind_word, after_newline}
 use Rattle.base_text.specs.Lines as options
 use Rattle.text_calls.specs.Forms.{none_at, named_at, if_passes}
 use Rattle.text_job.specs.Places.{Setting, Version, Nodes, Credits, Threads, Segment, Last, Resend, Patience}
@@ -57,7 +57,7 @@ tested : (setting : Setting) (scope : Scope) (bytes : List ℕ) → line_at (AtS
     ≡ fitting_line (setting_form setting scope.settings) bytes
 unfolding fitting_line number_line
 tested setting scope bytes = tested_of (setting_fits setting scope.settings) (named_at none_at
-    (setting_row setting ∷ []) (first_word bytes) (after_word bytes))
+    (setting_row setting ∷ []) (first_word bytes) (behind_word bytes))
 
 -- a line is read by its setting, and the others from there on
 abbrev pub StepsOn : Setting → Job → (line : ℕ) → List ℕ → Type 0

@@ -8,7 +8,7 @@ use Rattle.std.proofs.lemmas.Fmt.{digits_decimal, decimal_nonempty}
 use Rattle.std.proofs.lemmas.Bool.{ne_eqb}
 use Rattle.wire_message.specs.Parameters.{Parameters}
 use Rattle.wire_message.specs.declared.pairs.PairCredits.{PairCredits}
-use Rattle.base_text.specs.Lines.{◌>>=◌, is_stop, first_word, after_word}
+use Rattle.base_text.specs.Lines.{◌>>=◌, is_stop, first_word, behind_word}
 use Rattle.text_calls.specs.Forms.{none_at, none_text, none_fits, entry_text}
 use Rattle.text_steps.specs.Bodies.{action_at, action_text, IsAction}
 use Rattle.text_steps.specs.Events.{timed_at, IsTimed}
@@ -237,8 +237,8 @@ atomics_or_later_exact scope =
     (atomics_exact scope) (collect_or_later_exact scope) (λ line rest. refl) collect_unnamed
 
 -- the bytes of a word that was found, and those after it
-found_word : (bytes name : List ℕ) → bytes_eq (first_word bytes) name ≡ true → bytes ≡ name ++ after_word bytes
-found_word bytes name b = whole bytes ∙ ap (λ (w : List ℕ). w ++ after_word bytes) (same_word (first_word bytes) name b)
+found_word : (bytes name : List ℕ) → bytes_eq (first_word bytes) name ≡ true → bytes ≡ name ++ behind_word bytes
+found_word bytes name b = whole bytes ∙ ap (λ (w : List ℕ). w ++ behind_word bytes) (same_word (first_word bytes) name b)
 
 -- a line that isn't the line `end`
 abbrev pub IsOther : {A : Type 0} → (A → List ℕ) → (A → Type 0) → Type 0
@@ -249,7 +249,7 @@ end_or_takes : {A : Type 0} (at : List ℕ → Option (A × List ℕ)) (text : A
     → IsExact at text fits → (bytes : List ℕ) → Takes (λ x. (bytes ≡ end_or_text text x.0 ++ x.1)
     × end_or_fits fits x.0) (end_or at bytes)
 end_or_takes {A} at text fits exact bytes = takes_if
-    (λ b. takes_some {x = (None, after_word bytes)} (found_word bytes (codes "end") b, tt))
+    (λ b. takes_some {x = (None, behind_word bytes)} (found_word bytes (codes "end") b, tt))
     (λ b. takes_then (λ (x : A × List ℕ). (bytes ≡ text x.0 ++ x.1) × fits x.0) (exact.takes bytes)
     (λ x h. takes_some {x = (Some x.0, x.1)} h))
 
@@ -341,7 +341,7 @@ timed_other scope t rest h =
 
 done_exact : IsExact done_at (λ u. codes "done") (λ u. Unit {0})
 done_exact = record {
-  takes = λ bytes. takes_if (λ b. takes_some {x = (tt, after_word bytes)} (found_word bytes (codes "done") b, tt))
+  takes = λ bytes. takes_if (λ b. takes_some {x = (tt, behind_word bytes)} (found_word bytes (codes "done") b, tt))
       (λ b. takes_none);
   again = λ u rest h. refl;
   flat = λ u h. (refl, (refl, (refl, (refl, tt))));

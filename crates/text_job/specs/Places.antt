@@ -4,7 +4,7 @@ use Rattle.std.specs.Prelude.{not, ◌&&◌, ◌||◌, nat_le, nat_lt, ◌==◌,
 use Rattle.std.specs.Str.{bytes_eq}
 use Rattle.wire_message.specs.Parameters.{Parameters, credits_in_all}
 use Rattle.wire_message.specs.declared.pairs.PairCredits.{PairCredits}
-use Rattle.base_text.specs.Lines.{Word, ◌>>=◌, first_word, after_word}
+use Rattle.base_text.specs.Lines.{Word, ◌>>=◌, first_word, behind_word}
 use Rattle.text_calls.specs.Forms.{Number, Role, Shape, End, ◌▸◌, Any, Maker, Row, Entry}
 use Rattle.text_calls.specs.Forms.{table_at, entry_text, IsOf, none_at, none_text, none_fits, U64, U16, U8}
 use Rattle.text_job.specs.CollectAreas.{area_of, is_area}
@@ -294,7 +294,7 @@ named_or name at other bytes =
 -- whether it has a form, where so many words stand behind the name
 abbrev pub named_or_form : Word → (count : ℕ → Bool) → (List ℕ → Bool) → List ℕ → Bool
 named_or_form name count other bytes =
-    if bytes_eq (first_word bytes) name then count (words_left (after_word bytes)) else other bytes
+    if bytes_eq (first_word bytes) name then count (words_left (behind_word bytes)) else other bytes
 
 -- its text
 abbrev pub named_or_text : {A B : Type 0} → (A → List ℕ) → (B → List ℕ) → NamedOr A B → List ℕ
@@ -311,7 +311,7 @@ named_or_fits fits other (Other item) = other item
 -- the line `end`, or what reads another
 abbrev pub end_or : {A : Type 0} → (List ℕ → Option (A × List ℕ)) → List ℕ → Option (Option A × List ℕ)
 end_or at bytes =
-    if bytes_eq (first_word bytes) (codes "end") then Some (None, after_word bytes) else (at bytes >>= λ x. Some (Some x.0, x.1))
+    if bytes_eq (first_word bytes) (codes "end") then Some (None, behind_word bytes) else (at bytes >>= λ x. Some (Some x.0, x.1))
 
 -- its text
 abbrev pub end_or_text : {A : Type 0} → (A → List ℕ) → Option A → List ℕ
@@ -405,7 +405,7 @@ pairs_form scope bytes = named_or_form (codes "pair") (λ n. n == 3) (atomics_or
 
 -- the line `done`
 abbrev pub done_at : List ℕ → Option (Unit {0} × List ℕ)
-done_at bytes = if bytes_eq (first_word bytes) (codes "done") then Some (tt, after_word bytes) else None
+done_at bytes = if bytes_eq (first_word bytes) (codes "done") then Some (tt, behind_word bytes) else None
 
 -- what reads the words of a line
 abbrev pub item_at : (place : Place) → Scope → List ℕ → Option (Item place × List ℕ)

@@ -1,7 +1,7 @@
 -- The forms of events, and lines of a schedule.
 use Rattle.std.specs.Prelude.{ℕ, ◌-◌, ◌^◌, ◌<◌, List, [], ◌∷◌, ◌++◌, Option, Some, Bool, true, not, ◌==◌, codes}
 use Rattle.std.specs.Prelude.{decimal}
-use Rattle.base_text.specs.Lines.{Word, ◌>>=◌, after_word, after_space}
+use Rattle.base_text.specs.Lines.{Word, ◌>>=◌, behind_word, after_space}
 use Rattle.text_calls.specs.Forms.{Number, Shape, End, ◌▸◌, Inner, Maker, Values, Row, Entry}
 use Rattle.text_calls.specs.Forms.{if_passes, row_at, word_at, table_at, entry_text, IsOf, U64, Below}
 use Rattle.text_calls.specs.FormTests.{table_form, behind}
@@ -110,7 +110,7 @@ event_form scope bytes =
 
 -- whether bytes have the form of a line of a schedule: the time is any word
 unfoldable pub timed_form : Scope → List ℕ → Bool
-timed_form scope bytes = behind (event_form scope) (after_space (after_word bytes))
+timed_form scope bytes = behind (event_form scope) (after_space (behind_word bytes))
 
 -- what reads a line of a schedule
 unfoldable pub timed_at : Scope → List ℕ → Option (TimedEvent × List ℕ)

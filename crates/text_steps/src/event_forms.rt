@@ -2,7 +2,7 @@
 
 ghost use Rattle.std.specs.Prelude.{◌≡◌, IfSome};
 ghost use Rattle.std.specs.Option.{option_map};
-ghost use Rattle.base_text.specs.Lines.{first_word, after_word};
+ghost use Rattle.base_text.specs.Lines.{first_word, behind_word};
 ghost use Rattle.text_calls.specs.FormTests.{shape_form};
 ghost use Rattle.text_steps.specs.Events.{event_form_row, event_named};
 ghost use Rattle.text_steps.specs.ThreadActions.{thread_action_form};
@@ -43,7 +43,7 @@ impl EventForm {
     #[inline(always)]
     pub fn at_prefix(bytes: &[u8]) -> Option<(EventForm, &[u8])>
         ensures form { option_map (λ x. x.0) result ≡ event_named (first_word bytes.now) }
-        ensures rest { IfSome result (λ x. x.1.now ≡ after_word bytes.now) }
+        ensures rest { IfSome result (λ x. x.1.now ≡ behind_word bytes.now) }
     {
         if let Some(rest) = behind_name(bytes, EventForm::Call.name()) {
             return Some((EventForm::Call, rest));
