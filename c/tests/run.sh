@@ -197,7 +197,7 @@ check "refusals that wait sanitized" 0 "" bash -c "refused out/sanitized"
 
 # On networks of namespaces, where they can be had: queues, packets of 1,500 bytes, loss, and nodes that compute.
 if why=$(tests/network can 2>&1); then
-    for test in incast loss phases stall icmp complete hosts; do
+    for test in incast loss phases stall icmp complete hosts halo; do
         check "network $test" 0 "" tests/network "$test"
     done
 else
@@ -604,6 +604,12 @@ for example in "mediums:26 words in 4 lines, by 4 nodes" "atomics:200 of 200 tic
     check "example $name" 0 "${example#*:}" bin/gasnetrun -n 4 "out/$name"
     check "example $name with loss" 0 "${example#*:}" env GASNET_DROP=20 bin/gasnetrun -n 4 "out/$name"
 done
+# That of docs/TUTORIAL.md: whatever the number of nodes, and the loss, its cells are those of the formula.
+check "example halo, gasnetcc" 0 "" bin/gasnetcc -Wall -Wextra -Werror examples/halo.c -o out/halo -lm
+for n in 1 3 4; do
+    check "example halo n=$n" 0 "^halo of $n nodes: after 200 steps the height is 0.9663$" bin/gasnetrun -n $n out/halo 200
+done
+check "example halo with loss" 0 "^halo of 4 nodes: after 100 steps the height is 0.9830$" env GASNET_DROP=10 bin/gasnetrun -n 4 out/halo 100
 # The commands work by a link from another folder, and where their path has a space.
 mkdir -p out/links "out/a space/out"
 for command in gasnetcc gasnetrun; do ln -sf "../../bin/$command" out/links/; done

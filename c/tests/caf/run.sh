@@ -150,8 +150,14 @@ for example in heat pi queue; do
     done
 done
 
+# That of docs/TUTORIAL.md: whatever the number of images, and the loss, its cells are those of the formula.
+for n in 1 3 4; do
+    check "example halo n=$n" 0 "^halo of $n images: after 200 steps the height is 0.9663$" bin/cafrun -n "$n" out/tests/caf/halo 200
+done
+check "example halo with loss" 0 "^halo of 4 images: after 100 steps the height is 0.9830$" env GASNET_DROP=10 bin/cafrun -n 4 out/tests/caf/halo 100
+
 # With one image a program prints what it prints with -fcoarray=single.
-for test in sections conversions references collectives polymorphic single heat queue; do
+for test in sections conversions references collectives polymorphic single heat queue halo; do
     check "one image $test" 0 "" bash -c "diff <(out/tests/caf/$test.single 2>&1) <(bin/cafrun -n 1 out/tests/caf/$test 2>&1)"
 done
 
