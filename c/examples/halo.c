@@ -41,6 +41,19 @@ static void advance(double *cells, int count, double left, double right) {
     }
 }
 
+static void fill(double *cells, int count) {
+    for (int i = 0; i < count; i++)
+        cells[i] = wave(gasnet_mynode() * count + i, 0);
+}
+
+static void run(double *cells, int count, int steps) {
+    const struct halo *halo = segments[gasnet_mynode()].addr;
+    for (int step = 0; step < steps; step++) {
+        exchange(cells, count, step);
+        advance(cells, count, halo->left[step % 2], halo->right[step % 2]);
+    }
+}
+
 static void check(const double *cells, int count, int steps) {
     for (int i = 0; i < count; i++)
         if (fabs(cells[i] - wave(gasnet_mynode() * count + i, steps)) > 1e-12) {
@@ -55,15 +68,10 @@ int main(int argc, char **argv) {
     GASNET_SAFE(gasnet_attach(NULL, 0, GASNET_PAGESIZE, 0));
     GASNET_SAFE(gasnet_getSegmentInfo(segments, gasnet_nodes()));
     const int steps = argc > 1 ? atoi(argv[1]) : 1000, count = RING / gasnet_nodes();
-    const struct halo *halo = segments[gasnet_mynode()].addr;
     if (RING % gasnet_nodes())
         gasnet_exit(2); /* the parts have to be equal */
-    for (int i = 0; i < count; i++)
-        cells[i] = wave(gasnet_mynode() * count + i, 0);
-    for (int step = 0; step < steps; step++) {
-        exchange(cells, count, step);
-        advance(cells, count, halo->left[step % 2], halo->right[step % 2]);
-    }
+    fill(cells, count);
+    run(cells, count, steps);
     check(cells, count, steps);
     if (gasnet_mynode() == 0)
         printf("halo of %d nodes: after %d steps the height is %.4f\n", gasnet_nodes(), steps, cells[0]);
