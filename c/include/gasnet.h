@@ -1,7 +1,7 @@
 /* GASNet 1.8.1 for C: active messages, puts, gets, and barriers between the nodes of a job.
  *
- * The names and their meaning are those of the GASNet Specification 1.8.1. docs/GASNET.md has a table of all of them,
- * and says where this implementation chose what the specification leaves open.
+ * The names and their meaning are those of the GASNet Specification 1.8.1. docs/GASNET.md has all of them,
+ * name by name, and says what this implementation does where the specification leaves it open.
  *
  * Names that begin with gasnetl_ or GASNETL_ are this implementation's own, and no client's to use. */
 #ifndef GASNET_H
@@ -15,7 +15,7 @@
 extern "C" {
 #endif
 
-/* ---- The client's threads: one of these is defined by the client. Where none is, GASNET_SEQ is taken. */
+/* ---- The client's threads: one of these is defined by the client; if none is, it is GASNET_SEQ. */
 
 #if defined(GASNET_SEQ) + defined(GASNET_PARSYNC) + defined(GASNET_PAR) > 1
 #error "define one of GASNET_SEQ, GASNET_PARSYNC and GASNET_PAR before gasnet.h"
@@ -86,8 +86,8 @@ typedef struct {
 const char *gasnet_ErrorName(int code);
 const char *gasnet_ErrorDesc(int code);
 
-/* This implementation's own, for programs without a macro like it: calls, and where the answer isn't GASNET_OK says so
- * on standard error and ends the job. */
+/* Not in the specification, for programs without a macro like it: if the call's answer isn't GASNET_OK, says so on
+ * standard error and ends the job. */
 #ifndef GASNET_SAFE
 #define GASNET_SAFE(call)                                                                                              \
     do {                                                                                                               \
@@ -118,7 +118,7 @@ char *gasnet_getenv(const char *s);
 #define GASNET_WAIT_SPINBLOCK 2
 int gasnet_set_waitmode(int wait_mode);
 
-/* ---- Threads of the client: nothing is to be handed on here, so these declare nothing. */
+/* ---- Threads of the client: these declare and hold nothing. */
 
 typedef void *gasnet_threadinfo_t;
 #define GASNET_BEGIN_FUNCTION() ((void)0)

@@ -1,11 +1,11 @@
 /* Remote atomics: operations on integers of 32 and 64 bits in a node's segment. gasnet.h includes it.
  *
  * The names are GASNet-EX's, of which this is the part for integers. Each operation acts at one moment of the number's
- * node, and is told what the number was then. It stands at a multiple of its size in the segment. The word of 8 bytes
- * that holds it is touched by nothing else: no plain load or store, not even of its own node, and no put, get or Long.
- * The two halves of a word may each be a number, and numbers of several domains.
+ * node, and may bring what the number was then. A number is aligned to its size in the segment. Nothing else may touch
+ * the word of 8 bytes that holds it: no plain load or store, not even of its own node, and no put, get or Long. The two
+ * halves of a word may each be a number, and numbers of several domains.
  *
- * No node of the job registers the handlers 252 and 253 itself; else gex_AD_Create ends the job. */
+ * No client registers the handlers 252 and 253; if one did, its gex_AD_Create ends the job. */
 #ifndef GASNET_ATOMICS_H
 #define GASNET_ATOMICS_H
 
@@ -49,7 +49,7 @@ typedef uint32_t gex_OP_t;
 #define GEX_OP_SET ((gex_OP_t)1 << 18)
 #define GEX_OP_GET ((gex_OP_t)1 << 19)
 #define GEX_OP_SWAP ((gex_OP_t)1 << 20)
-#define GEX_OP_CAS ((gex_OP_t)1 << 21) /* operand2 where it was operand1 */
+#define GEX_OP_CAS ((gex_OP_t)1 << 21) /* operand2 if it was operand1 */
 #define GEX_OP_FCAS ((gex_OP_t)1 << 22)
 #define GEX_OP_MULT ((gex_OP_t)1 << 23)
 #define GEX_OP_FMULT ((gex_OP_t)1 << 24)

@@ -3,13 +3,13 @@
  * A node is a value behind a handle. Bytes and times go in, bytes and answers come out: the library has no socket, no
  * clock, no thread and no global. It calls nothing back.
  *
- * What a caller owes stands in docs/GASNET.md, "What C owes". In short: a handle begins as zeros, is never copied and
- * is read and written by the library alone; each pointer leads to as many values as its length says, and is never null,
- * not even where there are none; no pointer that is passed leads into the handle or into the node's segment; one call
- * of a handle at a time, each ordered before the next by a lock, a thread's start or its join; the segment is stored to
- * between calls alone, and inside its length.
+ * What a caller owes stands in docs/GASNET.md, "What C owes". In short: a handle begins as zeros, is never copied, and
+ * only the library reads and writes it. Each pointer leads to as many values as its length says, and is never null, not
+ * even with length 0; none leads into the handle or the node's segment. There is one call of a handle at a time, each
+ * ordered before the next by a lock, a thread's start or its join. C stores into the segment between calls alone, and
+ * inside its length.
  *
- * A handle is dead or whole. Every call of a dead one does nothing, and is told GASNET_C_DEAD. */
+ * A handle is dead or whole. A call of a dead one does nothing, and its answer is GASNET_C_DEAD. */
 #ifndef GASNET_C_H
 #define GASNET_C_H
 
@@ -50,19 +50,19 @@ typedef struct {
 typedef struct {
     uint64_t job;     /* the job's number: datagrams of another job are refused */
     uint64_t segment; /* the bytes of each segment: a multiple of 4,096, from 4,096 to 2^40 */
-    uint64_t resend;  /* after which time a request is sent again, in the unit of `now`: 1 to 1,000,000 */
-    uint16_t nodes;   /* 1 to 64 */
+    uint64_t resend;  /* the retransmission time-out, in the unit of `now`: 1 to 1,000,000 */
+    uint16_t nodes;   /* 1 to 256; more than 64 have datagrams of version 2 */
     uint16_t me;      /* this node, from 0 */
-    uint16_t credits; /* how many requests of a pair may be out: 1 to 32, and over all pairs at most 65,536 */
+    uint16_t credits; /* how many requests of each ordered pair of nodes may be outstanding: 1 to 32 */
 } gasnet_c_setup;
 
 /* What an event was answered.
  *
- * Where it sends a datagram, that is the first `len` bytes of the caller's buffer, for the node `to`, and `slot` is the
- * slot that it stands in; where it sends none `len` is 0. (Where the buffer has less than GASNET_C_ROOM bytes and the
- * datagram doesn't fit, `len` is 0 too: the request is sent again in time.)
- * Of GASNET_C_RETURNED `to` is the node that replied, and `slot` is the slot of the request that is back.
- * Of GASNET_C_HANDLE `value` is the handle. What isn't named here is 0. */
+ * A datagram that it sends is the first `len` bytes of the caller's buffer, for the node `to`, and `slot` is its slot;
+ * if it sends none `len` is 0. (If the buffer has less than GASNET_C_ROOM bytes and the datagram doesn't fit, `len` is
+ * 0 too: the request is retransmitted in time.)
+ * With GASNET_C_RETURNED `to` is the node that replied, and `slot` the slot of its request.
+ * With GASNET_C_HANDLE `value` is the handle. What isn't named here is 0. */
 typedef struct {
     uint32_t code;
     uint16_t to, slot;
@@ -83,8 +83,8 @@ typedef struct {
     uint64_t place;       /* a Long's place: its offset in the local segment */
 } gasnet_c_coming;
 
-/* A request. Where `own` is set its payload are the `source_len` bytes of the local segment from `source` on; else it
- * is `payload`. Pointers are right whatever is read of them. */
+/* A request. If `own` is set its payload is the `source_len` bytes of the local segment from `source` on, otherwise
+ * `payload`. Pointers have to be right even if they aren't read. */
 typedef struct {
     gasnet_c_args args;     /* at most 16 */
     gasnet_c_bytes payload; /* at most 8,192 bytes; a Short has none, whatever this is */
@@ -107,7 +107,7 @@ typedef struct {
 } gasnet_c_reply;
 
 /* What the handler of a request to the local node did: the reply that it asked for, and the bytes that stood at a
- * Long's place when it was done, as a copy. Where there are none the payload stands there as it came. */
+ * Long's place when it was done, as a copy. If there are none the payload stands there as it came. */
 typedef struct {
     gasnet_c_reply reply;
     gasnet_c_bytes left;
@@ -136,7 +136,7 @@ typedef struct {
 enum {
     GASNET_C_OP_GET = 0,          /* what it was */
     GASNET_C_OP_SWAP = 1,         /* a */
-    GASNET_C_OP_COMPARE_SWAP = 2, /* b where it was a, else what it was */
+    GASNET_C_OP_COMPARE_SWAP = 2, /* b if it was a, else what it was */
     GASNET_C_OP_ADD = 3,          /* what it was plus a, modulo 2^64 */
     GASNET_C_OP_SUB = 4,          /* what it was less a, modulo 2^64 */
     GASNET_C_OP_AND = 5,          /* its bits with those of a */
@@ -180,7 +180,7 @@ enum {
     GASNET_C_PAYLOAD = 8192, /* the bytes of a payload, and of a chunk, at most */
     GASNET_C_MAX_NODES = 256,
     GASNET_C_MAX_CREDITS = 32,
-    GASNET_C_OPERATIONS = 256, /* how many transfers of a node may stand, from their beginning to their sync */
+    GASNET_C_OPERATIONS = 256, /* how many transfers of a node may be begun and not synchronised */
     /* The handlers of operations on words: datagrams for them are delivered by gasnet_c_serve. */
     GASNET_C_BATCH_HANDLER = 252,
     GASNET_C_BLOCK_HANDLER = 253,
@@ -193,26 +193,26 @@ enum {
 enum {
     GASNET_C_ACCEPTED = 1,  /* a request has a slot, and is to be sent */
     GASNET_C_RAN_HERE = 2,  /* a request to the local node: its run, and its reply's, are recorded */
-    GASNET_C_NOT_YET = 3,   /* all credits of the pair are out */
+    GASNET_C_NOT_YET = 3,   /* all credits of the pair are outstanding */
     GASNET_C_EXHAUSTED = 4, /* the numbers of the pair are used up */
     GASNET_C_BAD = 5,       /* an argument is bad, or the call is out of turn; nothing happened */
     GASNET_C_HANDLE = 6,    /* a transfer is under way, under the handle `value` */
     GASNET_C_DONE = 7,      /* it is done, and has no handle */
-    GASNET_C_TOO_MANY = 8,  /* 256 operations stand, or the last number was given; nothing happened */
+    GASNET_C_TOO_MANY = 8,  /* 256 operations aren't synchronised, or the last number was given; nothing happened */
     GASNET_C_OK = 9,        /* synchronised; notified; the barrier is complete; a collective is started, or ended */
     GASNET_C_NOT_READY = 10,
     GASNET_C_MISMATCH =
         11, /* the barrier is complete, and its notifies don't match; a collective is ended, and its shapes differ */
     GASNET_C_RAN = 12,      /* a request's handler ran (a client's, or a transfer's at its target); its reply is sent */
     GASNET_C_NOTIFIED = 13, /* a notification of the barrier came; its reply is sent */
-    GASNET_C_DUPLICATE = 14, /* a request came again; its reply is sent again */
+    GASNET_C_DUPLICATE = 14, /* a duplicate of the slot's last request; its reply is sent again */
     GASNET_C_STALE = 15,
-    GASNET_C_RETURNED = 16, /* a reply came: the credit of its request is back */
+    GASNET_C_RETURNED = 16, /* a reply came: slot and credit of its request are free */
     GASNET_C_LATE = 17,
     GASNET_C_DEFERRED = 18,
     GASNET_C_REFUSED = 19,        /* bytes that are no message for this node */
     GASNET_C_NOTHING = 20,        /* a tick, or a step of a collective, had nothing to send */
-    GASNET_C_RETRANSMISSION = 21, /* a tick sends a request again */
+    GASNET_C_RETRANSMISSION = 21, /* a tick retransmits a request */
     GASNET_C_FORBIDDEN = 22,
     GASNET_C_OTHER = 23,
     GASNET_C_NOTIFICATION = 24, /* a tick sends a notification of the barrier */
@@ -220,11 +220,11 @@ enum {
     GASNET_C_DEAD = 99          /* the handle is dead */
 };
 
-/* Makes a node: 0; or 1 where a limit is broken, 2 for want of memory, 3 where the handle is live already. Its table
- * has an entry for each index from 128 to 255, which serves requests and replies, and lists no lock.
+/* Makes a node: 0; or 1 if a limit is broken, 2 if memory ran out, 3 if the handle is live already. Its table has an
+ * entry for each index from 128 to 255, which serves requests and replies, and lists no lock.
  *
- * Where it answers 0 the memory is the node's segment until the node is freed: C reads and writes it between calls
- * alone. Else it is C's again. The library never gives it back to anybody. */
+ * If the answer is 0 the memory is the node's segment until the node is freed: C reads and writes it between calls
+ * alone. Otherwise it is C's again. The library never frees it. */
 uint32_t gasnet_c_new(gasnet_c_node *node, const gasnet_c_setup *setup, gasnet_c_memory memory);
 
 /* Gives the memory back that the library took. The handle is dead then, as one of zeros, and the segment's memory is
@@ -235,39 +235,38 @@ void gasnet_c_free(gasnet_c_node *node);
  * NOTHING. */
 gasnet_c_told gasnet_c_tick(gasnet_c_node *node, uint64_t now, uint8_t *buffer, size_t room);
 
-/* The datagram of an open request once more: of the one to the node `to` that stands in that slot, as a told answer
- * named them. How many bytes it has, which are the first of the buffer; 0 where no request is open there, it doesn't
- * fit, or the handle is dead. It changes nothing. To send these bytes to that node repeats what was sent, as a network
- * may. */
+/* The datagram of the outstanding request to the node `to` in that slot, once more. The answer is how many bytes it
+ * has, which are the first of the buffer; 0 if no request is outstanding there, it doesn't fit, or the handle is dead.
+ * It changes nothing. Sending these bytes to that node duplicates what was sent, as a network may. */
 uint64_t gasnet_c_again(gasnet_c_node *node, uint16_t to, uint16_t slot, uint8_t *buffer, size_t room);
 
-/* From which time on a tick sends a request again (RESENT), as long as nothing happens to the node: before it no tick
- * does, and from then on each does. UINT64_MAX where no tick before that time does, as of a dead handle. It changes
- * nothing. */
+/* From which time on a tick retransmits a request (RETRANSMISSION), as long as nothing happens to the node: before it
+ * no tick does, and from then on each does. UINT64_MAX if no tick before that time does, and of a dead handle. It
+ * changes nothing. */
 uint64_t gasnet_c_next_due(gasnet_c_node *node);
 
 /* Whose these bytes are, and which handler of the client's a delivery would run. It changes nothing. */
 gasnet_c_coming gasnet_c_peek(gasnet_c_node *node, const uint8_t *bytes, size_t len);
 
-/* Delivers bytes. Where `gasnet_c_peek` told of a handler that runs, C put a Long's payload at its place, ran the
- * handler before this call and made no other call in between, and `reply` is the reply that it asked for. Nothing is
- * stored at the place: what stands there is what the handler left. Else it doesn't matter what `reply` says, but its
- * pointers are right. RAN, NOTED, AGAIN, RETURNED; STALE, LATE or REFUSED, and nothing happened. */
+/* Delivers bytes. If `gasnet_c_peek` told of a handler that runs, C put a Long's payload at its place, ran the handler
+ * before this call and made no other call in between, and `reply` is the reply that it asked for. Nothing is stored at
+ * the place: what stands there is what the handler left. Otherwise it doesn't matter what `reply` says, but its
+ * pointers have to be right. RAN, NOTIFIED, DUPLICATE, RETURNED; STALE, LATE or REFUSED, and nothing happened. */
 gasnet_c_told gasnet_c_deliver(gasnet_c_node *node, uint64_t now, const uint8_t *bytes, size_t len,
                                const gasnet_c_reply *reply, uint8_t *buffer, size_t room);
 
-/* A request to another node. ACCEPTED, NOT_YET, WORN_OUT, BAD. */
+/* A request to another node. ACCEPTED, NOT_YET, EXHAUSTED, BAD. */
 gasnet_c_told gasnet_c_request(gasnet_c_node *node, uint64_t now, const gasnet_c_ask *ask, uint8_t *buffer,
                                size_t room);
 
-/* A request to the local node, which sends nothing: C ran its handler before this call, and then its reply's where it
+/* A request to the local node, which sends nothing: C ran its handler before this call, and then its reply's if it
  * asked for one, and made no other call in between. `run` is what the request's handler did, and `reply_left` are the
  * bytes at the place of a Long reply. Both are as they stand when both handlers are done. RAN_HERE, BAD. */
 gasnet_c_told gasnet_c_request_own(gasnet_c_node *node, uint64_t now, const gasnet_c_ask *ask, const gasnet_c_run *run,
                                    const uint8_t *reply_left, size_t reply_left_len);
 
-/* Asks an operation on a word of a node. ACCEPTED; RAN_HERE where the node is the local one, and it is done; NOT_YET,
- * WORN_OUT; BAD where no operation has the number, the node isn't there, or a place isn't inside a segment or isn't a
+/* Requests an operation on a word of a node. ACCEPTED; RAN_HERE if the node is the local one, and it is done; NOT_YET,
+ * EXHAUSTED; BAD if no operation has the number, the node isn't there, or a place isn't inside a segment or isn't a
  * multiple of 8. The word and the tag stand at `local` when the request is RETURNED, or when it is RAN_HERE. */
 gasnet_c_told gasnet_c_atomic(gasnet_c_node *node, uint64_t now, const gasnet_c_operation *what, uint8_t *buffer,
                               size_t room);
@@ -281,22 +280,22 @@ gasnet_c_told gasnet_c_serve(gasnet_c_node *node, uint64_t now, const uint8_t *b
 gasnet_c_told gasnet_c_begin(gasnet_c_node *node, uint64_t now, const gasnet_c_move *what);
 
 /* Tries to synchronise the operation with this handle. OK (and the handle is used up; of handle 0 always),
- * NOT_READY, WORN_OUT, BAD. */
+ * NOT_READY, EXHAUSTED, BAD. */
 gasnet_c_told gasnet_c_sync(gasnet_c_node *node, uint64_t now, uint64_t handle);
 
 /* Notifies the barrier: flags are 0 for a named one, 1 for an anonymous one, 2 for a mismatch, 3 for both. OK; BAD out
- * of turn, for other flags, and where the last phase was reached. Its notifications are sent by ticks. */
+ * of turn, for other flags, and if the last phase was reached. Its notifications are sent by ticks. */
 gasnet_c_told gasnet_c_notify(gasnet_c_node *node, uint64_t now, int32_t id, uint8_t flags);
 
-/* Tries the barrier. OK, NOT_READY, MISMATCH, WORN_OUT; BAD out of turn. */
+/* Tries the barrier. OK, NOT_READY, MISMATCH, EXHAUSTED; BAD out of turn. */
 gasnet_c_told gasnet_c_try(gasnet_c_node *node, uint64_t now, int32_t id, uint8_t flags);
 
 /* ---- Collectives over all nodes. Each node starts the same ones in the same order, one at a time:
  * gasnet_c_coll_start, then gasnet_c_coll_step until it was ACCEPTED once for each other node, then gasnet_c_coll_end
  * until it is OK, with deliveries in between. */
 
-/* Makes the collectives of a node: 0; or 1 where the area isn't one, 2 for want of memory, 3 where their handle is live
- * already, GASNET_C_DEAD where the node's is dead. Their area begins at `base` in each segment and has two parts for
+/* Makes the collectives of a node: 0; or 1 if the area isn't one, 2 if memory ran out, 3 if their handle is live
+ * already, GASNET_C_DEAD if the node's is dead. Their area begins at `base` in each segment and has two parts for
  * each node, of GASNET_C_COLLECTIVE_HEADER + `room` bytes: `base` and `room` are multiples of 8, `room` is 8 to 8,192,
  * and it ends inside the segment. All nodes name one area, and nothing else writes there. */
 uint32_t gasnet_c_coll_new(gasnet_c_node *node, gasnet_c_collectives *collectives, uint64_t base, uint64_t room);
@@ -304,18 +303,18 @@ uint32_t gasnet_c_coll_new(gasnet_c_node *node, gasnet_c_collectives *collective
 /* Gives their memory back; before the node's. The handle is dead then, as one of zeros. */
 void gasnet_c_coll_free(gasnet_c_collectives *collectives);
 
-/* Starts the next collective; its bytes are copied. OK; BAD where the one before isn't ended or a part of it is bad;
- * WORN_OUT. */
+/* Starts the next collective; its bytes are copied. OK; BAD if the one before isn't ended or an argument is bad;
+ * EXHAUSTED. */
 gasnet_c_told gasnet_c_coll_start(gasnet_c_node *node, gasnet_c_collectives *collectives, uint64_t now,
                                   const gasnet_c_collective *what);
 
-/* Sends it to the next node that can be asked. ACCEPTED, and the datagram is told; NOTHING where it was sent to all, no
+/* Sends it to the next node that can be asked. ACCEPTED, and the datagram is told; NOTHING if it was sent to all, no
  * other one can be asked now, or none is started. */
 gasnet_c_told gasnet_c_coll_step(gasnet_c_node *node, gasnet_c_collectives *collectives, uint64_t now, uint8_t *buffer,
                                  size_t room);
 
 /* Tries to end it, with the result at `dest` in the local segment. OK; MISMATCH, and it is ended without a result,
- * since the node `to`, the first of these, started another one; NOT_READY; WORN_OUT, by the node `to`; BAD where none
+ * since the node `to`, the first of these, started another one; NOT_READY; EXHAUSTED, by the node `to`; BAD if none
  * is started, or the result passes the end of the segment, shares a byte with the area, or is one of words that this
  * node has and isn't at a multiple of 8. */
 gasnet_c_told gasnet_c_coll_end(gasnet_c_node *node, gasnet_c_collectives *collectives, uint64_t now, uint64_t dest);

@@ -2,34 +2,34 @@
  * includes it.
  *
  * The names that begin with gex_ are GASNet-EX's. All nodes call the same collectives in the same order, each with one
- * kind, root, length, operation and type: where a node finds that another one called with another kind or root, it ends
- * the job with a line. (Nodes whose lengths differ may wait for one another instead, or take pieces of one collective
- * for another's, where it has more than 8,192 bytes a node. Another type isn't found.) Where the threads of a node call
- * collectives at once, the client gives them the order.
+ * kind, root, length, operation and type. A node that finds that another one called with another kind or root ends the
+ * job with a line. (Nodes whose lengths differ may wait for one another instead, or take pieces of one collective for
+ * another's, if it has more than 8,192 bytes a node. Another type isn't found.) If several threads of a node call
+ * collectives, the client orders the calls.
  *
  * Each call begins a collective, and answers an event. `src` is read, and `dst` written, until the event is
- * synchronised, by gex_Event_Wait or as any gasnet_handle_t; between the two any other calls are made. No handler makes
- * them. Both lie anywhere. They may be equal where they are equally long, else they don't overlap, but for the part of
- * `dst` that this node's `src` fills. At a node without a result `dst` isn't read. A collective ends at no node before
- * all have begun it.
+ * synchronised, by gex_Event_Wait or as any gasnet_handle_t; other calls may be made in between. A handler makes none
+ * of these calls. Both lie anywhere. They may be equal if they are equally long; otherwise they don't overlap, but for
+ * the part of `dst` that this node's `src` fills. At a node without a result `dst` isn't read. A collective ends at no
+ * node before all have begun it.
  *
- * No node of the job registers the handler 254 itself; else its first collective ends the job. The team is all nodes,
- * whatever `tm` is, and no flag changes what a call does. */
+ * No client registers the handler 254; if one did, its first collective ends the job. The team is all nodes, whatever
+ * `tm` is, and no flag changes what a call does. */
 #ifndef GASNET_COLL_H
 #define GASNET_COLL_H
 
-/* No node goes on before all have come: GASNET_OK of its event says that all nodes called it. */
+/* A barrier: GASNET_OK of its event says that all nodes called it. */
 gex_Event_t gex_Coll_BarrierNB(gex_TM_t tm, gex_Flags_t flags);
 
-/* Each node gets the `nbytes` bytes at the root's `src` in its `dst`, the root too. Other nodes' `src` isn't read. */
+/* Each node, the root too, receives in its `dst` the `nbytes` bytes at the root's `src`. No other `src` is read. */
 gex_Event_t gex_Coll_BroadcastNB(gex_TM_t tm, gex_Rank_t root, void *dst, const void *src, size_t nbytes,
                                  gex_Flags_t flags);
 
-/* The root gets the `nbytes` bytes at each node's `src` in its `dst`, in the order of the nodes. */
+/* The root receives in its `dst` the `nbytes` bytes at each node's `src`, in the order of the nodes. */
 gex_Event_t gasnet_coll_gather_nb(gex_TM_t tm, gex_Rank_t root, void *dst, const void *src, size_t nbytes,
                                   gex_Flags_t flags);
 
-/* Each node does. */
+/* As above; each node receives the result. */
 gex_Event_t gasnet_coll_gather_all_nb(gex_TM_t tm, void *dst, const void *src, size_t nbytes, gex_Flags_t flags);
 
 /* ---- Reductions, of GEX_DT_U64 and GEX_DT_I64 by GEX_OP_ADD (modulo 2^64), GEX_OP_MIN and GEX_OP_MAX: place by place
@@ -37,16 +37,16 @@ gex_Event_t gasnet_coll_gather_all_nb(gex_TM_t tm, void *dst, const void *src, s
  * `user_cdata` aren't read. */
 typedef void (*gex_Coll_ReduceFn_t)(const void *arg1, void *arg2_and_out, size_t count, const void *cdata);
 
-/* The root gets the words. */
+/* The root receives the words. */
 gex_Event_t gex_Coll_ReduceToOneNB(gex_TM_t tm, gex_Rank_t root, void *dst, const void *src, gex_DT_t dt, size_t dt_sz,
                                    size_t dt_cnt, gex_OP_t op, gex_Coll_ReduceFn_t user_op, void *user_cdata,
                                    gex_Flags_t flags);
 
-/* Each node does. */
+/* As above; each node receives the result. */
 gex_Event_t gex_Coll_ReduceToAllNB(gex_TM_t tm, void *dst, const void *src, gex_DT_t dt, size_t dt_sz, size_t dt_cnt,
                                    gex_OP_t op, gex_Coll_ReduceFn_t user_op, void *user_cdata, gex_Flags_t flags);
 
-/* ---- The same, and then waited for. */
+/* ---- The same calls, which wait for the end. */
 
 static inline void gasnet_coll_barrier(gex_TM_t tm, gex_Flags_t flags) {
     gex_Event_Wait(gex_Coll_BarrierNB(tm, flags));

@@ -1,9 +1,9 @@
 /* Puts and gets of many pieces: vector, indexed and strided. gasnet.h includes it.
  *
- * Each moves the bytes of the source's ranges, in order, to those of the destination's, in order. Both sides have as
- * many bytes. No two ranges of the destination share a byte, and none shares one with the source. The far ranges lie in
+ * Each moves the bytes of the source's ranges, in order, to the destination's, in order. Both sides have equally many
+ * bytes. No two ranges of the destination share a byte, and none shares one with the source. The far ranges lie in
  * the node's segment, the near ones anywhere. The sources may be read until the transfer is synchronised, as of other
- * bulk transfers; the lists, strides and counts are read in the call alone. Small pieces go together, as many in a
+ * bulk transfers; the lists, strides and counts are read in the call alone. Small pieces go packed, as many in a
  * message as one packet takes. */
 #ifndef GASNET_VIS_H
 #define GASNET_VIS_H
