@@ -115,6 +115,17 @@ for way in thread poll; do
 done
 check "threads leave nothing" 0 "" bin/gasnetrun -n 2 out/tests/leaks
 
+# Handlers with a count of their own, requested from their own node; and the memory that the proved library gives back.
+for build in out out/sanitized; do
+    kind=${build#out}
+    kind=${kind:+ sanitized}
+    for n in 1 2; do
+        check "own n=$n$kind" 0 "" env GASNET_DROP=10 GASNET_TWICE=10 GASNET_SWAP=10 GASNET_SEED=$n GASNET_RESEND=5 \
+            bin/gasnetrun -n $n $build/tests/own
+    done
+    check "freed$kind" 0 "" $build/tests/freed
+done
+
 # The records of gasnet_c.h have the layouts of the proved library: with two fields exchanged the layer isn't compiled.
 changed_layout() {
     mkdir -p out/changed
