@@ -9,3 +9,7 @@ mod Registering
 mod CollectivesCross
 pub mod CollectiveCalling
 mod OwnRuns
+mod EventsAlike
+mod Growing
+mod Meanings
+mod MeaningsOfC

@@ -14,3 +14,4 @@ pub mod ServingLawful
 pub mod SenderWholes
 pub mod CollectivesHeld
 pub mod CollectiveCalls
+pub mod Meanings

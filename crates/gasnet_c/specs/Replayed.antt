@@ -1,8 +1,7 @@
 -- What the runs of handlers give that C ran already.
-use Rattle.std.specs.Prelude.{ℕ, ℤ, pos, ◌+◌, ◌==◌, ◌||◌, nat_lt, if◌then◌else◌, List, length, Option, Some, None}
-use Rattle.std.specs.Prelude.{slice_index_or, slice_set}
-use Rattle.std.specs.Ordering.{int_eq}
-use Rattle.std.specs.Int.{w32, int_wrapping_add}
+use Rattle.std.specs.Prelude.{ℕ, ℤ, pos, ◌+◌, ◌%◌, ◌^◌, ◌==◌, ◌||◌, nat_lt, if◌then◌else◌, List, length, Option, Some}
+use Rattle.std.specs.Prelude.{None, slice_index_or, slice_set}
+use Rattle.wire_message.specs.Notifications.{high_half, joined_halves, low_half}
 use Rattle.part_segment.specs.Image.{Write, overwritten}
 use Rattle.wire_message.specs.Content.{short_reply, medium_reply, long_reply}
 use Rattle.part_handlers.specs.declared.rules.Role.{Role}
@@ -63,13 +62,17 @@ outcome_of_run run frame start = answering run.reply frame (leaving run.left.now
 
 -- ---- a request to the local node
 
--- one more is counted in two cells, the low half first
+-- how many of them were counted, modulo 2^64: the number in two cells, the low half first
+abbrev pub own_count : List ℤ → ℕ
+own_count cells = joined_halves (slice_index_or cells 1 (pos 0)) (slice_index_or cells 0 (pos 0))
+
+-- the two cells have this number
+abbrev pub with_count : (count : ℕ) → List ℤ → List ℤ
+with_count count cells = slice_set (slice_set cells 0 (low_half count)) 1 (high_half count)
+
+-- one more is counted
 abbrev pub with_one_more : List ℤ → List ℤ
-with_one_more cells =
-    let low = int_wrapping_add w32 (slice_index_or cells 0 (pos 0)) (pos 1) in
-    let counted = slice_set cells 0 low in
-    if int_eq low (pos 0) then slice_set counted 1 (int_wrapping_add w32 (slice_index_or counted 1 (pos 0)) (pos 1))
-    else counted
+with_one_more cells = with_count ((own_count cells + 1) % 2 ^ 64) cells
 
 -- what the request's handler finds, which is counted
 abbrev pub with_own_run : Start → Start

@@ -56,7 +56,8 @@ pub extern "C" fn gasnet_c_coll_new(
     }
 }
 
-/// Ends the collectives of a node, and gives their memory back. Their handle is dead then. A dead one stays as it is.
+/// Ends the collectives of a node. Their handle is dead then; a dead one stays as it is. Their memory is given back,
+/// which is tested.
 #[unsafe(no_mangle)]
 pub extern "C" fn gasnet_c_coll_free(alloc: Global, collectives: &mut CollectivesHandle)
     requires { HasCollectives collectives.old }

@@ -14,6 +14,11 @@
 //! calls of `node_collectives` at a caller of the node [`StartsFor`, `StepsFor`, `EndsFor`], and C is told the number of
 //! their answer, and the datagram that a step sends. C owes that both handles are of one node (`AreOfNode`).
 //!
+//! C's handlers may keep a state outside of the segment, and answer by it. Still one meaning of handlers holds of all
+//! events of a run, as the laws of whole runs ask [`every_job`, `COfOneMeaning`]: no two runs of handlers find the
+//! same, since messages of other nodes have numbers, and requests to the local node are counted in two cells. C owes
+//! for it that handlers 252 to 254 are the library's own.
+//!
 //! A handle is dead or whole, and each call keeps it so. A dead one is told `GASNET_C_DEAD`, and stays as it is. What C
 //! owes beside that, which nothing checks: the handle began as zeros, and C neither copies, reads nor writes it; each
 //! pointer leads to as many values as its length says, and is never null; none of them leads into the handle or into
@@ -29,6 +34,7 @@ mod collectives_handle;
 mod collectives_place;
 mod coming;
 mod handle;
+mod law;
 mod memory;
 mod messages;
 mod node;
@@ -53,6 +59,7 @@ pub use collectives_handle::CollectivesHandle;
 pub use collectives_place::CollectivesPlace;
 pub use coming::Coming;
 pub use handle::Handle;
+pub use law::every_job;
 pub use memory::Memory;
 pub use messages::{Ask, gasnet_c_deliver, gasnet_c_peek, gasnet_c_request, gasnet_c_request_own};
 pub use node_place::NodePlace;

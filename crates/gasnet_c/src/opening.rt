@@ -132,8 +132,8 @@ pub extern "C" fn gasnet_c_new(
     }
 }
 
-/// Ends a node, and gives all memory back that the library took. The handle is dead then. The segment's memory is that
-/// of whoever reserved it again. A dead handle stays as it is.
+/// Ends a node: the handle is dead then, and the segment's memory is that of whoever reserved it again. A dead handle
+/// stays as it is. All memory that the library took is given back; that is tested, and no clause says it.
 #[unsafe(no_mangle)]
 pub extern "C" fn gasnet_c_free(alloc: Global, handle: &mut Handle)
     requires { IsWhole handle.old }

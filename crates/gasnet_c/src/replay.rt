@@ -5,6 +5,7 @@ ghost use Rattle.gasnet_c.specs.Replayed.{left_write, overwritten_if, with_one_m
 
 use part_handlers::{Cells, Handlers, Role, Token};
 use part_segment::Segment;
+use wire_message::{high_half, joined, low_half};
 
 /// The reply that a handler asked for: `gasnet_c_reply`.
 #[repr(C)]
@@ -60,8 +61,8 @@ pub struct Left<'a> {
 
 /// What the two handlers of a request to the local node did.
 ///
-/// Both run in one event, the request's first. Each such request is counted in two cells, so that no two of them find
-/// the same cells, whatever the handlers keep outside of the segment.
+/// Both run in one event, the request's first. Each such request is counted in two cells, modulo 2^64, so that no two
+/// of so many find the same cells, whatever the handlers keep outside of the segment.
 #[derive(Clone, Copy)]
 pub struct OwnRuns<'a> {
     /// What the request's handler did.
@@ -75,15 +76,13 @@ const LOW: u8 = 0;
 /// The cell of its high half.
 const HIGH: u8 = 1;
 
-/// One more request to the local node is counted, modulo 2^64.
+/// One more request to the local node is counted: the number in the two cells rises by 1, modulo 2^64.
 fn count_one(cells: &mut Cells)
     ensures { cells.new ≡ with_one_more cells.old }
 {
-    let low = cells.get(LOW).wrapping_add(1);
-    cells.set(LOW, low);
-    if low == 0 {
-        cells.set(HIGH, cells.get(HIGH).wrapping_add(1));
-    }
+    let count = joined(cells.get(HIGH), cells.get(LOW)).wrapping_add(1);
+    cells.set(LOW, low_half(count));
+    cells.set(HIGH, high_half(count));
 }
 
 /// Writes bytes at a Long's place, where there are some and they fit.
