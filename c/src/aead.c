@@ -21,8 +21,14 @@ bool gasnetl_aead_opens_by(struct gasnetl_aead *aead, enum gasnetl_cipher cipher
     return false;
 }
 
-bool gasnetl_aead_seal(struct gasnetl_aead *aead, uint64_t number, uint8_t *at, size_t front, size_t length) {
-    (void)aead, (void)number, (void)at, (void)front, (void)length;
+bool gasnetl_aead_rekey(struct gasnetl_aead *aead, const struct gasnetl_secret *secret) {
+    (void)aead, (void)secret;
+    return false;
+}
+
+bool gasnetl_aead_seal(struct gasnetl_aead *aead, uint64_t number, uint8_t *at, size_t front,
+                       struct gasnetl_span text) {
+    (void)aead, (void)number, (void)at, (void)front, (void)text;
     return false;
 }
 
@@ -96,21 +102,27 @@ bool gasnetl_aead_opens_by(struct gasnetl_aead *aead, enum gasnetl_cipher cipher
     return EVP_DecryptInit_ex(aead->context, cipher_of(cipher), NULL, secret->key, NULL);
 }
 
+bool gasnetl_aead_rekey(struct gasnetl_aead *aead, const struct gasnetl_secret *secret) {
+    memcpy(aead->nonce, secret->nonce, sizeof aead->nonce);
+    return EVP_CipherInit_ex(aead->context, NULL, NULL, secret->key, NULL, -1);
+}
+
 static void make_nonce(const struct gasnetl_aead *aead, uint64_t number, uint8_t nonce[GASNETL_NONCE_BYTES]) {
     memcpy(nonce, aead->nonce, GASNETL_NONCE_BYTES);
     for (int i = 0; i < 8; i++)
         nonce[GASNETL_NONCE_BYTES - 1 - i] ^= (uint8_t)(number >> 8 * i);
 }
 
-bool gasnetl_aead_seal(struct gasnetl_aead *aead, uint64_t number, uint8_t *at, size_t front, size_t length) {
-    uint8_t nonce[GASNETL_NONCE_BYTES], *bytes = at + front;
+bool gasnetl_aead_seal(struct gasnetl_aead *aead, uint64_t number, uint8_t *at, size_t front,
+                       struct gasnetl_span text) {
+    uint8_t nonce[GASNETL_NONCE_BYTES], *bytes = at + front, *tag = bytes + text.length;
     int count;
     make_nonce(aead, number, nonce);
     return EVP_EncryptInit_ex(aead->context, NULL, NULL, NULL, nonce) &&
            (!front || EVP_EncryptUpdate(aead->context, NULL, &count, at, (int)front)) &&
-           (!length || EVP_EncryptUpdate(aead->context, bytes, &count, bytes, (int)length)) &&
-           EVP_EncryptFinal_ex(aead->context, bytes + length, &count) &&
-           EVP_CIPHER_CTX_ctrl(aead->context, EVP_CTRL_AEAD_GET_TAG, GASNETL_TAG_BYTES, bytes + length) > 0;
+           (!text.length || EVP_EncryptUpdate(aead->context, bytes, &count, text.bytes, (int)text.length)) &&
+           EVP_EncryptFinal_ex(aead->context, tag, &count) &&
+           EVP_CIPHER_CTX_ctrl(aead->context, EVP_CTRL_AEAD_GET_TAG, GASNETL_TAG_BYTES, tag) > 0;
 }
 
 bool gasnetl_aead_open(struct gasnetl_aead *aead, uint64_t number, uint8_t *at, size_t front, size_t length) {

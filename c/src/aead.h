@@ -41,9 +41,13 @@ bool gasnetl_aead_start(struct gasnetl_aead *aead);
 bool gasnetl_aead_seals_by(struct gasnetl_aead *aead, enum gasnetl_cipher cipher, const struct gasnetl_secret *secret);
 bool gasnetl_aead_opens_by(struct gasnetl_aead *aead, enum gasnetl_cipher cipher, const struct gasnetl_secret *secret);
 
-/* Seals a datagram in its place, as the one of this number: `front` bytes, which stay readable, and behind them
- * `length` bytes, which don't. The tag goes behind both. No number is taken twice under a key. */
-bool gasnetl_aead_seal(struct gasnetl_aead *aead, uint64_t number, uint8_t *at, size_t front, size_t length);
+/* Gives it another key for what it does: without an allocation. */
+bool gasnetl_aead_rekey(struct gasnetl_aead *aead, const struct gasnetl_secret *secret);
+
+/* Seals a text as the datagram of this number: `front` bytes stand there, and stay readable; the text goes behind them,
+ * encrypted, and the tag of both behind that. The text may be what stands there. No number is taken twice under a key.
+ */
+bool gasnetl_aead_seal(struct gasnetl_aead *aead, uint64_t number, uint8_t *at, size_t front, struct gasnetl_span text);
 
 /* Opens one that was sealed so, in its place. False where any of its bytes, its tag's too, isn't what it was: what
  * stands there then is of no use. */

@@ -237,6 +237,7 @@ static void take_size(struct gasnetl_job *job, uint16_t from, const struct datag
         return;
     job->segment.sizes[from] = hello->first;
     control->ways[from] = (struct gasnetl_way){ gasnetl_path_chunk(&job->network, from, mtu), mtu, hello->buffer };
+    job->network.packet[from] = gasnetl_path_packet(&job->network, from, mtu);
     limit_messages(job, from, mtu);
     control->knows_size[from] = true;
 }

@@ -65,7 +65,7 @@ static bool make_tables(struct gasnetl_job *job) {
            MAKES(control->knows_we_left) && MAKES(control->ways) && MAKES(control->mtu) && MAKES(job->segment.bases) &&
            MAKES(job->segment.sizes) && MAKES(job->transfers.lanes) && MAKES(job->recovery.paths) &&
            MAKES(job->peers.of) && MAKES(job->packs.serves) && MAKES(job->packs.lanes) &&
-           MAKES(job->network.is_unsealed) && MAKES(job->network.single_from);
+           MAKES(job->network.is_unsealed) && MAKES(job->network.single_from) && MAKES(job->network.packet);
 }
 
 static int start(struct gasnetl_job *job, int threaded) {

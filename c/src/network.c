@@ -11,6 +11,7 @@
 #include <unistd.h>
 
 #include "sockets.h"
+#include "words.h"
 
 /* What the C library has of these is a point of cancellation: that costs where the process has a second thread. */
 static ssize_t send_message(int socket, const struct msghdr *message) {
@@ -45,11 +46,12 @@ static bool is_refusal(struct msghdr *message) {
     return false;
 }
 
-/* Hands on the front of a datagram that came back, as it was before it was sealed. */
+/* Hands on the front of a datagram that came back, or, where it was sealed, of its first message. */
 static void hand_back(struct gasnetl_network *network, uint16_t node, uint8_t *front, size_t length) {
+    const size_t before = network->seals.is_set ? GASNETL_LENGTH_BYTES : 0;
     const uint8_t *bytes = network->seals.is_set ? gasnetl_uncover(&network->seals, node, front, &length) : front;
-    if (bytes)
-        network->came_back(network->job, node, bytes, length);
+    if (bytes && length > before)
+        network->came_back(network->job, node, bytes + before, length - before);
 }
 
 /* Takes ICMP's messages: port unreachable, with the front of the datagram that was refused. */
@@ -231,18 +233,6 @@ static void send_waiting(struct gasnetl_network *network) {
     going->first = going->end;
 }
 
-void gasnetl_network_flush(struct gasnetl_network *network) {
-    send_waiting(network);
-    network->going.first = network->going.end = 0;
-}
-
-uint8_t *gasnetl_network_room(struct gasnetl_network *network) {
-    const struct gasnetl_going *going = &network->going;
-    if (sizeof going->bytes - going->end < GASNETL_DATAGRAM)
-        gasnetl_network_flush(network);
-    return network->going.bytes + going->end + (network->seals.is_set ? GASNETL_SEAL_FRONT : 0);
-}
-
 /* Whether a datagram of so many bytes may go with those that wait. */
 static bool may_join(const struct gasnetl_network *network, uint16_t to, size_t length) {
     const struct gasnetl_going *going = &network->going;
@@ -251,17 +241,9 @@ static bool may_join(const struct gasnetl_network *network, uint16_t to, size_t 
            is_even && going->count < GASNETL_GROUP && going->end - going->first + length <= GASNETL_GROUP_BYTES;
 }
 
-/* Puts a datagram behind those that wait. */
-static void put_behind(void *at, uint16_t to, const void *bytes, size_t length) {
-    struct gasnetl_network *network = at;
+/* A datagram stands behind those that wait. */
+static void stands_behind(struct gasnetl_network *network, uint16_t to, size_t length) {
     struct gasnetl_going *going = &network->going;
-    uint8_t *place = gasnetl_network_room(network);
-    if (bytes != place)
-        memcpy(place, bytes, length);
-    if (network->seals.is_set && !(length = gasnetl_seal(&network->seals, to, going->bytes + going->end, length))) {
-        network->unsent++;
-        return;
-    }
     if (going->count && !may_join(network, to, length))
         send_waiting(network);
     if (!going->count++) {
@@ -269,6 +251,79 @@ static void put_behind(void *at, uint16_t to, const void *bytes, size_t length) 
         going->each = length;
     }
     going->end += length;
+}
+
+/* Seals the messages that wait for that, as one datagram. A group that has no room for another such one goes at once.
+ */
+static void seal_filling(struct gasnetl_network *network) {
+    struct gasnetl_filling *filling = &network->filling;
+    struct gasnetl_going *going = &network->going;
+    const size_t length = filling->end - filling->first;
+    if (!length)
+        return;
+    if (sizeof going->bytes - going->end < GASNETL_SEALED_MOST)
+        send_waiting(network);
+    if (!going->count)
+        going->first = going->end = 0;
+    const size_t sealed =
+        gasnetl_seal(&network->seals, filling->to, going->bytes + going->end, filling->bytes + filling->first, length);
+    filling->first = filling->end;
+    if (sealed)
+        stands_behind(network, filling->to, sealed);
+    else
+        network->unsent++;
+    if (going->count && !may_join(network, going->to, going->each))
+        send_waiting(network);
+}
+
+void gasnetl_network_flush(struct gasnetl_network *network) {
+    seal_filling(network);
+    send_waiting(network);
+    network->going.first = network->going.end = 0;
+    network->filling.first = network->filling.end = 0;
+}
+
+uint8_t *gasnetl_network_room(struct gasnetl_network *network) {
+    const bool is_sealed = network->seals.is_set;
+    const size_t end = is_sealed ? network->filling.end : network->going.end;
+    if (2 * GASNETL_GROUP_BYTES - end < GASNETL_DATAGRAM)
+        gasnetl_network_flush(network);
+    if (is_sealed)
+        return network->filling.bytes + network->filling.end + GASNETL_LENGTH_BYTES;
+    return network->going.bytes + network->going.end;
+}
+
+/* Whether a message of so many bytes may go with those that wait to be sealed. */
+static bool may_fill(const struct gasnetl_network *network, uint16_t to, size_t length) {
+    const struct gasnetl_filling *filling = &network->filling;
+    return filling->to == to && filling->end - filling->first + GASNETL_LENGTH_BYTES + length <= network->packet[to];
+}
+
+/* Puts a message, which stands behind those that wait to be sealed, into their datagram, or into the next one. One that
+ * has no room for another such message is sealed at once. */
+static void fill(struct gasnetl_network *network, uint16_t to, size_t length) {
+    struct gasnetl_filling *filling = &network->filling;
+    if (!may_fill(network, to, length))
+        seal_filling(network);
+    gasnetl_word_write(filling->bytes + filling->end, length, GASNETL_LENGTH_BYTES);
+    filling->to = to;
+    filling->end += GASNETL_LENGTH_BYTES + length;
+    if (may_fill(network, to, length))
+        return;
+    seal_filling(network);
+    filling->first = filling->end = 0;
+}
+
+/* Puts a datagram behind those that wait. */
+static void put_behind(void *at, uint16_t to, const void *bytes, size_t length) {
+    struct gasnetl_network *network = at;
+    uint8_t *place = gasnetl_network_room(network);
+    if (bytes != place)
+        memcpy(place, bytes, length);
+    if (network->seals.is_set)
+        fill(network, to, length);
+    else
+        stands_behind(network, to, length);
 }
 
 void gasnetl_network_send(struct gasnetl_network *network, uint16_t to, const void *bytes, size_t length) {
@@ -295,7 +350,7 @@ static size_t bytes_of_one(struct msghdr *message, size_t got) {
 /* Notes what a message of the system brought. Those of strangers are dropped and counted. */
 static void note_arrival(struct gasnetl_network *network, struct gasnetl_arrival *arrival, struct msghdr *message,
                          size_t got) {
-    arrival->first = arrival->end = 0;
+    arrival->first = arrival->end = arrival->message = arrival->last = 0;
     arrival->from = gasnetl_places_find(&network->places, message->msg_name);
     if (arrival->from == GASNETL_NO_NODE || arrival->from == network->me || !got) {
         network->strays++;
@@ -382,21 +437,14 @@ static bool receive_more(struct gasnetl_network *network) {
     return is_error || got >= 0;
 }
 
-/* Where a datagram stands that came, where a key is set: NULL where it didn't seal it. */
-static uint8_t *open_sealed(struct gasnetl_network *network, uint16_t from, uint8_t *bytes, size_t *length) {
-    if (!network->seals.is_set)
-        return bytes;
-    uint8_t *inside = gasnetl_open(&network->seals, from, bytes, length);
-    if (!inside) {
-        network->unsealed++;
-        network->is_unsealed[from] = true;
-    }
-    return inside;
+/* Whether datagrams of an arrival, or messages of one of these, weren't taken yet. */
+static bool has_more(const struct gasnetl_arrival *arrival) {
+    return arrival->first < arrival->end || arrival->message < arrival->last;
 }
 
 /* The arrival that is taken from; NULL where all were taken. */
 static struct gasnetl_arrival *arrival_now(struct gasnetl_coming *coming) {
-    while (coming->next < coming->count && coming->of[coming->next].first >= coming->of[coming->next].end)
+    while (coming->next < coming->count && !has_more(&coming->of[coming->next]))
         coming->next++;
     return coming->next < coming->count ? &coming->of[coming->next] : NULL;
 }
@@ -415,22 +463,66 @@ static struct gasnetl_arrival *next_arrival(struct gasnetl_network *network) {
     return arrival;
 }
 
+/* The next datagram of an arrival, and its length. */
+static uint8_t *next_datagram(struct gasnetl_arrival *arrival, size_t *length) {
+    uint8_t *bytes = arrival->bytes + arrival->first;
+    const size_t left = arrival->end - arrival->first;
+    *length = left < arrival->each ? left : arrival->each;
+    arrival->first += *length;
+    return bytes;
+}
+
+/* Opens the next datagram of an arrival. False where the key didn't seal it. */
+static bool open_next(struct gasnetl_network *network, struct gasnetl_arrival *arrival) {
+    size_t length;
+    uint8_t *sealed = next_datagram(arrival, &length),
+            *inside = gasnetl_open(&network->seals, arrival->from, sealed, &length);
+    if (!inside) {
+        network->unsealed++;
+        network->is_unsealed[arrival->from] = true;
+        return false;
+    }
+    network->received++;
+    arrival->message = (size_t)(inside - arrival->bytes);
+    arrival->last = arrival->message + length;
+    return true;
+}
+
+/* The next message of a datagram that was opened, and its length; NULL where the datagram has no whole one. */
+static uint8_t *next_message(struct gasnetl_arrival *arrival, size_t *length) {
+    uint8_t *bytes = arrival->bytes + arrival->message;
+    const size_t left = arrival->last - arrival->message;
+    *length = left > GASNETL_LENGTH_BYTES ? gasnetl_word_read(bytes, GASNETL_LENGTH_BYTES) : 0;
+    if (!*length || *length > left - GASNETL_LENGTH_BYTES) {
+        arrival->message = arrival->last;
+        return NULL;
+    }
+    arrival->message += GASNETL_LENGTH_BYTES + *length;
+    return bytes + GASNETL_LENGTH_BYTES;
+}
+
+/* What is next of an arrival; NULL where it is of no use. */
+static uint8_t *next_of(struct gasnetl_network *network, struct gasnetl_arrival *arrival, size_t *length) {
+    if (!network->seals.is_set) {
+        network->received++;
+        return next_datagram(arrival, length);
+    }
+    if (arrival->message >= arrival->last && !open_next(network, arrival))
+        return NULL;
+    return next_message(arrival, length);
+}
+
 const uint8_t *gasnetl_network_receive(struct gasnetl_network *network, size_t *length, uint16_t *from) {
     for (int stray = 0; stray < GASNETL_STRAYS; stray++) {
         struct gasnetl_arrival *arrival = next_arrival(network);
         if (!arrival)
             return NULL;
-        uint8_t *bytes = arrival->bytes + arrival->first;
-        const size_t left = arrival->end - arrival->first;
-        *length = left < arrival->each ? left : arrival->each;
-        arrival->first += *length;
         *from = arrival->from;
-        bytes = open_sealed(network, arrival->from, bytes, length);
+        const uint8_t *bytes = next_of(network, arrival, length);
         if (!bytes)
             continue;
         if (*length > GASNETL_DATAGRAM)
             *length = GASNETL_DATAGRAM;
-        network->received++;
         return bytes;
     }
     return NULL;
@@ -439,6 +531,7 @@ const uint8_t *gasnetl_network_receive(struct gasnetl_network *network, size_t *
 void gasnetl_network_forget(struct gasnetl_network *network) {
     network->going.count = 0;
     network->going.first = network->going.end = 0;
+    network->filling.first = network->filling.end = 0;
     network->coming.count = network->coming.next = 0;
 }
 

@@ -13,9 +13,11 @@
 #include "seal.h"
 
 enum {
-    GASNETL_DATAGRAM = GASNET_C_ROOM + GASNETL_SEAL_BYTES, /* the bytes of a datagram of ours at most */
-    GASNETL_GROUP = 64,                                    /* the datagrams of a group at most, and their bytes */
-    GASNETL_GROUP_BYTES = 65000,
+    GASNETL_LENGTH_BYTES = 2, /* of the length before a message in a sealed datagram */
+    /* The bytes of a datagram of ours at most, but for a sealed one of several messages. */
+    GASNETL_DATAGRAM = GASNET_C_ROOM + GASNETL_LENGTH_BYTES + GASNETL_SEAL_BYTES,
+    GASNETL_GROUP = 64, /* the datagrams of a group at most, and their bytes */
+    GASNETL_GROUP_BYTES = GASNETL_SEALED_MOST,
     GASNETL_ARRIVALS = 16,                            /* what one call of the system receives at most */
     GASNETL_TRAIN_BYTES = 1 << 16,                    /* the bytes of one of these at most */
     GASNETL_ARRIVAL_BYTES = GASNETL_TRAIN_BYTES + 192 /* so that two of them don't share lines of a cache */
@@ -30,10 +32,20 @@ struct gasnetl_going {
     uint8_t bytes[2 * GASNETL_GROUP_BYTES];
 };
 
+/* Where a key is set: messages to one node, each behind its length, that are to be sealed as one datagram, of as many
+ * as a packet of the way takes. To seal a datagram, or to open it, costs as much as a kilobyte of it beside its bytes.
+ */
+struct gasnetl_filling {
+    uint16_t to;
+    size_t first, end; /* where in `bytes` they begin and end */
+    uint8_t bytes[2 * GASNETL_GROUP_BYTES];
+};
+
 /* Datagrams of one sender that the system received together (UDP_GRO), in the same form. */
 struct gasnetl_arrival {
     uint16_t from;
     size_t each, first, end; /* where those begin that weren't taken yet */
+    size_t message, last;    /* of one that was opened: the same of its messages */
     uint8_t bytes[GASNETL_ARRIVAL_BYTES];
 };
 
@@ -62,6 +74,8 @@ struct gasnetl_network {
     bool *is_unsealed;            /* of each node: a datagram without a right tag came from its address */
     size_t *single_from;          /* the way to the node has no groups of datagrams of so many bytes */
     struct gasnetl_seals seals;   /* where a key is set, all datagrams are sealed */
+    uint32_t *packet;             /* the bytes of what is sealed to each node for one packet; 0 where it isn't known */
+    struct gasnetl_filling filling;
     struct gasnetl_going going;
     struct gasnetl_coming coming;
     uint64_t sent, received, strays, unsealed, unsent;
@@ -85,8 +99,9 @@ void gasnetl_network_flush(struct gasnetl_network *network);
 
 /* Takes the next datagram that came from a node of the job, and sends what waits before it asks the system for one. Its
  * bytes, which stay until the next call, how many they are, cut to GASNETL_DATAGRAM, and its sender; NULL where none is
- * there. It doesn't wait. Others' datagrams are dropped and counted, and so are, where a key is set, those that it
- * didn't seal; after GASNETL_STRAYS of both it answers NULL, so that a flood of them holds up nothing. */
+ * there. It doesn't wait. Where a key is set these are the messages of what it opens, one by one. Others' datagrams are
+ * dropped and counted, and so are those that the key didn't seal; after GASNETL_STRAYS of both it answers NULL, so that
+ * a flood of them holds up nothing. */
 const uint8_t *gasnetl_network_receive(struct gasnetl_network *network, size_t *length, uint16_t *from);
 
 /* Whether a datagram was received already, and not taken. */

@@ -53,11 +53,15 @@ uint32_t gasnetl_path_mtu(const struct gasnetl_network *network, uint16_t node) 
     return is_known && mtu > 0 ? (uint32_t)mtu : USUAL_MTU;
 }
 
+/* The bytes of a packet's headers, and of what a key adds. */
+static uint32_t bytes_around(const struct gasnetl_network *network, uint16_t node) {
+    return (is_ipv6(network, node) ? IPV6_HEADER : IPV4_HEADER) + UDP_HEADER +
+           (network->seals.is_set ? GASNETL_SEAL_BYTES : 0);
+}
+
 /* The greatest payload that stands behind so many bytes of a message in a packet. */
 static uint32_t payload_behind(const struct gasnetl_network *network, uint16_t node, uint32_t mtu, uint32_t front) {
-    front += (is_ipv6(network, node) ? IPV6_HEADER : IPV4_HEADER) + UDP_HEADER;
-    if (network->seals.is_set)
-        front += GASNETL_SEAL_BYTES;
+    front += bytes_around(network, node) + (network->seals.is_set ? GASNETL_LENGTH_BYTES : 0);
     uint32_t payload = mtu > front ? (mtu - front) / GRAIN * GRAIN : 0;
     if (payload < LEAST_CHUNK)
         return LEAST_CHUNK;
@@ -70,6 +74,13 @@ uint32_t gasnetl_path_chunk(const struct gasnetl_network *network, uint16_t node
 
 uint32_t gasnetl_path_message(const struct gasnetl_network *network, uint16_t node, uint32_t mtu) {
     return payload_behind(network, node, mtu, MESSAGE_HEADER + ARGUMENTS);
+}
+
+uint32_t gasnetl_path_packet(const struct gasnetl_network *network, uint16_t node, uint32_t mtu) {
+    const uint32_t around = bytes_around(network, node), most = GASNETL_SEALED_MOST - GASNETL_SEAL_BYTES;
+    if (mtu <= around)
+        return 0;
+    return mtu - around < most ? mtu - around : most;
 }
 
 uint64_t gasnetl_path_buffer(const struct gasnetl_network *network, unsigned peers) {

@@ -19,6 +19,9 @@ uint32_t gasnetl_path_chunk(const struct gasnetl_network *network, uint16_t node
 /* The same of a message, which may have arguments before its payload. It is never less than 512 bytes. */
 uint32_t gasnetl_path_message(const struct gasnetl_network *network, uint16_t node, uint32_t mtu);
 
+/* The bytes that a key seals for one packet of this MTU to a node. */
+uint32_t gasnetl_path_packet(const struct gasnetl_network *network, uint16_t node, uint32_t mtu);
+
 /* The bytes that each of so many peers may have on the way to this node, so that all of them fit into the socket's
  * receive buffer. The system tells twice what datagrams may have there, since it counts what it needs for itself. At
  * least those of one datagram. */

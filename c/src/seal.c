@@ -171,32 +171,33 @@ void gasnetl_seals_confirm(struct gasnetl_seals *seals, uint16_t from) {
 /* ---- What is sealed. */
 
 /* The number is taken before it is used: whoever is interrupted in between takes it no second time. */
-static size_t seal_as(struct gasnetl_sealing *sealing, unsigned kind, uint8_t *place, size_t front, size_t length) {
+static size_t seal_as(struct gasnetl_sealing *sealing, unsigned kind, uint8_t *sealed, size_t front,
+                      struct gasnetl_span text) {
     const uint64_t number = sealing->next;
     if (number >= most_numbers)
         return 0;
     sealing->next = number + 1;
-    place[0] = (uint8_t)kind;
-    gasnetl_word_write(place + 1, number, NUMBER_BYTES);
-    return gasnetl_aead_seal(&sealing->aead, number, place, front, length) ? front + length + GASNETL_TAG_BYTES : 0;
+    sealed[0] = (uint8_t)kind;
+    gasnetl_word_write(sealed + 1, number, NUMBER_BYTES);
+    return gasnetl_aead_seal(&sealing->aead, number, sealed, front, text) ? front + text.length + GASNETL_TAG_BYTES : 0;
 }
 
-static size_t seal_greeting(struct gasnetl_seals *seals, uint16_t to, uint8_t *place, size_t length) {
-    if (length > GASNETL_GREETING_MOST)
+static size_t seal_greeting(struct gasnetl_seals *seals, uint16_t to, uint8_t *sealed, struct gasnetl_span text) {
+    if (text.length > GASNETL_GREETING_MOST)
         return 0;
-    memmove(place + GASNETL_GREETING_FRONT, place + GASNETL_SEAL_FRONT, length);
-    memcpy(place + GASNETL_SEAL_FRONT, seals->process, GASNETL_PROCESS_BYTES);
-    return seal_as(&seals->peers[to].greetings, SEALED + GREETING + (unsigned)seals->cipher, place,
-                   GASNETL_GREETING_FRONT, length);
+    memcpy(sealed + GASNETL_SEAL_FRONT, seals->process, GASNETL_PROCESS_BYTES);
+    return seal_as(&seals->peers[to].greetings, SEALED + GREETING + (unsigned)seals->cipher, sealed,
+                   GASNETL_GREETING_FRONT, text);
 }
 
-size_t gasnetl_seal(struct gasnetl_seals *seals, uint16_t to, uint8_t *place, size_t length) {
+size_t gasnetl_seal(struct gasnetl_seals *seals, uint16_t to, uint8_t *sealed, const uint8_t *bytes, size_t length) {
     struct gasnetl_sealed_peer *peer = &seals->peers[to];
+    const struct gasnetl_span text = { bytes, length };
     if (!*seals->is_first)
         return 0;
     if (!peer->is_confirmed)
-        return seal_greeting(seals, to, place, length);
-    return seal_as(&peer->messages, SEALED + (unsigned)seals->cipher, place, GASNETL_SEAL_FRONT, length);
+        return seal_greeting(seals, to, sealed, text);
+    return seal_as(&peer->messages, SEALED + (unsigned)seals->cipher, sealed, GASNETL_SEAL_FRONT, text);
 }
 
 /* ---- What is opened. */
@@ -246,7 +247,7 @@ static uint8_t *open_message(struct gasnetl_seals *seals, uint16_t from, uint8_t
 }
 
 uint8_t *gasnetl_open(struct gasnetl_seals *seals, uint16_t from, uint8_t *sealed, size_t *length) {
-    if (!gasnetl_is_sealed(sealed, *length) || *length > GASNET_C_ROOM + GASNETL_SEAL_BYTES)
+    if (!gasnetl_is_sealed(sealed, *length) || *length > GASNETL_SEALED_MOST)
         return NULL;
     return is_greeting(sealed) ? open_greeting(seals, from, sealed, length) : open_message(seals, from, sealed, length);
 }

@@ -10,7 +10,7 @@
  *   1 byte     192, + 2 where it is a greeting, + 1 where its cipher is ChaCha20-Poly1305 and not AES-256-GCM
  *   7 bytes    its number: how many this process sealed under the key before; its nonce is made of that
  *   16 bytes   of a greeting: the sender's number
- *              the datagram, encrypted
+ *              what is sealed, encrypted
  *   16 bytes   the tag, of all before
  */
 #ifndef GASNETL_SEAL_H
@@ -28,7 +28,8 @@ enum {
     GASNETL_SEAL_BYTES = GASNETL_SEAL_FRONT + GASNETL_TAG_BYTES, /* what it has more than before */
     GASNETL_PROCESS_BYTES = 16,                                  /* a process's number */
     GASNETL_GREETING_FRONT = GASNETL_SEAL_FRONT + GASNETL_PROCESS_BYTES,
-    GASNETL_GREETING_MOST = 256 /* the bytes of a greeting, before it is sealed */
+    GASNETL_GREETING_MOST = 256, /* the bytes of a greeting, before it is sealed */
+    GASNETL_SEALED_MOST = 65000  /* of a datagram, as it is sealed */
 };
 
 /* A key that this process seals under. */
@@ -68,14 +69,14 @@ bool gasnetl_key_read(struct gasnetl_seals *seals);
  * on standard error has said why. */
 bool gasnetl_seals_start(struct gasnetl_seals *seals, uint16_t me, uint16_t nodes, uint64_t job);
 
-/* Seals a datagram to a peer in its place: it stands behind GASNETL_SEAL_FRONT bytes, and has room for so many more
- * behind it, or, where it is a greeting, for GASNETL_GREETING_FRONT bytes and a tag in all. It is a greeting as long as
- * the peer may lack the other key. How many bytes it has then; 0 where it can't be sealed, and isn't sent: so it is in
- * a copy of the process, however that was forked, which would take its numbers once more. */
-size_t gasnetl_seal(struct gasnetl_seals *seals, uint16_t to, uint8_t *place, size_t length);
+/* Seals bytes to a peer: `sealed` has room for them and GASNETL_GREETING_FRONT + GASNETL_TAG_BYTES more, elsewhere. It
+ * is a greeting as long as the peer may lack the other key. How many bytes the datagram has; 0 where it can't be
+ * sealed, and isn't sent: so it is in a copy of the process, however that was forked, which would take its numbers once
+ * more. */
+size_t gasnetl_seal(struct gasnetl_seals *seals, uint16_t to, uint8_t *sealed, const uint8_t *bytes, size_t length);
 
-/* Opens a datagram from a peer in its place: where it stands, and, in `length`, how many bytes it has. NULL where it
- * isn't sealed, or for another process, or was altered. */
+/* Opens a datagram from a peer in its place: where what was sealed stands, and, in `length`, how many bytes that has.
+ * NULL where it isn't sealed, or for another process, or was altered. */
 uint8_t *gasnetl_open(struct gasnetl_seals *seals, uint16_t from, uint8_t *sealed, size_t *length);
 
 /* The peer's last greeting names this process: both directions have keys from now on. */

@@ -24,7 +24,7 @@
 
 #include "check.h"
 
-enum { RING = 512, MOST = 9000, EACH = 2, ALL = 6000, PAUSE = 16 };
+enum { RING = 512, MOST = 1 << 16, JUNK = 9000, EACH = 2, ALL = 6000, PAUSE = 16 };
 enum { ASK = 128, ANSWER = 129, ROUNDS = 20, ASKED = 20, PIECE = 8192, LENGTH = 40000 };
 
 /* Of a control datagram, and of a message: where fields stand (c/src/control.c, docs/FORMATS.md). */
@@ -169,7 +169,7 @@ static void mutate_message(struct caught *one) {
 
 static void make_junk(struct caught *one) {
     static const char magics[][5] = { "GNL3", "GNL2", "GAM1", "GAM2" };
-    one->length = 1 + below(MOST - 1);
+    one->length = 1 + below(JUNK - 1);
     scatter(one->bytes, one->length);
     if (one->length > 4 && below(2))
         memcpy(one->bytes, magics[below(4)], 4);
@@ -278,12 +278,21 @@ static void is_to_be_sent(int socket, const void *bytes, size_t length, const vo
     inject(socket, &one);
 }
 
+/* In a file a datagram has the bytes that were sent alone. */
+static bool write_caught(const struct caught *one, FILE *to) {
+    return fwrite(one, offsetof(struct caught, bytes), 1, to) == 1 && fwrite(one->bytes, one->length, 1, to) == 1;
+}
+
+static bool read_caught(struct caught *one, FILE *from) {
+    return fread(one, offsetof(struct caught, bytes), 1, from) == 1 && fread(one->bytes, one->length, 1, from) == 1;
+}
+
 static void replay(int socket, const struct caught *like) {
     struct caught *one = malloc(sizeof *one);
     unsigned count = 0;
     is_replayed = true;
     FILE *from = fopen(path, "r");
-    while (from && one && fread(one, sizeof *one, 1, from) == 1) {
+    while (from && one && read_caught(one, from)) {
         one->to = like->to;
         one->to_length = like->to_length;
         inject(socket, one);
@@ -328,7 +337,7 @@ static void was_sent(int socket, const void *bytes, size_t length, const void *t
     memcpy(one->bytes, bytes, one->length);
     note_address(one, to, to_length);
     if (file)
-        fwrite(one, sizeof *one, 1, file);
+        CHECK(write_caught(one, file));
     if (!strcmp(way, "count"))
         check_number(one);
     if (!strcmp(way, "replay") && is_node_1() && !is_replayed)

@@ -107,7 +107,8 @@ static void check_vector(const struct vector *vector) {
     bool starts = seals.context || (gasnetl_aead_start(&seals) && gasnetl_aead_start(&opens));
     bool holds = starts && gasnetl_aead_seals_by(&seals, vector->cipher, &secret) &&
                  gasnetl_aead_opens_by(&opens, vector->cipher, &secret) &&
-                 gasnetl_aead_seal(&seals, 0, at, front, length) && !memcmp(at, whole, all);
+                 gasnetl_aead_seal(&seals, 0, at, front, (struct gasnetl_span){ at + front, length }) &&
+                 !memcmp(at, whole, all);
     expect(holds, vector->name);
     read_hex(vector->text, whole + front);
     expect(gasnetl_aead_open(&opens, 0, at, front, length) && !memcmp(at, whole, front + length), vector->name);
@@ -147,8 +148,10 @@ struct sent {
 
 static struct sent sealed_by(struct gasnetl_seals *seals, uint16_t to, size_t length) {
     struct sent sent;
-    memset(sent.bytes, 7, sizeof sent.bytes);
-    sent.length = gasnetl_seal(seals, to, sent.bytes, length);
+    uint8_t text[ROOM];
+    memset(text, 7, sizeof text);
+    memset(sent.bytes, 0, sizeof sent.bytes);
+    sent.length = gasnetl_seal(seals, to, sent.bytes, text, length);
     return sent;
 }
 
@@ -282,11 +285,11 @@ static void check_numbers(void) {
     uint64_t number = one->peers[1].messages.next;
     const time_t begun = time(NULL);
     uint64_t count = 0;
-    uint8_t bytes[64];
+    uint8_t bytes[64], text[1] = { 7 };
     bool holds = true;
     for (; holds && count < MANY && (count % 4096 || time(NULL) - begun < SECONDS); count++) {
         uint64_t told = 0;
-        holds = gasnetl_seal(one, 1, bytes, 1) == 1 + GASNETL_SEAL_BYTES;
+        holds = gasnetl_seal(one, 1, bytes, text, 1) == 1 + GASNETL_SEAL_BYTES;
         for (int i = 1; i < 8; i++)
             told = told << 8 | bytes[i];
         holds = holds && told == number++;
