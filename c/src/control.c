@@ -421,7 +421,8 @@ static void take_stale(struct gasnetl_job *job, uint16_t from, const struct data
 static void take_fresh(struct gasnetl_job *job, uint16_t from, const struct datagram *datagram) {
     gasnetl_absent_came(&job->control, from, GASNETL_CAME_FRESH);
     job->control.runs[from] = datagram->run;
-    gasnetl_seals_settle(&job->network.seals, from);
+    if (!gasnetl_seals_settle(&job->network.seals, from))
+        return; /* the peer isn't known before, and so is asked again */
     gasnetl_peer_heard(job, from);
     judge_settings(job, from, datagram);
     if (datagram->kind == HELLO)

@@ -159,9 +159,11 @@ static bool leave(struct gasnetl_job *job, struct leaving *leaving) {
         bound_end(job, leaving);
     gasnetl_progress_thread_end(job);
     job->control.code = leaving->status;
-    if (leaving->is_cut)
+    if (leaving->is_cut) {
         gasnetl_network_forget(&job->network);
-    if (leaving->is_cut || leaving->is_signal)
+        gasnetl_seals_part(&job->network.seals);
+    }
+    if (leaving->is_signal)
         job->network.seals.is_fixed = true;
     if (gasnetl_thread.token || leaving->is_cut || leaving->is_signal)
         detach(job); /* its message is never delivered, or its call never ends, or the endpoint may want memory */

@@ -16,6 +16,8 @@
 #ifndef GASNETL_SEAL_H
 #define GASNETL_SEAL_H
 
+#include <pthread.h>
+#include <stdatomic.h>
 #include <stdbool.h>
 #include <stddef.h>
 #include <stdint.h>
@@ -32,16 +34,22 @@ enum {
     GASNETL_SEALED_MOST = 65000  /* of a datagram, as it is sealed */
 };
 
-/* A key that this process seals under. */
-struct gasnetl_sealing {
+/* A key of one direction, and libcrypto's context for it. */
+struct gasnetl_keyed {
     struct gasnetl_aead aead;
-    uint64_t next; /* the number of the next datagram */
+    struct gasnetl_secret *secret;
+};
+
+/* One that this process seals under. */
+struct gasnetl_sealing {
+    struct gasnetl_keyed keyed;
+    _Atomic uint64_t next; /* the number of the next datagram */
 };
 
 /* What is sealed for a peer, and comes from it. */
 struct gasnetl_sealed_peer {
     struct gasnetl_sealing greetings, messages; /* to it */
-    struct gasnetl_aead greeted, told;          /* what opens its greetings, and the rest */
+    struct gasnetl_keyed greeted, told;         /* what opens its greetings, and the rest */
     uint8_t process[GASNETL_PROCESS_BYTES];     /* the number for which its greetings are opened, and their cipher */
     enum gasnetl_cipher cipher;
     bool is_greeted;   /* one was opened for it */
@@ -49,20 +57,32 @@ struct gasnetl_sealed_peer {
     bool is_confirmed; /* the peer has them too */
 };
 
+/* Keys, in memory of their own: core files don't have it, and it is empty in a copy of the process, however that was
+ * forked (Linux from 4.14 on; madvise(2)). */
+struct gasnetl_hidden {
+    bool is_first;                   /* this is no copy: that one seals nothing */
+    uint8_t key[GASNETL_KEY_BYTES];  /* the file's; 0 once the keys for all peers are known */
+    struct gasnetl_secret secrets[]; /* of each peer as many as it has keys */
+};
+
 struct gasnetl_seals {
     bool is_set;   /* there is a key */
     bool is_fixed; /* no further key is derived: that allocates */
-    uint16_t me;
+    uint16_t me, nodes;
     uint64_t job;
-    uint8_t key[GASNETL_KEY_BYTES]; /* the file's */
+    uint8_t key[GASNETL_KEY_BYTES]; /* the file's, before gasnetl_seals_start */
     uint8_t process[GASNETL_PROCESS_BYTES];
     enum gasnetl_cipher cipher;        /* by which this process seals */
     struct gasnetl_sealed_peer *peers; /* of each node, where there is a key */
-    const bool *is_first;              /* of memory that is empty in a copy of the process: that one seals nothing */
+    struct gasnetl_hidden *hidden;
+    atomic_bool is_apart; /* one thread ends the process, and has contexts of its own: the last one to seal */
+    pthread_t ender;
+    struct gasnetl_aead last_seals, last_opens[GASNETL_CIPHERS];
 };
 
-/* Reads the key of the file that GASNET_KEY_FILE names: 64 hexadecimal digits, readable by its owner alone. Without the
- * variable none is set. False where it can't be had: a line on standard error has said why. */
+/* Reads the key of the file that GASNET_KEY_FILE names: 64 hexadecimal digits. The file belongs to this process's user
+ * or to root, and its group and others have no right to it. Without the variable no key is set. False where it can't be
+ * had: a line on standard error has said why. */
 bool gasnetl_key_read(struct gasnetl_seals *seals);
 
 /* Draws this process's number, and makes the keys of its greetings, where a key is set. False where that fails: a line
@@ -79,11 +99,16 @@ size_t gasnetl_seal(struct gasnetl_seals *seals, uint16_t to, uint8_t *sealed, c
  * NULL where it isn't sealed, or for another process, or was altered. */
 uint8_t *gasnetl_open(struct gasnetl_seals *seals, uint16_t from, uint8_t *sealed, size_t *length);
 
-/* The peer's last greeting names this process: both directions have keys from now on. */
-void gasnetl_seals_settle(struct gasnetl_seals *seals, uint16_t from);
+/* The peer's last greeting names this process: both directions have keys from now on. False where they can't be made
+ * now, for want of memory. */
+bool gasnetl_seals_settle(struct gasnetl_seals *seals, uint16_t from);
 
 /* The peer says what it can say only behind a greeting that names it: it has these keys too. */
 void gasnetl_seals_confirm(struct gasnetl_seals *seals, uint16_t from);
+
+/* This thread ends the process, and interrupts whoever seals or opens, which may go on later. It has contexts of its
+ * own from now on, no key is derived, and no other thread seals or opens anything. It allocates nothing. */
+void gasnetl_seals_part(struct gasnetl_seals *seals);
 
 /* Reads the front of a datagram that this process sealed for a peer, and that came back: where it stands, and, in
  * `length`, what is left of it. NULL where it is too short. Nothing says that it wasn't altered. */

@@ -239,6 +239,20 @@ keyed "sealed strangers are counted" 0 "unsealed [0-9]" env GASNET_KEY_FILE=out/
 keyed "sealed by two keys" 69 "didn.t come to gasnet_attach" env GASNET_PEER_TIMEOUT=2 bin/gasnetrun -n 2 \
     bash -c '[ "$GASNET_RANK" = 0 ] && key=out/key || key=out/other-key; GASNET_KEY_FILE=$key exec out/tests/messages'
 keyed "sealed by an open key" 0 "others than its owner" bash -c 'GASNET_KEY_FILE=out/open-key bin/gasnetrun -n 2 out/tests/messages; [ $? != 0 ]; echo'
+their_key() { # root may read it, and doesn't take it
+    cp out/key out/their-key && chmod 600 out/their-key && chown nobody out/their-key || return
+    GASNET_KEY_FILE=out/their-key bin/gasnetrun -n 2 out/tests/messages
+    [ $? != 0 ]
+}
+export -f their_key
+if [ "$(id -u)" = 0 ]; then
+    keyed "sealed by another's key" 0 "it belongs to nobody (user [0-9]*)" bash -c their_key
+else
+    skip "sealed by another's key" "a file of another user's takes root"
+fi
+for n in 2 3; do
+    keyed "sealed, keys that are late n=$n" 0 "" env GASNET_KEY_FILE=out/key bin/gasnetrun -n $n out/sanitized/tests/wants
+done
 for way in "one 5" "all 3" "alarm 7" "handler 6"; do
     keyed "sealed end $way" "${way#* }" "" env GASNET_KEY_FILE=out/key bin/gasnetrun -n 3 out/sanitized/tests/ends $way
 done

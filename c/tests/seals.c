@@ -1,5 +1,7 @@
-/* Sealed datagrams: vectors of NIST, RFC 8439 and RFC 5869, what is opened and what isn't, and that no number is taken
- * twice. It has no job. */
+/* Sealed datagrams: vectors of NIST, RFC 8439 and RFC 5869, what is opened and what isn't, that no number is taken
+ * twice, and where keys are in memory. It has no job. */
+#include <dlfcn.h>
+#include <pthread.h>
 #include <stdio.h>
 #include <stdlib.h>
 #include <string.h>
@@ -130,7 +132,7 @@ static void check_derivation(const struct derivation *one) {
 /* ---- Two processes of a job, and others. */
 
 static struct gasnetl_seals *process_of(uint16_t rank, uint64_t job) {
-    static struct gasnetl_seals all[40];
+    static struct gasnetl_seals all[60];
     static unsigned made;
     struct gasnetl_seals *seals = &all[made++];
     seals->is_set = true;
@@ -311,7 +313,117 @@ static void check_copies(void) {
     expect(sealed_by(one, 1, 50).length == 74, "the process seals on");
 }
 
+/* ---- The thread that ends the process. */
+
+static size_t allocations;
+
+static void *get_memory(size_t bytes, const char *file, int line) {
+    (void)file, (void)line;
+    allocations++;
+    return malloc(bytes);
+}
+
+static void *change_memory(void *at, size_t bytes, const char *file, int line) {
+    (void)file, (void)line;
+    allocations++;
+    return realloc(at, bytes);
+}
+
+static void give_memory(void *at, const char *file, int line) {
+    (void)file, (void)line;
+    free(at);
+}
+
+/* Has libcrypto's allocations counted, if it is there. */
+static void count_allocations(void) {
+    int (*set)(void *(*)(size_t, const char *, int), void *(*)(void *, size_t, const char *, int),
+               void (*)(void *, const char *, int));
+    *(void **)(void *)&set = dlsym(RTLD_DEFAULT, "CRYPTO_set_mem_functions");
+    if (set)
+        expect(set(get_memory, change_memory, give_memory), "allocations are counted");
+}
+
+/* What another thread seals and opens then. */
+static void *use_apart(void *at) {
+    struct gasnetl_seals *one = at;
+    struct sent none = sealed_by(one, 1, 50);
+    return none.length ? at : NULL;
+}
+
+/* Whoever is interrupted has these contexts in hand: they are taken away meanwhile, so that a use of one is a fault. */
+static void swap_contexts(struct gasnetl_sealed_peer *peer, void *kept[4]) {
+    void **all[] = { &peer->greetings.keyed.aead.context, &peer->messages.keyed.aead.context,
+                     &peer->greeted.aead.context, &peer->told.aead.context };
+    for (unsigned i = 0; i < 4; i++) {
+        void *context = *all[i];
+        *all[i] = kept[i];
+        kept[i] = context;
+    }
+}
+
+/* It seals and opens with contexts of its own, without an allocation, and takes the next number. */
+static void check_last(void) {
+    struct gasnetl_seals *one = process_of(0, 5), *other = process_of(1, 5);
+    void *used = one;
+    let_meet(one, other);
+    struct sent before = sealed_by(one, 1, 50), theirs = sealed_by(other, 0, 60), greeting = sealed_by(one, 2, 84);
+    void *kept[2][4] = { { NULL } };
+    swap_contexts(&one->peers[1], kept[0]);
+    swap_contexts(&one->peers[2], kept[1]);
+    const size_t allocated = allocations;
+    gasnetl_seals_part(one);
+    struct sent after = sealed_by(one, 1, 50), again = sealed_by(one, 2, 84);
+    expect(opened_by(one, 1, &theirs) == 60, "it opens what comes");
+    expect(allocations == allocated, "it allocates nothing");
+    expect(opened_by(other, 0, &before) == 50 && opened_by(other, 0, &after) == 50, "what it seals is opened");
+    expect(after.bytes[7] == before.bytes[7] + 1 && again.bytes[7] == greeting.bytes[7] + 1, "the numbers go on");
+    pthread_t thread;
+    expect(!pthread_create(&thread, NULL, use_apart, one) && !pthread_join(thread, &used) && !used,
+           "another thread seals nothing then");
+    swap_contexts(&one->peers[1], kept[0]);
+    swap_contexts(&one->peers[2], kept[1]);
+}
+
+/* ---- Keys in memory. */
+
+/* Whether the mapping that begins there has a flag (proc(5), smaps). */
+static bool has_flag(const void *at, const char *flag) {
+    char line[256], begin[32];
+    bool is_it = false, has = false;
+    FILE *file = fopen("/proc/self/smaps", "r");
+    snprintf(begin, sizeof begin, "%lx-", (unsigned long)(uintptr_t)at);
+    while (file && fgets(line, sizeof line, file)) {
+        const bool is_head = strspn(line, "0123456789abcdef") == strcspn(line, "-");
+        is_it = is_head ? !strncmp(line, begin, strlen(begin)) : is_it;
+        has = has || (is_it && !strncmp(line, "VmFlags", 7) && strstr(line, flag));
+    }
+    if (file)
+        fclose(file);
+    return has;
+}
+
+static bool is_zero(const uint8_t *bytes, size_t length) {
+    for (size_t i = 0; i < length; i++)
+        if (bytes[i])
+            return false;
+    return true;
+}
+
+/* No core file and no copy has them, and the file's key is gone once all peers are known. */
+static void check_memory(void) {
+    struct gasnetl_seals *one = process_of(0, 5);
+    uint8_t key[GASNETL_KEY_BYTES];
+    memset(key, 0x6b, sizeof key);
+    expect(is_zero(one->key, sizeof one->key), "the key that was read is overwritten");
+    expect(has_flag(one->hidden, " dd") && has_flag(one->hidden, " wf"), "keys are in no core file and in no copy");
+    let_meet(one, process_of(1, 5));
+    expect(!memcmp(one->hidden->key, key, sizeof key), "the file's key is there while a peer is missing");
+    let_meet(one, process_of(2, 5));
+    expect(is_zero(one->hidden->key, sizeof one->hidden->key), "it is gone once all are known");
+}
+
 int main(void) {
+    count_allocations();
     if (!gasnetl_aead_is_there()) {
         printf("built without libcrypto\n");
         return 77;
@@ -325,6 +437,8 @@ int main(void) {
     check_pairs();
     check_limits();
     check_copies();
+    check_last();
+    check_memory();
     check_numbers();
     return failed != 0;
 }
