@@ -179,10 +179,8 @@ static _Noreturn void become_node(const struct run *run, int node) {
 
 /* The end of the lifeline is the end of the part's standard input. */
 static _Noreturn void become_part(const struct run *run, int part) {
-    if (dup2(run->lifeline[0], STDIN_FILENO) < 0)
-        exit(REFUSED);
     setrlimit(RLIMIT_NOFILE, &run->files);
-    gasnetl_part_become(&run->parts.of[part], &run->options);
+    gasnetl_part_become(&run->parts.of[part], &run->options, run->lifeline);
 }
 
 static _Noreturn void become_child(const struct run *run, int child, pid_t parent) {
@@ -502,8 +500,10 @@ int main(int argc, char **argv) {
     static struct run run;
     gasnetl_options_read(&run.options, argc, argv);
     share_out(&run);
-    run.grace = read_grace();
     fill_streams();
+    if (run.is_watching && !gasnetl_part_take_environment())
+        return GASNETL_PART_ENDED;
+    run.grace = read_grace();
     widen_files(&run);
     prepare(&run);
     catch_signals(&run);

@@ -2,6 +2,7 @@
 
 #include <errno.h>
 #include <limits.h>
+#include <signal.h>
 #include <stdio.h>
 #include <stdlib.h>
 #include <string.h>
@@ -80,12 +81,6 @@ static void write_words(FILE *to, char **words) {
         write_word(to, *words);
 }
 
-static void write_environment(FILE *to) {
-    for (char **at = environ; *at; at++)
-        if (!strncmp(*at, "GASNET_", 7) && strncmp(*at, "GASNET_SSH=", 11))
-            write_word(to, *at);
-}
-
 /* The command that a part's host runs, for a shell; NULL where it can't be made. */
 static char *command_of(const struct gasnetl_part *part, const struct gasnetl_options *options) {
     char folder[PATH_MAX], runner[PATH_MAX] = "", *command = NULL;
@@ -95,15 +90,82 @@ static char *command_of(const struct gasnetl_part *part, const struct gasnetl_op
         return NULL;
     fputs("cd", to);
     write_word(to, folder);
-    fputs(" && exec env", to);
-    write_environment(to);
+    fputs(" && exec", to);
     write_word(to, runner);
     fprintf(to, " -n %d --part %d%s", part->nodes, part->first, options->prefixes ? " --prefix-output" : "");
     write_words(to, options->words);
     return fclose(to) ? NULL : command;
 }
 
-_Noreturn void gasnetl_part_become(const struct gasnetl_part *part, const struct gasnetl_options *options) {
+/* ---- The environment of a part: texts with a zero behind each, and an empty one. */
+
+static const char prefix[] = "GASNET_", not_told[] = "GASNET_SSH=";
+
+static bool begins_with(const char *text, const char *front) { return !strncmp(text, front, strlen(front)); }
+
+static void write_environment(FILE *to) {
+    for (char **at = environ; *at; at++)
+        if (begins_with(*at, prefix) && !begins_with(*at, not_told))
+            fwrite(*at, 1, strlen(*at) + 1, to);
+    fputc(0, to);
+    fflush(to);
+}
+
+/* Writes the environment, and keeps the pipe open until the lifeline ends. */
+static _Noreturn void feed(int pipe, const int lifeline[2]) {
+    char byte;
+    signal(SIGINT, SIG_IGN);
+    signal(SIGTERM, SIG_IGN);
+    signal(SIGHUP, SIG_IGN);
+    close(lifeline[1]);
+    FILE *to = fdopen(pipe, "w");
+    if (to)
+        write_environment(to);
+    while (to && read(lifeline[0], &byte, 1) > 0)
+        continue;
+    _exit(0);
+}
+
+/* Has a process of its own write to the standard input of what this one becomes. */
+static bool have_input(const int lifeline[2]) {
+    int ends[2];
+    if (pipe(ends))
+        return false;
+    const pid_t feeder = fork();
+    if (!feeder) {
+        close(ends[0]);
+        feed(ends[1], lifeline);
+    }
+    close(ends[1]);
+    const bool has = feeder > 0 && dup2(ends[0], STDIN_FILENO) >= 0;
+    close(ends[0]);
+    return has;
+}
+
+/* Reads a text; NULL where the standard input ends before, or there is no memory. */
+static char *read_text(void) {
+    char *text = NULL, byte = 1;
+    size_t length;
+    FILE *to = open_memstream(&text, &length);
+    while (to && byte && read(STDIN_FILENO, &byte, 1) == 1)
+        fputc(byte, to);
+    if (to && !fclose(to) && !byte)
+        return text;
+    free(text);
+    return NULL;
+}
+
+bool gasnetl_part_take_environment(void) {
+    char *text;
+    while ((text = read_text()) && *text)
+        if (!begins_with(text, prefix) || putenv(text)) /* the environment has the text itself */
+            return false;
+    free(text);
+    return text;
+}
+
+_Noreturn void gasnetl_part_become(const struct gasnetl_part *part, const struct gasnetl_options *options,
+                                   const int lifeline[2]) {
     static char usual[] = "ssh -o BatchMode=yes";
     const char *named = getenv("GASNET_SSH");
     char *program = named && *named ? strdup(named) : usual, *rest, *words[WORDS + 3];
@@ -114,7 +176,7 @@ _Noreturn void gasnetl_part_become(const struct gasnetl_part *part, const struct
     words[count] = (char *)(uintptr_t)part->host;
     words[count + 1] = command;
     words[count + 2] = NULL;
-    if (count && command)
+    if (count && command && have_input(lifeline))
         execvp(words[0], words);
     fprintf(stderr, "gasnetrun: %s, which is to start nodes on %s, can't be started (%s): set GASNET_SSH\n",
             count ? words[0] : "ssh", part->host, strerror(errno));

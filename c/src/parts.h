@@ -28,7 +28,12 @@ bool gasnetl_parts_read(struct gasnetl_parts *parts, char *hosts, int nodes);
 bool gasnetl_parts_name(const struct gasnetl_parts *parts);
 
 /* Becomes the program that starts a part: ssh, or what GASNET_SSH names with its options. The part has this process's
- * folder, and of its environment what begins with GASNET_. */
-_Noreturn void gasnetl_part_become(const struct gasnetl_part *part, const struct gasnetl_options *options);
+ * folder, and what of its environment begins with GASNET_: that goes by the program's standard input, since a list of
+ * processes shows words to everybody. The input ends as the pipe `lifeline` does. */
+_Noreturn void gasnetl_part_become(const struct gasnetl_part *part, const struct gasnetl_options *options,
+                                   const int lifeline[2]);
+
+/* Takes that environment, as a part. False where the standard input ends before it does, or there is no memory. */
+bool gasnetl_part_take_environment(void);
 
 #endif

@@ -15,6 +15,22 @@ check "gasnetrun --hosts of none" 64 "no host" bin/gasnetrun -n 2 --hosts , out/
 check "gasnetrun --hosts of an option" 64 "begins with '-'" bin/gasnetrun -n 2 --hosts h0,-oProxyCommand=true out/tests/barriers
 check "gasnetrun --hosts, no such program" 127 "^gasnetrun: out/no-ssh, which is to start nodes on h0, can't be started .*: set GASNET_SSH" \
     env GASNET_SSH=out/no-ssh bin/gasnetrun -n 2 --hosts h0 out/tests/barriers
+its_ssh() { # FOLDER: a program that runs a command here, as ssh does elsewhere, and writes down its words
+    printf '#!/bin/sh\nprintf "%%s\\n" "$@" >>%s/words\nexec env -i PATH="$PATH" sh -c "$2"\n' "$1" >"$1/ssh" && chmod +x "$1/ssh"
+}
+unseen() { # what the environment says comes to the nodes of each host, and no list of processes has it
+    local folder=out/unseen odd=$'it\'s $HOME\n "secret"'
+    rm -rf $folder && mkdir -p $folder && its_ssh $folder
+    GASNET_SSH=$folder/ssh GASNET_ODD=$odd bin/gasnetrun -n 3 --hosts 127.0.0.1,127.0.0.2 \
+        bash -c '[ "$GASNET_ODD" = "$1" ] && [ "$GASNET_NODES" = 3 ] && [ ! "$GASNET_SSH" ]' name "$odd" &&
+        [ "$(grep -c . $folder/words)" -ge 4 ] && ! grep 'GASNET_[A-Z]*=' $folder/words
+}
+cut_short() { # a part whose input ends before the environment does
+    printf 'GASNET_ODD=1\0GASNET_NO' | bin/gasnetrun -n 1 --part 0 true
+}
+export -f its_ssh unseen cut_short
+check "gasnetrun --hosts, an environment that isn't seen" 0 "" bash -c unseen
+check "gasnetrun --hosts, an environment that is cut" 125 "" bash -c cut_short
 check "cafrun --hosts of two" 64 "no host, or one that begins with '-'" bin/cafrun -n 2 --hosts "h0 -h1" out/tests/barriers
 check "gasnetrun --gdb of no node" 64 "usage" bin/gasnetrun -n 2 --gdb 2 out/tests/barriers
 
