@@ -268,8 +268,8 @@ without_crypto() {
 }
 export -f without_crypto
 check "sealed by no library" 0 "GASNET_KEY_FILE is 'out/key': this library was built without OpenSSL" bash -c without_crypto
-# A put of a MiB under a key beside one without, as medians of runs that take turns: a third to a half (bench), and a fifth where
-# the processor has no instructions for AES. Below an eighth something else than the cipher is slow.
+# A put of a MiB under a key beside one without, as medians of runs that take turns: not quite half (bench), and a fifth where the
+# processor has no instructions for AES. Below an eighth something else than the cipher is slow.
 sealed_speed() {
     local plain=() sealed=() rate
     for _ in {1..9}; do
