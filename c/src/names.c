@@ -34,7 +34,7 @@ static const struct variable variables[] = {
     { "GASNET_EXIT_TIMEOUT", "20", "how many seconds gasnet_exit(0) waits for the others" },
     { "GASNET_END_TIMEOUT", "1000", "how many ms a forced end waits for the others' answers" },
     { "GASNET_GRACE", "1000", "the ms that gasnetrun gives the others where a node failed" },
-    { "GASNET_SPIN", "400, or 1", "the empty looks at the socket before a call that waits sleeps" },
+    { "GASNET_SPIN", "1 to 400", "the empty looks at the socket before a call that waits sleeps" },
     { "GASNET_CAF_PROVED", "0", "1: coarrays take the proved collectives wherever they can" },
     { "GASNET_COUNTS", "unset", "set: a node tells its counts of datagrams at its end" },
     { "GASNET_DROP", "0", "the percentage of its datagrams that a node loses, for tests" },

@@ -325,17 +325,28 @@ static uint64_t sleep_time(const struct gasnetl_job *job) {
     return due > progress->now ? due - progress->now : 0;
 }
 
+/* Whether a call that waits sleeps behind its `turn`-th empty look. */
+static bool is_to_sleep(struct gasnetl_job *job, unsigned turn) {
+    const struct gasnetl_progress *progress = &job->progress;
+    int mode = atomic_load_explicit(&progress->wait_mode, memory_order_relaxed);
+    if (mode != GASNET_WAIT_SPINBLOCK)
+        return mode == GASNET_WAIT_BLOCK;
+    if (job->config.spin >= 0)
+        return turn >= progress->spin;
+    return gasnetl_patience_is_over(&gasnetl_thread.patience, turn, progress->spin, progress->now);
+}
+
 void gasnetl_wait(struct gasnetl_job *job, unsigned *turn) {
     const struct gasnetl_progress *progress = &job->progress;
     if (gasnetl_poll(job, 1)) {
+        gasnetl_patience_came(&gasnetl_thread.patience, *turn, progress->now);
         *turn = 0;
         return;
     }
     ++*turn;
     if (!gasnetl_thread.stack.since)
         gasnetl_thread.stack.since = progress->now;
-    int mode = atomic_load_explicit(&progress->wait_mode, memory_order_relaxed);
-    bool sleeps = mode == GASNET_WAIT_BLOCK || (mode == GASNET_WAIT_SPINBLOCK && *turn >= progress->spin);
+    bool sleeps = is_to_sleep(job, *turn);
     if (sleeps && gasnetl_transfers_ask_all(job))
         gasnetl_wake(&job->turns);
     else if (sleeps)

@@ -28,7 +28,7 @@ struct gasnetl_progress {
     unsigned idle;          /* polls in which nothing came */
     bool keeps;             /* no handler of the client's may run: what runs one is kept for the next poll */
     atomic_int wait_mode;   /* a client's thread sets it without a turn */
-    unsigned spin;          /* the empty looks of a call that waits, before it sleeps */
+    unsigned spin;          /* the empty looks of a call that waits, before it sleeps, at most (patience.h) */
 };
 
 /* The time, in microseconds. */

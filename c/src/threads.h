@@ -15,6 +15,7 @@
 
 #include "gasnet.h"
 #include "operations.h"
+#include "patience.h"
 #include "stacks.h"
 
 struct gasnetl_job;
@@ -40,13 +41,14 @@ struct gasnetl_thread {
     gasnet_hsl_t *locks;  /* the lock that it took last, and still holds */
     unsigned sections;    /* 1 inside a section without interrupts */
     bool has_turn;
-    bool is_calling;                /* it is in a call of the layer's, from gasnetl_enter to gasnetl_leave */
-    bool is_known;                  /* the layer is told as it ends, where there are several */
-    bool is_own;                    /* it is the layer's (progress_thread.h) */
-    struct gasnetl_stack stack;     /* what is told of the call that it is in */
-    bool ends_itself;               /* the layer ends the job: no signal of the client's interrupted a call */
-    struct gasnetl_op *puts, *gets; /* its implicit operations, or NULL; pieces may lead to them still as it ends */
-    struct gasnetl_op *region;      /* the access region that it has begun */
+    bool is_calling;                  /* it is in a call of the layer's, from gasnetl_enter to gasnetl_leave */
+    bool is_known;                    /* the layer is told as it ends, where there are several */
+    bool is_own;                      /* it is the layer's (progress_thread.h) */
+    struct gasnetl_stack stack;       /* what is told of the call that it is in */
+    struct gasnetl_patience patience; /* how long it looks for datagrams before it sleeps */
+    bool ends_itself;                 /* the layer ends the job: no signal of the client's interrupted a call */
+    struct gasnetl_op *puts, *gets;   /* its implicit operations, or NULL; pieces may lead to them still as it ends */
+    struct gasnetl_op *region;        /* the access region that it has begun */
 };
 
 /* The calling thread. */

@@ -216,6 +216,19 @@ else
 fi
 
 check "round trips and windows" 0 "" out/sanitized/tests/windows
+check "patience" 0 "" out/sanitized/tests/patience
+# Two nodes on one processor, where a spin keeps the other one from it: a wait sleeps at once, and a round trip takes a twentieth
+# of the processor's time that it takes with spins.
+waits_on_one() {
+    local processor own fixed
+    processor=$(taskset -pc $$ | sed 's/.*: //; s/[,-].*//')
+    own=$(taskset -c "$processor" bin/gasnetrun -n 2 out/tests/waits)
+    fixed=$(GASNET_SPIN=400 taskset -c "$processor" bin/gasnetrun -n 2 out/tests/waits)
+    echo "a round trip takes $own ns of a processor, with GASNET_SPIN=400 $fixed"
+    [ "$own" -gt 0 ] && [ $((4 * own)) -le "$fixed" ] || return 3
+}
+export -f waits_on_one
+check "waits on one processor" 0 "" bash -c waits_on_one
 check "runs of pieces" 0 "" out/sanitized/tests/runs
 
 # Sealed: with one key all goes as without, over a lossy network too; with two keys the nodes don't hear each other. What a
