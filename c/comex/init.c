@@ -33,7 +33,10 @@ void comexg_die(const char *format, ...) {
     va_start(arguments, format);
     vsnprintf(text, sizeof text, format, arguments);
     va_end(arguments);
-    comex_error(text, 1);
+    if (!comexg_state.is_attached)
+        comex_error(text, 1);
+    fprintf(stderr, "comex: process %d: %s\n", comexg_state.me, text);
+    gasnet_exit(1);
     abort();
 }
 

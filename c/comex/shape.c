@@ -2,9 +2,12 @@
 
 #include <string.h>
 
+static _Noreturn void die_of_length(void) { comexg_die("a shape has more bytes than memory can have"); }
+
 /* Makes levels one and zero one, where they lie together on both sides. */
 static void join_level(struct comexg_shape *shape) {
-    shape->count[0] *= shape->count[1];
+    if (__builtin_mul_overflow(shape->count[0], shape->count[1], &shape->count[0]))
+        die_of_length();
     shape->levels--;
     memmove(shape->count + 1, shape->count + 2, shape->levels * sizeof *shape->count);
     memmove(shape->src_stride, shape->src_stride + 1, shape->levels * sizeof *shape->src_stride);
@@ -42,9 +45,13 @@ bool comexg_is_empty(const struct comexg_shape *shape) {
 }
 
 struct comexg_range comexg_extent(const struct comexg_shape *shape, const size_t *stride, const void *at) {
-    size_t last = shape->count[0];
+    size_t last = shape->count[0], bytes, end;
     for (size_t i = 0; i < shape->levels; i++)
-        last += (shape->count[i + 1] - 1) * stride[i];
+        if (__builtin_mul_overflow(shape->count[i + 1] - 1, stride[i], &bytes) ||
+            __builtin_add_overflow(last, bytes, &last))
+            die_of_length();
+    if (__builtin_add_overflow((uintptr_t)at, last, &end))
+        die_of_length();
     return comexg_range(at, last);
 }
 

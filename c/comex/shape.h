@@ -13,10 +13,11 @@ struct comexg_shape {
     size_t src_stride[COMEX_MAX_STRIDE_LEVEL], dst_stride[COMEX_MAX_STRIDE_LEVEL];
 };
 
-/* The shape of a call. Levels whose places lie together on both sides are made one. */
+/* The shape of a call. Levels whose places lie together on both sides are made one. Here and in comexg_extent all
+ * processes are ended where memory can't have so many bytes. */
 struct comexg_shape comexg_shape(const int *src_stride, const int *dst_stride, const int *count, int levels);
 
-/* The bytes from the first one to the one behind the last, of a side that has these strides. */
+/* The bytes from the first one to the one behind the last, of a side that has these strides. The shape isn't empty. */
 struct comexg_range comexg_extent(const struct comexg_shape *shape, const size_t *stride, const void *at);
 
 /* Ends all processes where a list of places has a negative length, or a negative number of them. */

@@ -50,7 +50,8 @@ static inline uint64_t comexg_address(const volatile void *at) { return (uint64_
 /* The node that sent the message that is handled. */
 int comexg_sender(gasnet_token_t token);
 
-/* Says on standard error what is wrong with a call, as printf does, and ends all processes with status 1. */
+/* Says on standard error what is wrong with a call, as printf does, and ends all processes with status 1: by
+ * gasnet_exit, which handlers may call, on whatever thread they run. MPI's own end is for the thread that calls MPI. */
 _Noreturn void comexg_die(const char *format, ...) __attribute__((format(printf, 1, 2)));
 
 #endif

@@ -1,14 +1,18 @@
 /* ComEx's calls among two to eight processes, each against what comex.h says of it. Status 0 where all hold. With the
  * word `error` process 1 calls comex_error with code 3, which ends all; with `putv` or `accv` it hands on a list of
- * places with a negative length, which ends all too. */
+ * places with a negative length, with `extent` a shape that no memory can have, and with `unlock` it unlocks what it
+ * doesn't hold, which end all too. */
 #include <comex.h>
+#include <limits.h>
 #include <mpi.h>
+#include <pthread.h>
 #include <stdbool.h>
 #include <stdio.h>
 #include <stdlib.h>
 #include <string.h>
 #include <sys/mman.h>
 #include <time.h>
+#include <unistd.h>
 
 enum { WORLD = COMEX_GROUP_WORLD, NUMBERS = 4096, TURNS = 100, GOT = 4 << 20 };
 
@@ -371,6 +375,33 @@ static void (*const tests[])(void) = { puts_in_order,
                                        too_much,
                                        long_sums };
 
+/* What the library under test calls is this: MPI is for the first thread alone. */
+static pthread_t first;
+int MPI_Abort(MPI_Comm comm, int code) {
+    if (!pthread_equal(first, pthread_self()))
+        _exit(99);
+    return PMPI_Abort(comm, code);
+}
+
+/* The process that has the mutex is in a call of MPI meanwhile. */
+static void unlock_wrongly(void) {
+    comex_create_mutexes(1);
+    comex_barrier(WORLD);
+    if (me == 1)
+        comex_unlock(0, next);
+    MPI_Barrier(MPI_COMM_WORLD);
+}
+
+/* Five levels of 2,147,483,647 places that are as many bytes apart: more than 2 to the power of 64 bytes. */
+static void put_everywhere(void) {
+    int strides[5], count[6] = { sizeof(int) }, number = 1;
+    for (int i = 0; i < 5; i++) {
+        strides[i] = INT_MAX;
+        count[i + 1] = INT_MAX;
+    }
+    comex_puts(&number, strides, &number, strides, count, 5, next, WORLD);
+}
+
 static void be_wrong(const char *how) {
     int number = 1;
     void *from = &number, *to = &number;
@@ -379,17 +410,22 @@ static void be_wrong(const char *how) {
         comex_error("this is tried", 3);
     else if (!strcmp(how, "putv"))
         comex_putv(&list, 1, next, WORLD);
+    else if (!strcmp(how, "extent"))
+        put_everywhere();
     else
         comex_accv(COMEX_ACC_INT, &number, &list, 1, next, WORLD);
 }
 
 int main(int argc, char **argv) {
+    first = pthread_self();
     MPI_Init(&argc, &argv);
     CHECK(!comex_initialized());
     CHECK(comex_init_args(&argc, &argv) == COMEX_SUCCESS && comex_initialized());
     comex_group_rank(WORLD, &me);
     comex_group_size(WORLD, &size);
     next = (me + 1) % size;
+    if (argc > 1 && !strcmp(argv[1], "unlock"))
+        unlock_wrongly();
     if (argc > 1 && me == 1)
         be_wrong(argv[1]);
     CHECK(comex_malloc(far, NUMBERS * sizeof(double), WORLD) == COMEX_SUCCESS);
