@@ -325,21 +325,26 @@ static uint64_t sleep_time(const struct gasnetl_job *job) {
     return due > progress->now ? due - progress->now : 0;
 }
 
+/* Whether the layer chooses when a call that waits sleeps: the client didn't, and nor did GASNET_SPIN. */
+static bool has_choice(const struct gasnetl_job *job) {
+    return job->config.spin < 0 &&
+           atomic_load_explicit(&job->progress.wait_mode, memory_order_relaxed) == GASNET_WAIT_SPINBLOCK;
+}
+
 /* Whether a call that waits sleeps behind its `turn`-th empty look. */
-static bool is_to_sleep(struct gasnetl_job *job, unsigned turn) {
+static bool is_to_sleep(const struct gasnetl_job *job, unsigned turn) {
     const struct gasnetl_progress *progress = &job->progress;
     int mode = atomic_load_explicit(&progress->wait_mode, memory_order_relaxed);
-    if (mode != GASNET_WAIT_SPINBLOCK)
-        return mode == GASNET_WAIT_BLOCK;
-    if (job->config.spin >= 0)
-        return turn >= progress->spin;
-    return gasnetl_patience_is_over(&gasnetl_thread.patience, turn, progress->spin, progress->now);
+    if (has_choice(job))
+        return gasnetl_patience_is_over(&gasnetl_thread.patience, turn, progress->spin, progress->now);
+    return mode == GASNET_WAIT_BLOCK || (mode == GASNET_WAIT_SPINBLOCK && turn >= progress->spin);
 }
 
 void gasnetl_wait(struct gasnetl_job *job, unsigned *turn) {
     const struct gasnetl_progress *progress = &job->progress;
     if (gasnetl_poll(job, 1)) {
-        gasnetl_patience_came(&gasnetl_thread.patience, *turn, progress->now);
+        if (*turn && has_choice(job))
+            gasnetl_patience_came(&gasnetl_thread.patience, *turn, progress->now);
         *turn = 0;
         return;
     }
