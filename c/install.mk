@@ -3,7 +3,7 @@
 #
 #   BINDIR        gasnetcc, gasnetrun, caf, cafrun
 #   INCLUDEDIR    the headers
-#   LIBDIR        libgasnet.a, libcaf.a, libgasnet.so.0; pkgconfig/gasnet.pc, cmake/gasnet
+#   LIBDIR        libgasnet.a, libcaf.a, libgasnet.so.0, libcaf.so.0 (by gfortran); pkgconfig/gasnet.pc, cmake/gasnet
 #   MANDIR        man1, man3
 #   DOCDIR        README.md, the documents, the examples
 
@@ -28,7 +28,7 @@ ways = $(call fill,$(1)$(call way,$(2),$(PREFIX)),$(1)$(call way,$(2),$(LIBDIR))
 
 # All that is installed.
 INSTALLED = $(COMMANDS:%=$(BINDIR)/%) $(PUBLIC_HEADERS:include/%=$(INCLUDEDIR)/%) \
-    $(LIBDIR)/libgasnet.a $(LIBDIR)/libcaf.a $(LIBDIR)/libgasnet.so.0 $(LIBDIR)/libgasnet.so \
+    $(LIBDIR)/libgasnet.a $(LIBDIR)/libcaf.a $(foreach so,$(SHARED) $(CAF_SHARED),$(LIBDIR)/$(notdir $(so)) $(LIBDIR)/$(notdir $(so:.0=))) \
     $(PC_DIR)/gasnet.pc $(CMAKE_DIR)/gasnet-config.cmake $(CMAKE_DIR)/gasnet-config-version.cmake \
     $(foreach page,$(MANUALS),$(MANDIR)/man$(subst .,,$(suffix $(page)))/$(notdir $(page)))
 
@@ -37,8 +37,8 @@ install: all
 	$(INSTALL) -m 755 $(filter-out bin/gasnetrun,$(COMMANDS:%=bin/%)) $(OUT)/gasnetrun '$(DESTDIR)$(BINDIR)'
 	$(INSTALL) -m 644 $(PUBLIC_HEADERS) '$(DESTDIR)$(INCLUDEDIR)'
 	$(INSTALL) -m 644 $(OUT)/libgasnet.a $(OUT)/libcaf.a '$(DESTDIR)$(LIBDIR)'
-	$(INSTALL) -m 755 $(SHARED) '$(DESTDIR)$(LIBDIR)'
-	ln -sf libgasnet.so.0 '$(DESTDIR)$(LIBDIR)/libgasnet.so'
+	$(INSTALL) -m 755 $(SHARED) $(CAF_SHARED) '$(DESTDIR)$(LIBDIR)'
+	for so in $(notdir $(SHARED) $(CAF_SHARED)); do ln -sf $$so "$(DESTDIR)$(LIBDIR)/$${so%.0}"; done
 	sed $(call ways,$${pcfiledir}/,$(PC_DIR)) gasnet.pc.in > '$(DESTDIR)$(PC_DIR)/gasnet.pc'
 	for file in gasnet-config gasnet-config-version; do \
 	    sed $(call ways,,$(CMAKE_DIR)) $$file.cmake.in > "$(DESTDIR)$(CMAKE_DIR)/$$file.cmake"; \

@@ -15,10 +15,10 @@ is_whole() { # each file is there, and nothing leads to the place where it was b
     done
     ! grep -rIl -e "$PWD" -e /opt/gasnet "$moved/bin" "$moved/lib" "$moved/include"
 }
-exports() { # GASNet's names alone, those that the headers' macros call, and none of the proved library
+exports() { # GASNet's names alone, those that the headers' macros and libcaf call, and none of the proved library
     nm -D --defined-only "$moved/lib/libgasnet.so.0" | awk '$2 != "A" { print $3 }' | sed 's/@.*//' | sort >out/exports
     [ "$(grep -c -x -e gasnet_put -e gex_AD_OpNB_U64 -e gasnetl_init out/exports)" = 3 ] &&
-        ! grep -v -E '^(gasnet_|gex_|gasnetl_(block|init|reply|request|unsafe)$)' out/exports && ! grep '^gasnet_c_' out/exports &&
+        ! grep -v -E '^(gasnet_|gex_|gasnetl_(block|init|reply|request|unsafe|collectives_on_mismatch|put[is]_nbi|runner_tell)$)' out/exports && ! grep '^gasnet_c_' out/exports &&
         readelf -d "$moved/lib/libgasnet.so.0" | grep -q 'soname: \[libgasnet.so.0\]'
 }
 run_moved() { LD_LIBRARY_PATH="$moved/lib" "$moved/bin/gasnetrun" -n 4 "$@"; }
@@ -30,6 +30,11 @@ client_cxx() {
 }
 client_fortran() {
     "$moved/bin/caf" ../examples/coarrays/ring.f90 -o out/clients/ring_f && "$moved/bin/cafrun" -n 4 out/clients/ring_f
+}
+client_caf_shared() { # coarrays over the two shared objects
+    gfortran -fcoarray=lib -fpcc-struct-return ../examples/coarrays/ring.f90 -o out/clients/ring_caf -L"$moved/lib" -lcaf -lgasnet &&
+        readelf -d out/clients/ring_caf | grep -q libcaf.so.0 && run_moved out/clients/ring_caf &&
+        ! nm -D --defined-only "$moved/lib/libcaf.so.0" | awk '$2 != "A" { print $3 }' | grep -v ^_gfortran_caf_
 }
 client_pkg_config() { # (pkg-config writes a space in a path as `\ `, which a shell's words don't take)
     ln -sfn "$moved" out/link &&
@@ -64,7 +69,7 @@ uninstall() {
     mkdir -p "$staged/opt" && make install DESTDIR="$staged" PREFIX=/opt/gasnet && make uninstall DESTDIR="$staged" PREFIX=/opt/gasnet &&
         ! find "$staged" -type f -o -type l | grep .
 }
-export -f install_and_move is_whole exports run_moved client_c client_cxx client_fortran client_pkg_config client_shared client_plugin client_cmake uninstall
+export -f install_and_move is_whole exports run_moved client_c client_cxx client_fortran client_caf_shared client_pkg_config client_shared client_plugin client_cmake uninstall
 
 client() { # NAME TOOL PATTERN FUNCTION: skipped where the tool isn't there
     if command -v "$2" >/dev/null; then
@@ -80,6 +85,7 @@ ring="node 3 has 2 from the node before it"
 client "C" gcc "$ring" client_c
 client "C++" g++ "$ring" client_cxx
 client "Fortran" gfortran "image 4 was told 3" client_fortran
+client "Fortran, shared objects" gfortran "image 4 was told 3" client_caf_shared
 client "pkg-config" pkg-config "$ring" client_pkg_config
 client "CMake" cmake "$ring" client_cmake
 for test in messages transfers collectives locks; do
