@@ -76,6 +76,7 @@ static bool has_room(const struct gasnetl_transfers *all, const struct gasnetl_l
 static uint16_t take_place(struct gasnetl_transfers *all, struct gasnetl_lane *lane) {
     uint16_t index = all->free;
     all->free = all->pieces[index].next;
+    all->begun++;
     if (lane->begun++ >= all->own)
         all->common--;
     return index;
@@ -83,6 +84,7 @@ static uint16_t take_place(struct gasnetl_transfers *all, struct gasnetl_lane *l
 
 static void give_place(struct gasnetl_transfers *all, uint16_t index) {
     struct gasnetl_piece *piece = &all->pieces[index];
+    all->begun--;
     if (--all->lanes[piece->to].begun >= all->own)
         all->common++;
     piece->handle = 0;
@@ -304,7 +306,7 @@ bool gasnetl_transfers_ask_again(struct gasnetl_job *job) {
 bool gasnetl_transfers_ask_all(struct gasnetl_job *job) {
     struct gasnetl_transfers *all = &job->transfers;
     bool has_completed = gasnetl_transfers_ask_again(job);
-    for (uint16_t index = 0; index < GASNETL_PIECES; index++)
+    for (uint16_t index = 0; all->begun && index < GASNETL_PIECES; index++)
         if (all->pieces[index].handle && !all->pieces[index].asks_again && ask_and_feed(job, index))
             has_completed = true;
     return has_completed;

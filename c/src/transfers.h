@@ -81,6 +81,7 @@ struct gasnetl_transfers {
     uint16_t free;              /* the first free place */
     uint16_t own;               /* how many places each peer has of its own */
     uint16_t common;            /* how many of the others are free */
+    uint16_t begun;             /* how many places all pieces have */
     uint16_t asks_again;        /* the pieces of which all chunks seem to be back, and the endpoint says otherwise */
     struct gasnetl_lane *lanes; /* of each node */
     struct gasnetl_transfer *spare, *blocks;
