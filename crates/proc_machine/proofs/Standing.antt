@@ -43,7 +43,8 @@ use Rattle.proc_machine.specs.Kept.{MachineKept, progress_or_none, own_scripts, 
 use Rattle.proc_machine.specs.Kept.{IsMachine}
 use Rattle.proc_machine.specs.NodeState.{NodeState, state_of, script_job, after_turn, turn_result, datagram_at, as_there}
 use Rattle.proc_machine.specs.NodeState.{NodeStands}
-use Rattle.proc_machine.specs.Turns.{job_of_endpoint, TurnDone, TurnTaken, turn_by, is_changed, GoesAsTurn, TakesTurn}
+use Rattle.proc_machine.specs.Turns.{job_of_endpoint, TurnTaken, turn_by, is_changed, GoesAsTurn, TakesTurn}
+use Rattle.proc_machine.specs.declared.turn.TurnDone.{TurnDone}
 
 -- ---- scripts
 
@@ -158,7 +159,7 @@ own_then it T state S =
 -- a turn that changed something
 pub changed_stands : (it : Turning) → IsTurning it → (state : NodeState) → NodeStands it.machine state
     → is_changed it.taken it.done ≡ true
-    → NodeStands (machine_with it it.done.0 it.done.1.ended)
+    → NodeStands (machine_with it it.done.outgoing it.done.tried.ended)
     (after_turn state it.taken.thread it.taken.now it.taken.got)
 changed_stands it T state S changed =
     let F = facts_of it T state S in
@@ -171,7 +172,7 @@ changed_stands it T state S changed =
       node = F.node;
       own_is = own_then it T state S;
       outgoing_is = ap₂ (λ (text : JobState) (me : ℕ).
-          map (datagram_at text.settings me next.after.node) it.done.0)
+          map (datagram_at text.settings me next.after.node) it.done.outgoing)
           (sym S.job_is) (sym (me_then it T state S))
           ∙ (F.goes.sent
           ∙ ap (map as_there) (sym (ap (λ (b : Bool).
@@ -199,14 +200,14 @@ none_got (Some bytes) e = absurd (true≢false e)
 -- of a turn that changed nothing
 pub record IsQuiet (taken : TurnTaken) (done : TurnDone) : Type 0 where
   pub got : taken.got ≡ None
-  pub ended : is_some done.1.ended ≡ false
+  pub ended : is_some done.tried.ended ≡ false
 
 pub quiet_is : (taken : TurnTaken) (done : TurnDone) → is_changed taken done ≡ false → IsQuiet taken done
 quiet_is taken done quiet =
-    let a = or_parts (is_some taken.got || is_some_there done.0 || is_some done.1.ended) (is_some done.1.began)
+    let a = or_parts (is_some taken.got || is_some_there done.outgoing || is_some done.tried.ended) (is_some done.tried.began)
     quiet in
-    let b = or_parts (is_some taken.got || is_some_there done.0) (is_some done.1.ended) a.0 in
-    let c = or_parts (is_some taken.got) (is_some_there done.0) b.0 in
+    let b = or_parts (is_some taken.got || is_some_there done.outgoing) (is_some done.tried.ended) a.0 in
+    let c = or_parts (is_some taken.got) (is_some_there done.outgoing) b.0 in
     record { got = none_got taken.got c.0; ended = b.1 }
 
 -- what a turn told
@@ -214,8 +215,8 @@ pub told_is : (it : Turning) → IsTurning it → (state : NodeState) → NodeSt
     → turn_result state it.taken.thread it.taken.now it.taken.got
     ≡ record {
       changed = is_changed it.taken it.done;
-      stepped = is_some it.done.1.ended;
-      sends = cond (is_changed it.taken it.done) (length it.done.0) 0;
+      stepped = is_some it.done.tried.ended;
+      sends = cond (is_changed it.taken it.done) (length it.done.outgoing) 0;
     }
 told_is it T state S =
     let F = facts_of it T state S in
@@ -227,7 +228,7 @@ told_is it T state S =
     }) F.goes.changed (ap is_some F.goes.ended)
     ∙ ap (λ (count : ℕ). record {
       changed = is_changed it.taken it.done;
-      stepped = is_some it.done.1.ended;
+      stepped = is_some it.done.tried.ended;
       sends = cond (is_changed it.taken it.done) count 0;
     }) F.goes.sends
 
@@ -274,13 +275,13 @@ some_facts : (it : Turning) → (T : IsTurning it)
 some_facts it T = facts_at it T (some_state it.machine T.is.record_.0) T.is.record_.1 refl
 
 -- whether a thread polls changes only in a turn that ends a step
-pub polls_stay : (it : Turning) → IsTurning it → is_some it.done.1.ended ≡ false
+pub polls_stay : (it : Turning) → IsTurning it → is_some it.done.tried.ended ≡ false
     → (outgoing : List SlotRef) (answer : Option ScriptAnswer) (thread : ℕ)
     → polls_at (machine_with it outgoing answer) thread ≡ polls_at it.machine thread
 polls_stay it T none outgoing answer thread =
     let F = some_facts it T in
     let locks : it.found.endpoint.core.locks ≡ it.machine.endpoint.core.locks =
-    F.node.core.locks_are ∙ (F.goes.locks (none_of it.done.1.ended none) ∙ sym T.is.record_.1.core.locks_are) in
+    F.node.core.locks_are ∙ (F.goes.locks (none_of it.done.tried.ended none) ∙ sym T.is.record_.1.core.locks_are) in
     ap (λ (held : List Held). not (holds (owner.Thread thread) held)) locks
 
 -- the machine after it is one
@@ -464,14 +465,14 @@ told_quiet old taken done new M quiet state S =
     ∙ ap₂ (λ (changed stepped : Bool). record {
       changed = changed;
       stepped = stepped;
-      sends = cond changed (length done.0) 0;
+      sends = cond changed (length done.outgoing) 0;
     }) quiet (quiet_is taken done quiet).ended)
 
 -- what is told of another turn
 pub told_changed : (old : MachineKept) (taken : TurnTaken) (done : TurnDone) (new : MachineKept) (stepped : Bool)
     (count : ℕ)
-    → MachineTakes old taken done new → is_changed taken done ≡ true → stepped ≡ is_some done.1.ended
-    → count ≡ length done.0 → (state : NodeState) → NodeStands old state
+    → MachineTakes old taken done new → is_changed taken done ≡ true → stepped ≡ is_some done.tried.ended
+    → count ≡ length done.outgoing → (state : NodeState) → NodeStands old state
     → ◌≡◌ {A = Turned} (record { changed = true; stepped = stepped; sends = count })
     (turn_result state taken.thread taken.now taken.got)
 told_changed old taken done new stepped count M changed ends counts state S =
@@ -479,17 +480,17 @@ told_changed old taken done new stepped count M changed ends counts state S =
     ∙ sym (M.told state S
     ∙ ap (λ (b : Bool). record {
       changed = b;
-      stepped = is_some done.1.ended;
-      sends = cond b (length done.0) 0;
+      stepped = is_some done.tried.ended;
+      sends = cond b (length done.outgoing) 0;
     }) changed)
 
 -- the test of the code
 pub change_is : (taken : TurnTaken) (done : TurnDone) (got : Option (Bor (List ℕ))) (result came value : Bool)
     → taken.got ≡ option_copied got
-    → result ≡ (came || is_some_there done.0 || is_some done.1.ended || is_some done.1.began)
+    → result ≡ (came || is_some_there done.outgoing || is_some done.tried.ended || is_some done.tried.began)
     → came ≡ is_some got → result ≡ value → is_changed taken done ≡ value
 change_is taken done got result came value is test says e =
-    ap (λ (b : Bool). b || is_some_there done.0 || is_some done.1.ended || is_some done.1.began)
+    ap (λ (b : Bool). b || is_some_there done.outgoing || is_some done.tried.ended || is_some done.tried.began)
     (ap is_some is ∙ (sym (copied_some got) ∙ sym says))
     ∙ (sym test ∙ e)
 

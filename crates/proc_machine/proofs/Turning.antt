@@ -169,7 +169,7 @@ state_goes : (meaning : Meaning) (old mid : EndpointState) (new : FoundNode) (ta
     → TriesNext meaning (record { endpoint = mid; collectives = state.own.collectives })
     (record { now = taken.now; thread = taken.thread; progress = state.own.threads taken.thread }) tried new
     → sent ≡ slots ++ option_to_list tried.sent
-    → GoesAsTurn (job_of_endpoint meaning old) old.core.me taken state (sent, tried)
+    → GoesAsTurn (job_of_endpoint meaning old) old.core.me taken state (record { outgoing = sent; tried = tried })
     × EndpointStands new.endpoint (turn_by (job_of_endpoint meaning old) old.core.me taken state).after.node
     × ((turn_by (job_of_endpoint meaning old) old.core.me taken state).after.own
     ≡ record {
@@ -296,7 +296,7 @@ pub turn_goes : (meaning : Meaning) (old : FoundNode) (mid : EndpointState) (new
     → TriesNext meaning (record { endpoint = mid; collectives = old.collectives })
     (record { now = taken.now; thread = taken.thread; progress = progress }) tried new
     → sent ≡ slots ++ option_to_list tried.sent
-    → TakesTurn meaning (old, progress) taken (sent, tried) (new, progress_after progress tried)
+    → TakesTurn meaning (old, progress) taken (record { outgoing = sent; tried = tried }) (new, progress_after progress tried)
 turn_goes meaning old mid new taken progress polls slots sent tried lawful bytes polled before tries slots_is =
     record {
       same = same_then old.endpoint.core mid.core new.endpoint.core before.same tries.happen.same;

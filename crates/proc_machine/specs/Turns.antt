@@ -16,7 +16,7 @@ use Rattle.proc_steps.specs.Tries.{FoundNode, IsAtSameNode}
 use Rattle.proc_machine.specs.Kept.{CanBeSaid}
 use Rattle.proc_machine.specs.NodeState.{datagram_at, as_there}
 use Rattle.spec_node.specs.declared.answer.SlotRef.{SlotRef}
-use Rattle.proc_steps.specs.declared.trial.Tried.{Tried}
+use Rattle.proc_machine.specs.declared.turn.TurnDone.{TurnDone}
 
 -- the job of an endpoint with handlers that do this
 abbrev pub job_of_endpoint : Meaning → EndpointState → NodeJob EndpointLocal (OwnScripts ScriptStep)
@@ -34,27 +34,23 @@ abbrev pub turn_by : NodeJob EndpointLocal (OwnScripts ScriptStep) → (me : ℕ
     → MachineState EndpointLocal (OwnScripts ScriptStep) → Turn EndpointLocal (OwnScripts ScriptStep)
 turn_by job me taken state = turn job me state taken.thread taken.now taken.got
 
--- what it did: the slots of the messages that it sent, and the try of the thread's step
-abbrev pub TurnDone : Type 0
-TurnDone = List SlotRef × Tried
-
 -- something was got or sent, or the step ended or began
 abbrev pub is_changed : TurnTaken → TurnDone → Bool
 is_changed taken done =
-    is_some taken.got || is_some_there done.0 || is_some done.1.ended || is_some done.1.began
+    is_some taken.got || is_some_there done.outgoing || is_some done.tried.ended || is_some done.tried.began
 
 -- of a state of the node: the turn goes to what the endpoint stands for then, and what it told is the turn's
 pub record GoesAsTurn
     (job : NodeJob EndpointLocal (OwnScripts ScriptStep)) (me : ℕ) (taken : TurnTaken)
     (state : MachineState EndpointLocal (OwnScripts ScriptStep)) (done : TurnDone) : Type 0 where
-  pub ended : (try_of job me state taken.thread taken.now taken.got).ended ≡ done.1.ended
+  pub ended : (try_of job me state taken.thread taken.now taken.got).ended ≡ done.tried.ended
   pub changed : (turn_by job me taken state).changed ≡ is_changed taken done
-  pub sends : length (turn_by job me taken state).packets ≡ length done.0
+  pub sends : length (turn_by job me taken state).packets ≡ length done.outgoing
   -- each datagram stands in its slot
-  pub sent : map (datagram_at job.job.settings me (turn_by job me taken state).after.node) done.0
+  pub sent : map (datagram_at job.job.settings me (turn_by job me taken state).after.node) done.outgoing
       ≡ map as_there (map (datagram job.job.settings) (turn_by job me taken state).packets)
   -- it changes locks only where it ended its step
-  pub locks : done.1.ended ≡ None
+  pub locks : done.tried.ended ≡ None
       → (turn_by job me taken state).after.node.local.core.locks ≡ state.node.local.core.locks
 
 -- a turn of a thread of which this was left of its script: it went so for every state for which the endpoint stood and

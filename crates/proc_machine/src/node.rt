@@ -12,7 +12,7 @@ ghost use Rattle.proc_machine.specs.NodeState.{NodeStands, is_of, opening_collec
 
 use crate::cursor::{Cursor, are_done, cursor_at};
 use crate::outgoing::Outgoing;
-use crate::turn::{ThreadTurn, is_change, take_turn};
+use crate::turn::{ThreadTurn, TurnDone, is_change, take_turn};
 use base_turns::{Machine, Turned};
 use law_traces::ScriptAnswer;
 use node_collectives::Collectives;
@@ -151,7 +151,7 @@ impl<'a> NodeMachine<'a> {
     }
 
     /// A turn of a thread, but for what the machine keeps of it.
-    fn take(&mut self, thread: u16, now: u64, got: Option<&[u8]>) -> (Outgoing, Tried)
+    fn take(&mut self, thread: u16, now: u64, got: Option<&[u8]>) -> TurnDone
         requires thread { thread < self.old.job.settings.threads }
         requires polls { IsSome got → polls_at self.old thread ≡ true }
         ensures { MachineTakes self.old
@@ -233,7 +233,7 @@ impl<'a> Machine for NodeMachine<'a> {
                 sends: 0,
             };
         }
-        let (outgoing, tried) = done;
+        let TurnDone { outgoing, tried } = done;
         let sends = outgoing.count();
         self.outgoing = outgoing;
         self.answer = tried.ended;

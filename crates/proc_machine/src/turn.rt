@@ -31,12 +31,21 @@ pub struct ThreadTurn<'a> {
     pub got: Option<&'a [u8]>,
 }
 
+/// What a turn did.
+#[derive(Drop)]
+pub struct TurnDone {
+    /// The slots of the messages that it sent.
+    pub outgoing: Outgoing,
+    /// The try of the thread's step.
+    pub tried: Tried,
+}
+
 /// Something was got or sent, the script step ended or began, or the node's collectives changed.
-pub fn is_change(done: &(Outgoing, Tried), came: bool) -> bool
-    ensures { result ≡ (came || is_some_there done.now.0 || is_some done.now.1.ended
-        || is_some done.now.1.began) }
+pub fn is_change(done: &TurnDone, came: bool) -> bool
+    ensures { result ≡ (came || is_some_there done.now.outgoing || is_some done.now.tried.ended
+        || is_some done.now.tried.began) }
 {
-    came || done.0.is_any() || done.1.ended.is_some() || done.1.began.is_some()
+    came || done.outgoing.is_any() || done.tried.ended.is_some() || done.tried.began.is_some()
 }
 
 /// Tries the next step of a thread's script, if there is one.
@@ -89,7 +98,7 @@ pub fn take_turn<H: Handlers>(
     collectives: &mut Option<Collectives>,
     cursor: &mut Cursor<'_>,
     turn: ThreadTurn<'_>,
-) -> (Outgoing, Tried)
+) -> TurnDone
     requires thread { turn.thread < endpoint.old.core.settings.threads }
     requires said { CanBeSaid endpoint.old.core.settings (progress_of cursor.old) }
     requires there { AreThere endpoint.old collectives.old }
@@ -112,5 +121,5 @@ pub fn take_turn<H: Handlers>(
     let tried = try_next(endpoint, handlers, collectives, cursor, turn);
     outgoing.add(tried.sent);
     cursor.go_on(&tried);
-    (outgoing, tried)
+    TurnDone { outgoing, tried }
 }

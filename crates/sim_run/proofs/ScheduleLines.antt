@@ -7,15 +7,10 @@ use Rattle.std.proofs.lemmas.Option.{same_Some}
 use Rattle.sim_world.specs.Events.{event_of}
 use Rattle.node_rules.specs.EndpointRules.{Records, RecordsEvent, timed_event}
 use Rattle.sim_world.specs.declared.event.WorldEvent.{WorldEvent}
-use Rattle.sim_run.specs.ScheduleLine.{IsLine}
 use Rattle.sim_world.specs.Settling.{WorldJob}
 use Rattle.spec_network.specs.World.{run}
 use Rattle.sim_run.specs.Schedules.{Nodes, scheduled_event, line_events, line_group}
-use Rattle.sim_run.specs.declared.schedule_line.CollectiveCall.{CollectiveCall}
 use Rattle.sim_run.specs.RunText.{event_words, words_at}
-use Rattle.sim_run.specs.declared.schedule_line.Beginning.{Beginning}
-use Rattle.sim_run.specs.declared.schedule_line.Line.{Line}
-use Rattle.sim_run.specs.declared.schedule_line.Line.TheVariants as lines
 use Rattle.text_steps.specs.declared.steps.ScheduledEvent.{ScheduledEvent}
 use Rattle.text_steps.specs.declared.steps.ScheduledEvent.TheVariants as scheduled
 use Rattle.text_steps.specs.declared.steps.TimedEvent.{TimedEvent}
@@ -37,50 +32,6 @@ timed_next es place e h =
     go [] p h = absurd (cc)
     go (x ∷ xs) zero h = ap (λ y. y ∷ xs) (same_Some x e h)
     go (x ∷ xs) (suc p) h = go xs p h
-
--- what was read of the line at a place
-read_at : (w : Records) (o : Option TimedEvent) (e : TimedEvent) (read : Option Line) (line : Option Line) → o ≡ Some e
-    → read ≡ line → IsLine w o read → IsLine w (Some e) line
-read_at w o e read line at is h = subst (IsLine w (Some e)) is (subst (λ x. IsLine w x read) at h)
-
--- an event was read
-pub event_line : (w : Records) (o : Option TimedEvent) (e : TimedEvent) (read : Option Line) (line : Line) (now : ℕ)
-    (event : WorldEvent) → o ≡ Some e → read ≡ Some line → line ≡ lines.Event now event → IsLine w o read
-    → (now ≡ e.time) × (scheduled_event w e.event ≡ Some (event_of event))
-event_line w o e read line now event at is line_is h =
-    read_at w o e read (Some (lines.Event now event)) at (is ∙ ap (λ (l : Line). Some l) line_is) h
-
--- rounds were read
-pub settle_line : (w : Records) (o : Option TimedEvent) (e : TimedEvent) (read : Option Line) (line : Line)
-    (now rounds : ℕ) → o ≡ Some e → read ≡ Some line → line ≡ lines.Settle now rounds → IsLine w o read
-    → (now ≡ e.time) × (e.event ≡ scheduled.Settle rounds)
-settle_line w o e read line now rounds at is line_is h =
-    read_at w o e read (Some (lines.Settle now rounds)) at (is ∙ ap (λ (l : Line). Some l) line_is) h
-
--- a transfer of many pieces was read
-pub vis_line : (w : Records) (o : Option TimedEvent) (e : TimedEvent) (read : Option Line) (line : Line) (now : ℕ)
-    (begin : Beginning) → o ≡ Some e → read ≡ Some line → line ≡ lines.Vis now begin → IsLine w o read
-    → (now ≡ e.time) × (e.event ≡ scheduled.Vis begin.node begin.thread begin.vis.now)
-vis_line w o e read line now begin at is line_is h =
-    read_at w o e read (Some (lines.Vis now begin)) at (is ∙ ap (λ (l : Line). Some l) line_is) h
-
--- a call for collectives was read
-pub collective_line : (w : Records) (o : Option TimedEvent) (e : TimedEvent) (read : Option Line) (line : Line)
-    (now : ℕ) (asked : CollectiveCall) → o ≡ Some e → read ≡ Some line → line ≡ lines.Collective now asked
-    → IsLine w o read → (now ≡ e.time) × (e.event ≡ scheduled.Collective asked.node asked.thread asked.call)
-collective_line w o e read line now asked at is line_is h =
-    read_at w o e read (Some (lines.Collective now asked)) at (is ∙ ap (λ (l : Line). Some l) line_is) h
-
--- what holds of the line that was read holds of this one
-pub holds_of : (Holds : Line → Type 0) (read : Option Line) (line other : Line) → read ≡ Some line → line ≡ other
-    → IfSome read Holds → Holds other
-holds_of Holds read line other is line_is h =
-    subst Holds line_is (subst (λ (o : Option Line). IfSome o Holds) is h)
-
--- a line that is there is read
-pub never_none : (w : Records) (o : Option TimedEvent) (e : TimedEvent) (read : Option Line) → o ≡ Some e → read ≡ None
-    → IsLine w o read → ⊥
-never_none w o e read at is h = read_at w o e read None at is h
 
 -- the events of a line, by its one event
 pub one_event : (job : WorldJob) (nodes : Nodes) (now : ℕ) (e : ScheduledEvent) (x : RecordsEvent)

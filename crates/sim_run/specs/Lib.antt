@@ -4,4 +4,3 @@ pub mod ScheduleRun
 pub mod RunLaws
 pub mod RunEnds
 pub mod Schedules
-pub mod ScheduleLine

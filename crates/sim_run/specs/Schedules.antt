@@ -1,5 +1,5 @@
 -- What the lines of a schedule stand for.
-use Rattle.std.specs.Prelude.{ℕ, List, [], ◌∷◌, ◌++◌, map, Option, Some, None}
+use Rattle.std.specs.Prelude.{ℕ, List, [], ◌∷◌, ◌++◌, map, Option, Some, None, Bool, true, false}
 use Rattle.spec_network.specs.World.{RequestComes, ReplyComes, Ticks, EventAt, run}
 use Rattle.node_rules.specs.EndpointRules.{OtherCall, Records, RecordsEvent, timed_event, job_of}
 use Rattle.part_collective_area.specs.Area.{Area}
@@ -108,6 +108,13 @@ scheduled_event world (scheduled.Tick node) = Some (Ticks node)
 scheduled_event world (scheduled.Vis node thread vis) = None
 scheduled_event world (scheduled.Collective node thread call) = None
 scheduled_event world (scheduled.Settle rounds) = None
+
+-- it is several events of the world, or none: the one event of the others is told by `scheduled_event`
+abbrev pub is_several : ScheduledEvent → Bool
+is_several (scheduled.Vis node thread vis) = true
+is_several (scheduled.Collective node thread call) = true
+is_several (scheduled.Settle rounds) = true
+is_several event = false
 
 -- the events of a line, where the nodes are so
 abbrev pub line_events : WorldJob → Nodes → (time : ℕ) → ScheduledEvent → List (EventAt OtherCall)

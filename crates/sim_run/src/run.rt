@@ -1,6 +1,6 @@
 //! Running a job in a world.
 
-ghost use Rattle.std.specs.Prelude.{◌≡◌, ◌<◌, ◌+◌, length, Some, slice_get};
+ghost use Rattle.std.specs.Prelude.{◌≡◌, ◌<◌, ◌+◌, length, Some, slice_get, true};
 ghost use Rattle.base_io.specs.Buffered.{outbox};
 ghost use Rattle.node_rules.specs.EndpointRules.{timed_event};
 ghost use Rattle.sim_world.specs.Aims.{MayFall};
@@ -13,8 +13,8 @@ ghost use Rattle.text_script.specs.Registration.{handlers_of, registry_of};
 ghost use Rattle.text_job.specs.JobReading.{lines_of};
 ghost use Rattle.text_steps.specs.declared.steps.TimedEvent.{TimedEvent};
 ghost use Rattle.sim_run.specs.RunText.{node_of_event, run_lines};
-ghost use Rattle.text_script.specs.ScriptInvariant.{MayBegin};
-ghost use Rattle.sim_run.specs.Schedules.{begin_answer, begin_asked, begin_events, opening_nodes};
+ghost use Rattle.text_script.specs.ScriptInvariant.{IsWithin, MayBegin, MayCollect};
+ghost use Rattle.sim_run.specs.Schedules.{begin_answer, begin_asked, begin_events, is_several, opening_nodes};
 ghost use Rattle.sim_run.specs.RunLaws.{RunLaws};
 ghost use Rattle.sim_run.specs.ScheduleRun.{WorldRecords, run_stage, begin_plan, event_plan, settle_plan};
 ghost use Rattle.sim_run.specs.ScheduleRun.{GroupStood, HaveCollectives, IsOfSameJob, IsOfSameNodes};
@@ -29,7 +29,7 @@ ghost use Rattle.sim_run.specs.RunEnds.{RunEnds};
 use crate::nodes::{collect, opening_nodes};
 use crate::output::{any_violation, write_event_answer, write_nodes, write_numbered};
 use crate::said::Said;
-use crate::schedule_line::{Beginning, CollectiveCall, Line, line_at};
+use crate::schedule_line::{Beginning, CollectiveCall, world_event};
 use base_io::{BufferedSink, Sink};
 use node_collectives::{EndAnswer, StartAnswer, StepAnswer};
 use node_vis::Vis;
@@ -38,6 +38,7 @@ use sim_group::WorldNodes;
 use sim_world::{AtNode, World, WorldAnswer, WorldEvent};
 use std::alloc::{AllocError, Global};
 use text_script::{CollectiveAnswer, Script, write_collective, write_vis};
+use text_steps::ScheduledEvent;
 
 /// The node on which an event falls.
 fn node_of(event: &WorldEvent<'_>) -> u16
@@ -207,6 +208,49 @@ fn run_collective<K: Sink>(
     Said::from_wrote(write_collective(at.number, answer, sink))
 }
 
+/// Runs an event of a schedule that is several events of the world or none, and writes its line.
+fn run_several<K: Sink>(
+    nodes: &mut WorldNodes,
+    script: &Script,
+    at: LinePlace,
+    event: &ScheduledEvent,
+    sink: &mut BufferedSink<K>,
+) -> Said
+    requires several { is_several event.now ≡ true }
+    requires within { IsWithin nodes.old.world.settings event.now }
+    requires collect { MayCollect script.now.collect event.now }
+    requires have { HaveCollectives script.now (group_in nodes.old) }
+    ensures job { IsOfSameNodes script.now (group_in nodes.old) (group_in nodes.new) }
+    ensures runs { (line : TimedEvent) → line.time ≡ at.now → line.event ≡ event.now
+        → RunsLine (job_in (script_meaning (handlers_of script.now)) nodes.old.world) at.number line
+        (nodes_stage K.taken K.faults nodes.old sink.old)
+        (nodes_stage K.taken K.faults nodes.new sink.new)
+        result }
+{
+    match event {
+        ScheduledEvent::Vis { node, thread, vis } => {
+            let begin = Beginning {
+                node: *node,
+                thread: *thread,
+                vis: vis.text(),
+            };
+            run_vis(&mut nodes.world, script, at, &begin, sink)
+        }
+        ScheduledEvent::Collective { node, thread, call } => {
+            let asked = CollectiveCall {
+                node: *node,
+                thread: *thread,
+                call: *call,
+            };
+            run_collective(nodes, script, at, &asked, sink)
+        }
+        ScheduledEvent::Settle { rounds } => {
+            run_settle(&mut nodes.world, script, at, *rounds, sink)
+        }
+        _ => unreachable!(),
+    }
+}
+
 /// Runs line `place` of the schedule, from 0, and writes its line, whose number is one more.
 fn run_line<K: Sink>(
     nodes: &mut WorldNodes,
@@ -227,40 +271,17 @@ fn run_line<K: Sink>(
         (nodes_stage K.taken K.faults nodes.new sink.new)
         result }
 {
-    let number = place as u64 + 1;
+    let Some(timed) = script.timed(place) else {
+        unreachable!()
+    };
+    let at = LinePlace {
+        number: place as u64 + 1,
+        now: timed.time,
+    };
     let mut args = [0; 17];
-    match line_at(script, place, &nodes.world, &mut args) {
-        Some(Line::Event { now, event }) => {
-            run_event(
-                &mut nodes.world,
-                script,
-                LinePlace { number, now },
-                &event,
-                sink,
-            )
-        }
-        Some(Line::Vis { now, begin }) => {
-            run_vis(
-                &mut nodes.world,
-                script,
-                LinePlace { number, now },
-                &begin,
-                sink,
-            )
-        }
-        Some(Line::Collective { now, asked }) => {
-            run_collective(nodes, script, LinePlace { number, now }, &asked, sink)
-        }
-        Some(Line::Settle { now, rounds }) => {
-            run_settle(
-                &mut nodes.world,
-                script,
-                LinePlace { number, now },
-                rounds,
-                sink,
-            )
-        }
-        None => unreachable!(),
+    match world_event(&timed.event, &nodes.world, &mut args) {
+        Some(event) => run_event(&mut nodes.world, script, at, &event, sink),
+        None => run_several(nodes, script, at, &timed.event, sink),
     }
 }
 

@@ -5,7 +5,8 @@ use Rattle.text_steps.specs.declared.steps.ScriptStep.{ScriptStep}
 use Rattle.law_traces.specs.Actions.{Progress}
 use Rattle.proc_machine.specs.Cursors.{progress_of}
 use Rattle.proc_machine.specs.Kept.{CanBeSaid}
-use Rattle.proc_machine.specs.Turns.{TakesTurn, TurnDone, TurnTaken}
+use Rattle.proc_machine.specs.Turns.{TakesTurn, TurnTaken}
+use Rattle.proc_machine.specs.declared.turn.TurnDone.{TurnDone}
 use Rattle.proc_steps.specs.Tries.{FoundNode}
 use Rattle.proc_machine.proofs.Turning.{still_there, turn_goes}
 use Rattle.proc_machine.proofs.turn.take_turn.Goals as goal
@@ -38,7 +39,7 @@ returns g c =
       now = c.args.turn.now;
       got = option_copied c.args.turn.got;
     } in
-    let done : TurnDone = (c.add.new.self, c.try_next-tried.result) in
+    let done : TurnDone = record { outgoing = c.add.new.self; tried = c.try_next-tried.result } in
     record {
       takes = subst (λ (p : Progress ScriptStep).
           TakesTurn meaning (old, progress_of c.args.cursor.now) taken done (new, p)) (sym c.go_on.ensures)

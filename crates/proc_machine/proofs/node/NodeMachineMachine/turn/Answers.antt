@@ -45,7 +45,7 @@ returns-then-not-is_change-clause-empty c = λ none unchanged.
     )
 
 pub invariant_of-self : goal.invariant_of-self
-invariant_of-self c = still_machine _ c.take-done.result.0 c.take-done.result.1.ended c.self.invariant
+invariant_of-self c = still_machine _ c.take-done.result.outgoing c.take-done.result.tried.ended c.self.invariant
 
 pub returns-clause-after : goal.returns-clause-after
 returns-clause-after c = λ r stands.
