@@ -1,13 +1,14 @@
 -- What a core tells of a call or a message before it comes.
 use Rattle.std.specs.Prelude.{ℕ, ◌≡◌, ◌==◌, ◌&&◌, not, nat_lt, Bool, true, false, Option, is_some}
-use Rattle.wire_message.specs.Parameters.{credits_of}
+use Rattle.wire_message.specs.Parameters.{Parameters, credits_of}
 use Rattle.part_handlers.specs.Runs.{Meaning}
 pub use Rattle.part_window.specs.Due.{IsSoFrom}
 use Rattle.spec_node.specs.declared.answer.Asked.{Asked as AskedAnswer}
 use Rattle.spec_node.specs.declared.answer.Asked.TheVariants as asked
 use Rattle.spec_node.specs.Executed.{greatest}
 use Rattle.spec_node.specs.Behaviour.{Ask, Behaviour}
-use Rattle.spec_node.specs.Step.{Site, request_answer, next_due, can_ask}
+use Rattle.spec_node.specs.Record.{Node}
+use Rattle.spec_node.specs.Step.{Site, request_answer, next_due, can_ask, is_exhausted}
 use Rattle.spec_node.specs.NodeStep.{site_of}
 use Rattle.node_core.specs.Kept.{Local}
 use Rattle.node_core.specs.CoreState.{CoreState}
@@ -46,3 +47,15 @@ site_with core behaviour = record { settings = core.settings; behaviour = behavi
 abbrev pub CanAsk : CoreState → (to : ℕ) → Bool → Type 0
 CanAsk core to can =
     (behaviour : Behaviour Local) → ForItsRecord core (λ node. can ≡ can_ask (site_with core behaviour) node to)
+
+-- no node can be asked
+abbrev pub CanAskNone : CoreState → Type 0
+CanAskNone core = (to : ℕ) → CanAsk core to false
+
+-- the node is another one, and no number is left for requests to it
+abbrev pub other_exhausted : {Kept : Type 0} → Parameters → (me : ℕ) → Node Kept → (to : ℕ) → Bool
+other_exhausted settings me node to =
+    (nat_lt to settings.nodes && not (to == me)) && is_exhausted settings node to
+
+abbrev pub IsExhausted : CoreState → (to : ℕ) → Bool → Type 0
+IsExhausted core to exhausted = ForItsRecord core (λ node. exhausted ≡ other_exhausted core.settings core.me node to)

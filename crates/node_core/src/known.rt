@@ -1,8 +1,9 @@
 //! What a core tells of a call, a message or a tick before it comes.
 
+ghost use Rattle.std.specs.Prelude.{◌≡◌, false};
 ghost use Rattle.node_core.specs.AskedFor.{ask_of};
 ghost use Rattle.node_core.specs.Sizes.{HasSegment};
-ghost use Rattle.node_core.specs.Known.{CanAsk, IsDue, IsLastRun, IsNextDue, WouldAccept};
+ghost use Rattle.node_core.specs.Known.{CanAsk, CanAskNone, IsDue, IsExhausted, IsLastRun, IsNextDue, WouldAccept};
 
 use crate::answer::Side;
 use crate::asking::Asking;
@@ -61,6 +62,29 @@ impl Core {
             return false;
         }
         !self.exhausted(to) && self.free(to) > 0
+    }
+
+    /// Whether `can_ask` may be true of some node: where this is false, it is false of each. It looks at the nodes up to
+    /// the first that can be asked, and changes nothing.
+    pub fn can_ask_any(&self) -> bool
+        ensures { result ≡ false → CanAskNone self.now }
+    {
+        for to in 0..self.settings.nodes() {
+            if self.can_ask(to) {
+                return true;
+            }
+        }
+        false
+    }
+
+    /// Whether this is another node, and no number is left for requests to it. It changes nothing.
+    pub fn is_exhausted(&self, to: u16) -> bool
+        ensures { IsExhausted self.now to result }
+    {
+        if to >= self.settings.nodes() || to == self.me {
+            return false;
+        }
+        self.exhausted(to)
     }
 
     /// Whether a tick at `now` sends a request again, a look at one entry. It changes nothing.

@@ -3,7 +3,7 @@ pub mod Requesting
 pub mod Delivering
 pub mod Calling
 pub mod Ticks
-pub mod Flags
+pub mod OwnNumbers
 mod Meanings
 pub mod Syncs
 pub mod Barriers

@@ -1,17 +1,17 @@
 -- Synchronisation by flags is that by the record.
-use Rattle.std.proofs.Common.{◌≡◌, ℕ, suc, ◌<◌, ◌≤◌, Bool, List, [], ◌∷◌, take, Some, refl, sym, ap, ◌∙◌, subst, arith}
+use Rattle.std.proofs.Common.{◌≡◌, ℕ, suc, ◌<◌, ◌≤◌, Bool, List, [], ◌∷◌, Some, refl, sym, ap, ◌∙◌, subst, arith}
 use Rattle.std.specs.Prelude.{◌==◌, ◌||◌, if◌then◌else◌, map}
 use Rattle.std.specs.List.{slice_get, list_all, list_any, AllByRecursion}
-use Rattle.std.proofs.lemmas.Bool.{cases_Bool}
-use Rattle.std.proofs.Common.{inl, inr}
+use Rattle.std.proofs.lemmas.Bool.{cases_Bool, cases_eq, lt-ltb}
+use Rattle.std.proofs.Common.{inl, inr, eq-eqb, ne_eqb}
 use Rattle.part_transfers.specs.declared.operation.Handle.{Handle}
 use Rattle.part_transfers.specs.declared.operation.ImplicitKinds.{ImplicitKinds}
 use Rattle.part_transfers.specs.declared.operation.Synced.{Synced}
 use Rattle.part_transfers.specs.declared.operation.Synced.TheVariants as synced
 use Rattle.part_transfers.specs.declared.transfers.Transfers.{Transfers}
-use Rattle.part_transfers.specs.Operation.{Operation, target, next_chunk, is_complete}
+use Rattle.part_transfers.specs.Operation.{Operation, target, is_complete}
 use Rattle.part_transfers.specs.Stands.{Stands as TransfersStand, room_of}
-use Rattle.part_transfers.specs.Syncs.{Choice, chosen, flag_at, exhausted_of, exhausted_or, sync_answer, members, handle_answer}
+use Rattle.part_transfers.specs.Syncs.{Choice, chosen, exhausted_of, exhausted_or, sync_answer, members, handle_answer}
 use Rattle.part_transfers.specs.Syncs.{after_handle}
 use Rattle.part_transfers.specs.Syncs.{fault_here, fault_of, unless_fault, members_of, all_answer, is_whole, whole_of}
 use Rattle.part_transfers.specs.Syncs.{some_answer, implicit_of, implicit_answer, left_by}
@@ -19,23 +19,19 @@ use Rattle.spec_node.specs.Record.{Node}
 use Rattle.spec_node.specs.Step.{is_exhausted}
 use Rattle.part_transfers.specs.Regions.{has_begun}
 use Rattle.std.proofs.Common.{false}
+use Rattle.spec_node.specs.Under.{under}
 use Rattle.node_core.specs.CoreState.{CoreState}
+use Rattle.node_core.specs.Known.{other_exhausted}
 use Rattle.node_core.specs.CoreContracts.{IsSameNode}
-use Rattle.node_rules.specs.EndpointLocal.{EndpointLocal}
+use Rattle.node_rules.specs.EndpointLocal.{EndpointLocal, core_of}
 use Rattle.node_rules.specs.TransferCalls.{SyncHandle, SyncImplicit, transfer_does, handle_in}
 use Rattle.node_rules.specs.TransferCalls.{emptied_by, whole_registers}
 use Rattle.node_rules.specs.declared.answer.Answer.TheVariants as answers
 use Rattle.node_endpoint.specs.declared.extended.Extended.{Extended}
-use Rattle.node_endpoint.proofs.Flags.{flags_prefix}
+use Rattle.node_endpoint.proofs.OwnNumbers.{own_exhausted}
+use Rattle.node_endpoint.specs.NodeFlags.{AreExhausted}
 use Rattle.node_endpoint.specs.EndpointState.{EndpointStands, ForItsRecord}
 use Rattle.node_endpoint.specs.Parts.{EndpointOutcome, PartDoes, endpoint_of}
-
--- the next chunk, by the nodes that can be asked
-pub next_alike : (can other : ℕ → Bool) (number : ℕ) (operations : List Operation)
-    → ((to : ℕ) → can to ≡ other to) → next_chunk can number operations ≡ next_chunk other number operations
-next_alike can other number [] same = refl
-next_alike can other number (operation ∷ later) same =
-    rw (same (target operation.transfer), next_alike can other (suc number) later same) refl
 
 -- what holds of each
 all_by : (P : Operation → Type 0) (operations : List Operation)
@@ -66,24 +62,32 @@ sync_alike : (exhausted other : ℕ → Bool) (operations : List Operation) → 
 sync_alike exhausted other operations all =
     ap (λ w. if list_all is_complete operations then synced.Ok else exhausted_or w) (exhausted_alike exhausted other operations all)
 
--- the flags of the record's nodes
-abbrev pub AreExhausted : CoreState → Extended → List Bool → Type 0
-AreExhausted core extended flags =
-    ForItsRecord (endpoint_of core extended) (λ node. (to : ℕ) → to < core.settings.nodes
-    → flag_at flags to ≡ is_exhausted core.settings node to)
+-- a node's flag, where it is there
+exhausted_there : (core : CoreState) (extended : Extended) (node : Node EndpointLocal)
+    → EndpointStands (endpoint_of core extended) node → (to : ℕ) → to < core.settings.nodes
+    → other_exhausted core.settings core.me (under core_of node) to ≡ is_exhausted core.settings node to
+exhausted_there core extended node S to low = rw (lt-ltb to core.settings.nodes low) (elim (cases_eq to core.me) [
+  | inl same ↦
+      rw (eq-eqb to core.me same)
+      (sym (ap (is_exhausted core.settings node) same ∙ own_exhausted core extended node S))
+  | inr apart ↦ rw (ne_eqb to core.me apart) refl
+])
 
--- those at the prefix, where they are as many as the nodes
-pub prefix_exhausted : (core : CoreState) (extended : Extended) (flags : List Bool) (count : ℕ)
-    → core.settings.nodes ≤ count → AreExhausted core extended flags → AreExhausted core extended (take count flags)
-prefix_exhausted core extended flags count all are = λ node S to low.
-    flags_prefix flags count to (omega (arith, low, all)) ∙ are node S to low
+-- the flags of a record
+flags_of : (core : CoreState) (extended : Extended) (node : Node EndpointLocal)
+    → EndpointStands (endpoint_of core extended) node
+    → AreExhausted core (other_exhausted core.settings core.me (under core_of node))
+flags_of core extended node S = record { node = under core_of node; stands = S.core; each = λ to. refl }
 
-agreed : (core : CoreState) (extended : Extended) (flags : List Bool) → AreExhausted core extended flags
-    → (node : Node EndpointLocal) → EndpointStands (endpoint_of core extended) node
-    → AllByRecursion (Agree (flag_at flags) (is_exhausted core.settings node)) node.local.operations
-agreed core extended flags are node S =
-    all_by (Agree (flag_at flags) (is_exhausted core.settings node)) node.local.operations
-    (λ place operation e. are node S (target operation.transfer) (S.kept.operations (suc place) operation e).there)
+agreed : (core : CoreState) (extended : Extended) (node : Node EndpointLocal)
+    → EndpointStands (endpoint_of core extended) node
+    → AllByRecursion (Agree (other_exhausted core.settings core.me (under core_of node)) (is_exhausted core.settings node))
+    node.local.operations
+agreed core extended node S =
+    all_by (Agree (other_exhausted core.settings core.me (under core_of node)) (is_exhausted core.settings node))
+    node.local.operations
+    (λ place operation e. exhausted_there core extended node S (target operation.transfer)
+    (S.kept.operations (suc place) operation e).there)
 
 handle_alike : (exhausted other : ℕ → Bool) (thread handle : ℕ) (operations : List Operation)
     → AllByRecursion (Agree exhausted other) operations
@@ -122,24 +126,25 @@ pub same_core : (core : CoreState) → IsSameNode core core
 same_core core = record { settings = refl; me_is = refl; table = refl; segment_length = refl }
 
 -- a handle
-pub sync_does : (core : CoreState) (extended : Extended) (transfers : Transfers) (flags : List Bool) (thread : ℕ)
-    (handle : Handle) (says : Synced) → AreExhausted core extended flags
-    → ((operations : List Operation) → TransfersStand extended.transfers operations
-    → says ≡ handle_answer (flag_at flags) thread handle.serial operations)
+pub sync_does : (core : CoreState) (extended : Extended) (transfers : Transfers) (thread : ℕ)
+    (handle : Handle) (says : Synced)
+    → ((flag : ℕ → Bool) → AreExhausted core flag → (operations : List Operation)
+    → TransfersStand extended.transfers operations → says ≡ handle_answer flag thread handle.serial operations)
     → ((operations : List Operation) → TransfersStand extended.transfers operations
     → TransfersStand transfers (after_handle says handle.serial operations))
     → room_of transfers ≡ room_of extended.transfers
     → PartDoes (record { core = core; extended = extended }) thread
     (λ caller kept. transfer_does caller (SyncHandle handle) kept) (answers.Synced says)
     (record { core = core; extended = record extended { transfers = transfers } })
-sync_does core extended transfers flags thread handle says are answer stands room = record {
+sync_does core extended transfers thread handle says answer stands room = record {
   same = same_core core;
   frame = record { nodes = refl; me_is = refl; threads = refl; room = room };
   steps = λ node S.
       let operations = node.local.operations in
-      let is = answer operations S.transfers
-      ∙ handle_alike (flag_at flags) (is_exhausted core.settings node) thread handle.serial operations
-      (agreed core extended flags are node S) in (
+      let flag = other_exhausted core.settings core.me (under core_of node) in
+      let is = answer flag (flags_of core extended node S) operations S.transfers
+      ∙ handle_alike flag (is_exhausted core.settings node) thread handle.serial operations
+      (agreed core extended node S) in (
         ap (λ (s : Synced). answers.Synced s) is,
         record {
           core = S.core;
@@ -153,27 +158,28 @@ sync_does core extended transfers flags thread handle says are answer stands roo
 }
 
 -- implicit operations
-pub implicit_does : (core : CoreState) (extended : Extended) (transfers : Transfers) (flags : List Bool) (thread : ℕ)
-    (some : ImplicitKinds) (says : Synced) → AreExhausted core extended flags
+pub implicit_does : (core : CoreState) (extended : Extended) (transfers : Transfers) (thread : ℕ)
+    (some : ImplicitKinds) (says : Synced)
     → has_begun extended.regions thread ≡ false
-    → ((operations : List Operation) → TransfersStand extended.transfers operations
-    → says ≡ implicit_answer (flag_at flags) thread some operations)
+    → ((flag : ℕ → Bool) → AreExhausted core flag → (operations : List Operation)
+    → TransfersStand extended.transfers operations → says ≡ implicit_answer flag thread some operations)
     → ((operations : List Operation) → TransfersStand extended.transfers operations
     → TransfersStand transfers (left_by says (implicit_of thread some) operations))
     → room_of transfers ≡ room_of extended.transfers
     → PartDoes (record { core = core; extended = extended }) thread
     (λ caller kept. transfer_does caller (SyncImplicit some) kept) (answers.Synced says)
     (record { core = core; extended = record extended { transfers = transfers } })
-implicit_does core extended transfers flags thread some says are out answer stands room = record {
+implicit_does core extended transfers thread some says out answer stands room = record {
   same = same_core core;
   frame = record { nodes = refl; me_is = refl; threads = refl; room = room };
   steps = λ node S.
       let operations = node.local.operations in
       let none : has_begun node.local.regions thread ≡ false =
       ap (λ rs. has_begun rs thread) (sym S.regions_are) ∙ out in
-      let is = answer operations S.transfers
-      ∙ implicit_alike (flag_at flags) (is_exhausted core.settings node) thread some operations
-      (agreed core extended flags are node S) in (
+      let flag = other_exhausted core.settings core.me (under core_of node) in
+      let is = answer flag (flags_of core extended node S) operations S.transfers
+      ∙ implicit_alike flag (is_exhausted core.settings node) thread some operations
+      (agreed core extended node S) in (
         rw none (ap (λ (s : Synced). answers.Synced s) is),
         rw none (record {
           core = S.core;
@@ -235,20 +241,20 @@ group_outcome group caller local =
       },
     )
 
-pub group_does : (group : Group) (core : CoreState) (extended : Extended) (transfers : Transfers) (flags : List Bool)
+pub group_does : (group : Group) (core : CoreState) (extended : Extended) (transfers : Transfers)
     (thread : ℕ) (handles : List Handle) (whole : List ℕ) (says : Synced) (registers : List Handle)
-    → AreExhausted core extended flags → handles ≡ map (handle_in extended.registers) group.regs
+    → handles ≡ map (handle_in extended.registers) group.regs
     → ((operations : List Operation) → TransfersStand extended.transfers operations
     → whole ≡ group.empties operations extended.registers)
     → registers ≡ emptied_by says whole extended.registers
-    → ((operations : List Operation) → TransfersStand extended.transfers operations
-    → says ≡ group.answer (flag_at flags) thread handles operations)
+    → ((flag : ℕ → Bool) → AreExhausted core flag → (operations : List Operation)
+    → TransfersStand extended.transfers operations → says ≡ group.answer flag thread handles operations)
     → ((operations : List Operation) → TransfersStand extended.transfers operations
     → TransfersStand transfers (left_by says (group.choice handles operations) operations))
     → room_of transfers ≡ room_of extended.transfers
     → PartDoes (record { core = core; extended = extended }) thread (group_outcome group) (answers.Synced says)
     (record { core = core; extended = record extended { transfers = transfers; registers = registers } })
-group_does group core extended transfers flags thread handles whole says registers are those wholes emptied_so answer
+group_does group core extended transfers thread handles whole says registers those wholes emptied_so answer
     stands room = record {
       same = same_core core;
       frame = record { nodes = refl; me_is = refl; threads = refl; room = room };
@@ -257,8 +263,9 @@ group_does group core extended transfers flags thread handles whole says registe
           let exhausted = is_exhausted core.settings node in
           let its : handles ≡ map (handle_in node.local.registers) group.regs =
           those ∙ ap (λ rs. map (handle_in rs) group.regs) S.registers_are in
-          let is = answer operations S.transfers
-          ∙ group.alike (flag_at flags) exhausted thread handles operations (agreed core extended flags are node S)
+          let flag = other_exhausted core.settings core.me (under core_of node) in
+          let is = answer flag (flags_of core extended node S) operations S.transfers
+          ∙ group.alike flag exhausted thread handles operations (agreed core extended node S)
           ∙ ap (λ hs. group.answer exhausted thread hs operations) its in (
             ap (λ (s : Synced). answers.Synced s) is,
             record {

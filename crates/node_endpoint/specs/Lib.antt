@@ -1,6 +1,7 @@
 pub mod EndpointState
 pub mod Sends
 pub mod Parts
+pub mod NodeFlags
 pub use Rattle.node_core.specs.ClientRules
 pub use Rattle.node_core.specs.HandlerRuns
 pub use Rattle.node_core.specs.Kept

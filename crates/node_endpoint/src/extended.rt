@@ -7,7 +7,6 @@ ghost use Rattle.part_barrier.specs.Stands.{BarrierStands};
 ghost use Rattle.part_transfers.specs.Stands.{room_of};
 ghost use Rattle.part_transfers.specs.Stands.{Stands as TransfersStand, HasOperations};
 ghost use Rattle.spec_node.specs.Step.{is_exhausted};
-ghost use Rattle.part_transfers.specs.Syncs.{flag_at};
 ghost use Rattle.node_rules.specs.BarrierCalls.{has_ranges};
 ghost use Rattle.node_rules.specs.EndpointLocal.{invalid};
 ghost use Rattle.node_endpoint.specs.EndpointState.{ForItsRecord};
@@ -103,20 +102,6 @@ impl Extended {
             return false;
         }
         core.exhausted(node)
-    }
-
-    /// For each node whether no number is left for requests to it.
-    pub(crate) fn exhausted(&self, core: &Core) -> [bool; 256]
-        requires { IsWhole core.now self.now }
-        ensures { ForItsRecord (endpoint_of core.now self.now) (λ node. (to : ℕ)
-            → to < core.now.settings.nodes
-            → flag_at result to ≡ is_exhausted core.now.settings node to) }
-    {
-        let mut exhausted = [false; 256];
-        for node in 0..self.nodes {
-            exhausted[node as usize] = self.has_exhausted(core, node);
-        }
-        exhausted
     }
 
     /// Tells the transfers and the barrier what a delivery was answered.

@@ -43,6 +43,7 @@ mod caller;
 mod calls;
 mod endpoint;
 mod extended;
+mod flags;
 mod making;
 mod memory;
 mod ticking;

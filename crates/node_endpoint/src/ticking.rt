@@ -8,7 +8,6 @@ ghost use Rattle.spec_node.specs.NodeStep.{site_of};
 ghost use Rattle.part_barrier.specs.BarrierState.{notification_at};
 ghost use Rattle.part_transfers.specs.Operation.{next_chunk, target};
 ghost use Rattle.part_transfers.specs.Stands.{CanMarkSent};
-ghost use Rattle.part_transfers.specs.Syncs.{flag_at};
 ghost use Rattle.node_core.specs.AskedFor.{work_of};
 ghost use Rattle.node_core.specs.Library.{Notification, WorkFits};
 ghost use Rattle.node_rules.specs.EndpointRules.{chunk_work};
@@ -16,6 +15,7 @@ ghost use Rattle.node_endpoint.specs.EndpointState.{ForItsRecord, job_here};
 ghost use Rattle.node_endpoint.specs.Parts.{IsWhole, CanSend, PartSends, endpoint_of};
 
 use crate::extended::Extended;
+use crate::flags::Askable;
 use node_core::{Asked, Core, LibraryRequest, SlotRef};
 use node_rules::Ticked;
 use part_transfers::{Next, Transfer};
@@ -49,21 +49,6 @@ fn chunk_work(next: &Next) -> LibraryRequest
 }
 
 impl Extended {
-    /// For each node whether it can be asked.
-    fn can(&self, core: &Core) -> [bool; 256]
-        requires { IsWhole core.now self.now }
-        ensures { (meaning : Meaning) → ForItsRecord (endpoint_of core.now self.now) (λ node.
-            (to : ℕ) → flag_at result to
-            ≡ can_ask (site_of (job_here meaning (endpoint_of core.now self.now)) core.now.me)
-            node to) }
-    {
-        let mut can = [false; 256];
-        for to in 0..self.nodes {
-            can[to as usize] = core.can_ask(to);
-        }
-        can
-    }
-
     /// The next chunk of the oldest operation whose target can be asked.
     pub(crate) fn next_chunk(&self, core: &Core) -> Option<Next>
         requires { IsWhole core.now self.now }
@@ -76,7 +61,7 @@ impl Extended {
         if self.transfers.is_idle() {
             return None;
         }
-        self.transfers.next(&self.can(core))
+        self.transfers.next(&Askable { core })
     }
 
     /// Sends a notification of the barrier to a node that can be asked.

@@ -11,6 +11,7 @@ ghost use Rattle.node_rules.specs.TransferCalls.{RegionBegin, RegionEnd};
 ghost use Rattle.node_endpoint.specs.Parts.{IsWhole, PartDoes};
 
 use crate::extended::Extended;
+use crate::flags::Exhausted;
 use arrayvec::ArrayVec;
 use node_core::Core;
 use node_rules::{Answer, Region};
@@ -67,11 +68,7 @@ impl Extended {
             (λ caller local. transfer_does caller (SyncHandle handle) local) result
             (record { core = core.now; extended = self.new }) }
     {
-        let exhausted = self.exhausted(core);
-        Answer::Synced(
-            self.transfers
-                .try_sync(&exhausted[..usize::from(self.nodes)], thread, handle),
-        )
+        Answer::Synced(self.transfers.try_sync(&Exhausted { core }, thread, handle))
     }
 
     /// Tries to synchronise the operations of all of these registers.
@@ -82,13 +79,10 @@ impl Extended {
             (λ caller local. transfer_does caller (SyncAll regs.now) local) result
             (record { core = core.now; extended = self.new }) }
     {
-        let exhausted = self.exhausted(core);
         let handles = handles_in(&self.registers, regs);
-        let says = self.transfers.try_sync_all(
-            &exhausted[..usize::from(self.nodes)],
-            thread,
-            &handles[..regs.len()],
-        );
+        let says = self
+            .transfers
+            .try_sync_all(&Exhausted { core }, thread, &handles[..regs.len()]);
         if let Synced::Ok = says {
             empty(&mut self.registers, regs);
         }
@@ -103,14 +97,11 @@ impl Extended {
             (λ caller local. transfer_does caller (SyncSome regs.now) local) result
             (record { core = core.now; extended = self.new }) }
     {
-        let exhausted = self.exhausted(core);
         let handles = handles_in(&self.registers, regs);
         let whole = self.whole_registers(regs);
-        let says = self.transfers.try_sync_some(
-            &exhausted[..usize::from(self.nodes)],
-            thread,
-            &handles[..regs.len()],
-        );
+        let says = self
+            .transfers
+            .try_sync_some(&Exhausted { core }, thread, &handles[..regs.len()]);
         if let Synced::Ok = says {
             empty(&mut self.registers, whole.as_slice());
         }
@@ -128,10 +119,9 @@ impl Extended {
         if self.regions.is_begun(thread) {
             return Answer::Region(Region::InRegion);
         }
-        let exhausted = self.exhausted(core);
         Answer::Synced(
             self.transfers
-                .try_sync_implicit(&exhausted[..usize::from(self.nodes)], thread, which),
+                .try_sync_implicit(&Exhausted { core }, thread, which),
         )
     }
 

@@ -6,7 +6,8 @@ use Rattle.std.proofs.lemmas.Bool.{cases_Bool, cases_lt, and_parts, and_from, eq
 use Rattle.part_transfers.specs.declared.table.OperationRecord.{OperationRecord}
 use Rattle.part_transfers.specs.Operation.{Operation, target, has_next}
 use Rattle.part_transfers.specs.Syncs.{Choice, chosen, exhausted_of, less}
-use Rattle.part_transfers.specs.Stands.{Keeps, Agrees, IsFirstExhausted}
+use Rattle.part_transfers.specs.Stands.{Keeps, Agrees}
+use Rattle.part_transfers.specs.Table.{IsFirstExhausted}
 use Rattle.part_transfers.proofs.Members.{to_is}
 
 abbrev unissued_to : (node : ℕ) → Operation → Bool

@@ -13,6 +13,7 @@ pub mod Backs
 pub mod Members
 pub mod Marks
 pub mod Exhausted
+pub mod Smallest
 pub mod Lists
 pub mod Waiting
 pub mod Standing

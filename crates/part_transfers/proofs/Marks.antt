@@ -56,19 +56,6 @@ marks_by test other places marks same M = record {
     on None = refl
     on (Some there) = same there
 
-pub flag_within : (flags : List Bool) (node : ℕ) → flag_at flags node ≡ true → node < length flags
-flag_within [] node is = absurd (true≢false (sym is))
-flag_within (flag ∷ flags) zero is = omega arith
-flag_within (flag ∷ flags) (suc node) is = let later = flag_within flags node is in omega (arith, later)
-
--- no flag is set
-pub no_flag : (flags : List Bool) → list_any (λ (flag : Bool). flag) flags ≡ false → (node : ℕ)
-    → flag_at flags node ≡ false
-no_flag [] none node = refl
-no_flag (true ∷ flags) none node = absurd (true≢false none)
-no_flag (false ∷ flags) none zero = refl
-no_flag (false ∷ flags) none (suc node) = no_flag flags none node
-
 -- where nothing else was marked
 pub only : (test : OperationRecord → Bool) (places : List (Option OperationRecord)) (marks : List Bool)
     → AreMarks (also (λ there. false) test) places marks → AreMarks test places marks

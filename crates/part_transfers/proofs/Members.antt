@@ -8,13 +8,13 @@ use Rattle.std.proofs.lemmas.Option.{same_Some}
 use Rattle.part_transfers.specs.declared.table.OperationRecord.{OperationRecord}
 use Rattle.part_transfers.specs.declared.table.Pick.TheVariants as pick
 use Rattle.part_transfers.specs.declared.table.Check.{Check}
-use Rattle.part_transfers.specs.declared.table.Check.TheVariants.{Any, Others, Unissued, UnissuedTo, Unfinished, Open}
+use Rattle.part_transfers.specs.declared.table.Check.TheVariants.{Any, Others, Unissued, Unfinished, Open}
 use Rattle.part_transfers.specs.declared.operation.ImplicitKinds.{ImplicitKinds}
 use Rattle.part_transfers.specs.declared.operation.Synced.TheVariants.{Ok}
 use Rattle.part_transfers.specs.Operation.{Operation, SentChunk, returned_of, has_next, is_complete, target}
 use Rattle.part_transfers.specs.Syncs.{Choice, chosen, members, in_region, is_name, is_empty, is_other, implicit_of}
 use Rattle.part_transfers.specs.Syncs.{members_answer}
-use Rattle.part_transfers.specs.Table.{on_place, fits_pick, passes, has_passing}
+use Rattle.part_transfers.specs.Table.{on_place, fits_pick, passes, has_passing, is_unissued, has_unissued_to}
 use Rattle.part_transfers.specs.Stands.{record_of, Keeps, Agrees, member_in}
 use Rattle.part_transfers.proofs.Tests.{same_test, any_at, any_from}
 use Rattle.part_transfers.proofs.Counts.{number_at}
@@ -273,11 +273,11 @@ unissued_is places operations choice test K A =
 pub to_is : (places : List (Option OperationRecord)) (operations : List Operation) (choice : Choice) (test : OperationRecord → Bool)
     (node : ℕ)
     → Keeps places operations → Agrees choice test
-    → has_passing test (UnissuedTo node) places
+    → has_unissued_to test node places
     ≡ list_any (λ operation. has_next operation && (target operation.transfer == node)) (chosen choice 1 operations)
 to_is places operations choice test node K A =
     any_is places operations choice test (λ operation. has_next operation && (target operation.transfer == node))
-    (passes (UnissuedTo node)) K A (λ number operation. refl)
+    (λ there. is_unissued there && (target there.transfer == node)) K A (λ number operation. refl)
 
 -- ---- a sync of what is settled
 

@@ -82,15 +82,6 @@ oldest_is can table operations (Some best) S least =
       | inr isnt ↦ isnt
     ]) ∙ ap Some (ap (λ n. chunk_of n o.0) (sym a.1) ∙ ap next_of (sym o.3)))
 
--- what was found is unissued, and stands
-pub unissued_of : (can : ℕ → Bool) (places : List (Option OperationRecord)) (best : OperationRecord)
-    → IsLeast can places (Some best) → is_unissued best ≡ true
-unissued_of can places best least = (and_parts (is_unissued best) (can (target best.transfer)) least.0.2).0
-
-pub note_of : (can : ℕ → Bool) (table : Transfers) (best : OperationRecord) → IsLeast can table.table (Some best)
-    → CanMarkSent table best.number
-note_of can table best least = (least.0.0, (best, least.0.1, refl, unissued_of can table.table best least))
-
 -- ---- nothing is unissued
 
 any_here : (test : Operation → Bool) (operations : List Operation) → list_any test operations ≡ false

@@ -8,7 +8,7 @@ use Rattle.part_transfers.specs.declared.operation.Handle.{Handle}
 use Rattle.part_transfers.specs.declared.table.OperationRecord.{OperationRecord}
 use Rattle.part_transfers.specs.declared.slots.Waiting.{Waiting}
 use Rattle.part_transfers.specs.declared.table.Pick.TheVariants as pick
-use Rattle.part_transfers.specs.declared.table.Check.TheVariants.{Unissued, UnissuedTo, Unfinished}
+use Rattle.part_transfers.specs.declared.table.Check.TheVariants.{Unissued, Unfinished}
 use Rattle.part_transfers.specs.declared.transfers.Transfers.{Transfers}
 use Rattle.part_transfers.specs.Operation.{Operation, returned_of, size, chunk_start, chunk_size, is_complete}
 use Rattle.part_transfers.specs.Operation.{unsynced_count}
@@ -111,14 +111,6 @@ pub record Agrees (choice : Choice) (test : OperationRecord → Bool) : Type 0 w
   pub chosen : (number : ℕ) (operation : Operation) → operation.synced ≡ false
       → choice number operation ≡ test (record_of number operation)
   pub open_only : (number : ℕ) (operation : Operation) → choice number operation ≡ true → operation.synced ≡ false
-
--- the first node that is exhausted and to which a record has an unissued chunk
-abbrev pub IsFirstExhausted : (exhausted : ℕ → Bool) → (OperationRecord → Bool) → List (Option OperationRecord) → Option ℕ → Type 0
-IsFirstExhausted exhausted test places None =
-    (node : ℕ) → exhausted node ≡ true → has_passing test (UnissuedTo node) places ≡ false
-IsFirstExhausted exhausted test places (Some node) =
-    (exhausted node ≡ true) × (has_passing test (UnissuedTo node) places ≡ true)
-    × ((other : ℕ) → other < node → exhausted other ≡ true → has_passing test (UnissuedTo other) places ≡ false)
 
 -- ---- the next chunk
 

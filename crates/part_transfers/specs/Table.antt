@@ -6,9 +6,9 @@ use Rattle.part_transfers.specs.declared.table.OperationRecord.{OperationRecord}
 use Rattle.part_transfers.specs.declared.table.Pick.{Pick}
 use Rattle.part_transfers.specs.declared.table.Pick.TheVariants as pick
 use Rattle.part_transfers.specs.declared.table.Check.{Check}
-use Rattle.part_transfers.specs.declared.table.Check.TheVariants.{Any, Others, Unissued, UnissuedTo, Unfinished, Open}
+use Rattle.part_transfers.specs.declared.table.Check.TheVariants.{Any, Others, Unissued, Unfinished, Open}
 use Rattle.part_transfers.specs.Operation.{target, size, chunks}
-use Rattle.part_transfers.specs.Syncs.{is_name, is_kind}
+use Rattle.part_transfers.specs.Syncs.{is_name, is_kind, less}
 
 -- what stands in a place, if it isn't blank
 abbrev pub flat : {Item : Type 0} → Option (Option Item) → Option Item
@@ -66,7 +66,6 @@ abbrev pub passes : Check → OperationRecord → Bool
 passes Any there = true
 passes (Others thread) there = not (there.thread == thread)
 passes Unissued there = is_unissued there
-passes (UnissuedTo node) there = is_unissued there && (target there.transfer == node)
 passes Unfinished there = is_unissued there || nat_lt there.returned there.issued
 passes (Open thread) there =
     not (there.thread == thread) || (is_unissued there || nat_lt there.returned there.issued)
@@ -82,6 +81,11 @@ also test other there = test there || other there
 -- some record of which the test holds passes
 abbrev pub has_passing : (OperationRecord → Bool) → Check → List (Option OperationRecord) → Bool
 has_passing test check places = list_any (on_place (λ there. test there && passes check there)) places
+
+-- some record of which the test holds has an unissued chunk to the node
+abbrev pub has_unissued_to : (OperationRecord → Bool) → (node : ℕ) → List (Option OperationRecord) → Bool
+has_unissued_to test node places =
+    list_any (on_place (λ there. test there && (is_unissued there && (target there.transfer == node)))) places
 
 -- marked are the places of the records of which the test holds
 pub record AreMarks (test : OperationRecord → Bool) (places : List (Option OperationRecord)) (marks : List Bool) : Type 0 where
@@ -111,6 +115,21 @@ IsLeast can places (Some best) =
     ((place : ℕ) × (slice_get places place ≡ Some (Some best)) × (is_ready can best ≡ true))
     × ((place : ℕ) (there : OperationRecord) → slice_get places place ≡ Some (Some there)
     → is_ready can there ≡ true → best.number ≤ there.number)
+
+-- the smaller one of a node that was found, if one was, and the target of the record there, where that one is meant and
+-- a chunk of it may be issued
+abbrev pub smaller_target : (flag : ℕ → Bool) → (meant : Bool) → Option ℕ → Option OperationRecord → Option ℕ
+smaller_target flag meant found None = found
+smaller_target flag meant found (Some there) =
+    if meant && is_ready flag there then less (target there.transfer) found else found
+
+-- the smallest node that is exhausted and to which a record has an unissued chunk
+abbrev pub IsFirstExhausted : (exhausted : ℕ → Bool) → (OperationRecord → Bool) → List (Option OperationRecord) → Option ℕ → Type 0
+IsFirstExhausted exhausted test places None =
+    (node : ℕ) → exhausted node ≡ true → has_unissued_to test node places ≡ false
+IsFirstExhausted exhausted test places (Some node) =
+    (exhausted node ≡ true) × (has_unissued_to test node places ≡ true)
+    × ((other : ℕ) → other < node → exhausted other ≡ true → has_unissued_to test other places ≡ false)
 
 -- the place without a record that is picked
 abbrev pub unless_picked : (OperationRecord → Bool) → Option OperationRecord → Option OperationRecord

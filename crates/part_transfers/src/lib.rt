@@ -14,6 +14,7 @@
 //! transfer that is done at once) isn't here: it needs the node's active messages.
 #![tactic(auto)]
 
+mod flags;
 mod operation;
 mod queue;
 mod regions;
@@ -21,8 +22,7 @@ mod slots;
 mod table;
 mod transfers;
 
-pub use operation::{
-    Handle, ImplicitKinds, MAX_CHUNK, MAX_NODES, Mode, Next, Synced, TooMany, Transfer,
-};
+pub use flags::Flags;
+pub use operation::{Handle, ImplicitKinds, MAX_CHUNK, Mode, Next, Synced, TooMany, Transfer};
 pub use regions::{Nested, NoRegion, Region, Regions};
 pub use transfers::Transfers;

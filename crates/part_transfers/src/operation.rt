@@ -9,9 +9,6 @@ use std::fmt::Debug;
 /// The most bytes of a chunk: as many as the payload of a message may have.
 pub const MAX_CHUNK: u64 = 8192;
 
-/// The most nodes that have a number of 16 bits.
-pub const MAX_NODES: usize = 65_536;
-
 /// What an operation of the extended API is called by. Number 0 is GASNET_INVALID_HANDLE: it stands for a finished
 /// operation.
 #[derive(Clone, Copy, Debug, PartialEq, Eq)]

@@ -17,13 +17,13 @@ pub(crate) struct Waiting {
 /// An entry for each slot of each node. The memory of all of them is reserved, and that of an entry is touched once a
 /// chunk went in its slot, or in a later one: there is none behind those in the list.
 #[derive(Drop)]
-pub(crate) struct Slots {
+pub(crate) struct ChunkSlots {
     nodes: usize,
     credits: usize,
     entries: Vec<Option<Waiting>>,
 }
 
-impl Model for Slots {
+impl Model for ChunkSlots {
     ghost use Rattle.std.specs.Prelude.{◌≤◌, ◌*◌, vec_capacity};
     ghost use Rattle.part_transfers.specs.ChunkSlots.{ChunkSlots};
 
@@ -61,15 +61,15 @@ fn reach(entries: &mut Vec<Option<Waiting>>, place: usize)
     }
 }
 
-impl Slots {
+impl ChunkSlots {
     /// No chunk is out.
-    pub fn new(alloc: Global, nodes: u16, credits: u16) -> Result<Slots, AllocError>
+    pub fn new(alloc: Global, nodes: u16, credits: u16) -> Result<ChunkSlots, AllocError>
         ensures room { IfOk result (λ slots. (slots.nodes ≡ nodes) × (slots.credits ≡ credits)) }
         ensures none { IfOk result (λ slots. (to slot : ℕ) → entry_at slots to slot ≡ None) }
     {
         let nodes = usize::from(nodes);
         let credits = usize::from(credits);
-        Ok(Slots {
+        Ok(ChunkSlots {
             nodes,
             credits,
             entries: Vec::with_capacity(alloc, nodes * credits)?,

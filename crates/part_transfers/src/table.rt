@@ -7,12 +7,13 @@ ghost use Rattle.part_transfers.specs.declared.table.Pick.TheVariants as pick;
 ghost use Rattle.part_transfers.specs.declared.table.Check.TheVariants.{Any, Open};
 ghost use Rattle.part_transfers.specs.Syncs.{is_kind, flag_at};
 ghost use Rattle.part_transfers.specs.Table.{taken_count, is_unissued, waits_by, passes, fits_pick, on_place, picks};
-ghost use Rattle.part_transfers.specs.Table.{ready, IsLeast};
+ghost use Rattle.part_transfers.specs.Table.{ready, smaller_target, IsLeast, IsFirstExhausted};
 ghost use Rattle.part_transfers.specs.Table.{also, has_passing, AreMarks, IsPlaceOf, AreDropped, IsRecordOf};
 ghost use Rattle.part_transfers.specs.Table.{regions_of};
 ghost use Rattle.part_transfers.specs.Places.{record_places, IsIndexed};
 ghost use Rattle.std.specs.List.{list_any};
 
+use crate::flags::Flags;
 use crate::operation::{ImplicitKinds, Transfer};
 use crate::queue::Queue;
 use slab::Slab;
@@ -48,7 +49,6 @@ pub(crate) enum Check {
     Any,
     Others(u16),
     Unissued,
-    UnissuedTo(u16),
     Unfinished,
     /// Another thread's, or unfinished.
     Open(u16),
@@ -80,7 +80,6 @@ impl OperationRecord {
             Check::Any => true,
             Check::Others(thread) => self.thread != thread,
             Check::Unissued => self.is_unissued(),
-            Check::UnissuedTo(node) => self.is_unissued() && self.transfer.target() == node,
             Check::Unfinished => self.is_unissued() || self.returned < self.issued,
             Check::Open(thread) => {
                 self.thread != thread || (self.is_unissued() || self.returned < self.issued)
@@ -132,17 +131,6 @@ pub(crate) fn flag_at(flags: &[bool], place: usize) -> bool
     }
 }
 
-/// Whether a flag is set. It looks at all of them, many at a time, and stops at none.
-fn has_flag(flags: &[bool]) -> bool
-    ensures { result ≡ list_any (λ (flag : Bool). flag) flags.now }
-{
-    let mut any = false;
-    for flag in flags {
-        any = either(any, *flag);
-    }
-    any
-}
-
 /// One or the other.
 pub(crate) fn either(mark: bool, other: bool) -> bool
     ensures { result ≡ mark || other }
@@ -170,16 +158,41 @@ fn regions_of(place: Option<OperationRecord>) -> usize
     }
 }
 
-/// The record there, if a chunk of it may be issued; `can` has a flag for each node.
-fn ready(place: Option<OperationRecord>, can: &[bool]) -> Option<OperationRecord>
-    ensures { result ≡ ready (flag_at can.now) place }
+/// The record there, if a chunk of it may be issued to its target.
+fn ready<F: Flags>(place: Option<OperationRecord>, can: &F) -> Option<OperationRecord>
+    ensures ready { (flag : ℕ → Bool) → F.stands can.now flag → result ≡ ready flag place }
+    ensures unissued { IfSome result (λ there. (place ≡ Some there) × (is_unissued there ≡ true)) }
 {
     if let Some(operation) = place {
-        if operation.is_unissued() && flag_at(can, operation.transfer.target() as usize) {
+        if operation.is_unissued() && can.is_set(operation.transfer.target()) {
             return Some(operation);
         }
     }
     None
+}
+
+/// The smaller one of a node that was found, if one was, and the target of the record there, where that one is meant,
+/// has an unissued chunk, and its target's flag is set. No other flag is asked for.
+fn smaller<F: Flags>(
+    found: Option<u16>,
+    place: Option<OperationRecord>,
+    meant: bool,
+    flags: &F,
+) -> Option<u16>
+    ensures { (flag : ℕ → Bool) → F.stands flags.now flag
+        → result ≡ smaller_target flag meant found place }
+{
+    let Some(operation) = ready(place, flags) else {
+        return found;
+    };
+    if !meant {
+        return found;
+    }
+    let target = operation.transfer.target();
+    match found {
+        Some(node) => Some(target.min(node)),
+        None => Some(target),
+    }
 }
 
 /// Whether a record stands there that is meant, and passes.
@@ -230,7 +243,7 @@ fn drop_at(
 /// 256 places: the keys of a slab, which tells the next blank one. The places that are taken stand in a list by the
 /// numbers of their operations, and those of the records with an unissued chunk in a queue.
 #[derive(Drop)]
-pub(crate) struct Table {
+pub(crate) struct OperationTable {
     records: Slab<OperationRecord>,
     queue: Queue,
     standing: Queue,
@@ -238,7 +251,7 @@ pub(crate) struct Table {
     in_regions: usize,
 }
 
-impl Model for Table {
+impl Model for OperationTable {
     ghost use Rattle.std.specs.Prelude.{List, Option};
     ghost use Rattle.part_transfers.specs.Places.{record_places, IsIndexed};
     ghost use Rattle.part_transfers.specs.declared.table.OperationRecord.{OperationRecord};
@@ -250,10 +263,10 @@ impl Model for Table {
     ghost invariant = { λ t. IsIndexed t.records t.queue t.standing t.in_regions };
 }
 
-impl Table {
+impl OperationTable {
     /// All places are blank. It takes the memory of 256 records and of two lists of as many, and touches none of it; no
     /// later call takes any.
-    pub fn new(alloc: Global) -> Result<Table, AllocError>
+    pub fn new(alloc: Global) -> Result<OperationTable, AllocError>
         ensures { IfOk result (λ table. table ≡ replicate 256 None) }
     {
         let records = Slab::with_capacity(alloc, 256)?;
@@ -261,7 +274,7 @@ impl Table {
         if records.capacity() != 256 {
             return Err(AllocError);
         }
-        Ok(Table {
+        Ok(OperationTable {
             records,
             queue: Queue::new(alloc)?,
             standing: Queue::new(alloc)?,
@@ -313,13 +326,15 @@ impl Table {
         self.queue.is_empty()
     }
 
-    /// The oldest record of which a chunk may be issued; `can` has a flag for each node. It looks only at the records
-    /// with an unissued chunk, from the oldest one on, and at none behind the one that it finds; at none at all where
-    /// no flag is set.
-    pub fn oldest(&self, can: &[bool]) -> Option<OperationRecord>
-        ensures { IsLeast (flag_at can.now) self.now result }
+    /// The oldest record of which a chunk may be issued to its target. It looks only at the records with an unissued
+    /// chunk, from the oldest one on, and at none behind the one that it finds; at none at all where no flag may be
+    /// set. It asks for the flags of their targets alone.
+    pub fn oldest<F: Flags>(&self, can: &F) -> Option<OperationRecord>
+        ensures least { (flag : ℕ → Bool) → F.stands can.now flag → IsLeast flag self.now result }
+        ensures unissued { IfSome result (λ there. (place : ℕ)
+            × (slice_get self.now place ≡ Some (Some there)) × (is_unissued there ≡ true)) }
     {
-        if !has_flag(can) {
+        if !can.may_be_set() {
             return None;
         }
         for index in 0..self.queue.len() {
@@ -398,6 +413,35 @@ impl Table {
             }
         }
         false
+    }
+
+    /// The smallest node whose flag is set and to which a record that is meant has an unissued chunk. It goes once
+    /// through those that may be meant, and asks for the flags of their targets alone.
+    pub fn smallest_target<F: Flags>(&self, pick: Pick, flags: &F) -> Option<u16>
+        ensures { (flag : ℕ → Bool) → F.stands flags.now flag
+            → IsFirstExhausted flag (fits_pick pick) self.now result }
+    {
+        let (from, end) = run(&self.standing, pick);
+        let mut found = None;
+        for index in from..end {
+            let place = self.at(self.standing.at(index).place);
+            found = smaller(found, place, is_picked(place, pick), flags);
+        }
+        found
+    }
+
+    /// The smallest node whose flag is set and to which a record that is marked has an unissued chunk. It goes once
+    /// through all records.
+    pub fn smallest_marked<F: Flags>(&self, marks: &[bool; 256], flags: &F) -> Option<u16>
+        ensures { (flag : ℕ → Bool) → F.stands flags.now flag → (test : OperationRecord → Bool)
+            → AreMarks test self.now marks.now → IsFirstExhausted flag test self.now result }
+    {
+        let mut found = None;
+        for index in 0..self.standing.len() {
+            let place = self.standing.at(index).place;
+            found = smaller(found, self.at(place), flag_at(marks, place), flags);
+        }
+        found
     }
 
     /// The place of the operation with that number, if it has an unissued chunk. It looks at no record.

@@ -8,27 +8,27 @@ ghost use Rattle.part_transfers.specs.declared.operation.Handle.{Handle};
 ghost use Rattle.std.specs.Prelude.{◌==◌};
 ghost use Rattle.part_transfers.specs.Operation.{Operation, target, region_of, begin_answer, after_begin, has_next};
 ghost use Rattle.part_transfers.specs.Operation.{has_unissued, next_chunk, issue, has_out, come_back, IsFreeSlot};
-ghost use Rattle.part_transfers.specs.Syncs.{Choice, is_implicit, chosen, flag_at, members, sync_answer, handle_answer};
+ghost use Rattle.part_transfers.specs.Syncs.{Choice, is_implicit, chosen, members, sync_answer, handle_answer};
 ghost use Rattle.part_transfers.specs.Syncs.{after_handle, implicit_of, implicit_answer, left_by, issued_answer, fault_here};
 ghost use Rattle.part_transfers.specs.Syncs.{fault_of, members_of, all_answer, whole_of, some_here, some_answer, is_whole};
 ghost use Rattle.part_transfers.specs.Table.{AreMarks, also, is_unissued, fits_pick};
 ghost use Rattle.part_transfers.specs.Stands.{HasOperations, ForItsOperations, room_of, Stands, Agrees, member_in};
 ghost use Rattle.part_transfers.specs.Stands.{member_of, member_of_any};
-ghost use Rattle.part_transfers.specs.Stands.{is_whole_in, whole_here, whole_in, IsFirstExhausted, CanMarkSent};
+ghost use Rattle.part_transfers.specs.Stands.{is_whole_in, whole_here, whole_in, CanMarkSent};
 ghost use Rattle.part_transfers.specs.Stands.{next_of};
-ghost use Rattle.part_transfers.specs.declared.operation.TheConstants.{MAX_NODES};
 
+use crate::flags::Flags;
 use crate::operation::{Handle, ImplicitKinds, MAX_CHUNK, Mode, Next, Synced, TooMany, Transfer};
-use crate::slots::{Slots, Waiting};
-use crate::table::{Check, OperationRecord, Pick, Table, either, flag_at};
+use crate::slots::{ChunkSlots, Waiting};
+use crate::table::{Check, OperationRecord, OperationTable, Pick, either};
 use std::alloc::{AllocError, Global};
 
 /// The operations of a node: a record for each one that isn't yet synchronised, at most 256.
 #[derive(Drop)]
 pub struct Transfers {
     given: u64,
-    table: Table,
-    slots: Slots,
+    table: OperationTable,
+    slots: ChunkSlots,
 }
 
 /// The next chunk of an operation that has one.
@@ -77,8 +77,8 @@ impl Transfers {
     {
         Ok(Transfers {
             given: 0,
-            table: Table::new(alloc)?,
-            slots: Slots::new(alloc, nodes, credits)?,
+            table: OperationTable::new(alloc)?,
+            slots: ChunkSlots::new(alloc, nodes, credits)?,
         })
     }
 
@@ -111,12 +111,12 @@ impl Transfers {
         Ok(Handle { serial: number })
     }
 
-    /// The next chunk of the oldest operation that has an unissued chunk to a node that can be asked; `can` has a flag
-    /// for each node. Chunks of one operation come in the order of their ranges. It looks at no operation whose chunks
-    /// were all issued, and at none that began later than the one that it finds.
-    pub fn next(&self, can: &[bool]) -> Option<Next>
-        ensures next { ForItsOperations self.now (λ operations.
-            result ≡ next_chunk (flag_at can.now) 1 operations) }
+    /// The next chunk of the oldest operation that has an unissued chunk to a node whose flag is set, which can be
+    /// asked. Chunks of one operation come in the order of their ranges. It looks at no operation whose chunks were all
+    /// issued, and at none that began later than the one that it finds; it asks for the flags of their targets alone.
+    pub fn next<F: Flags>(&self, can: &F) -> Option<Next>
+        ensures next { (flag : ℕ → Bool) → F.stands can.now flag → ForItsOperations self.now (λ operations.
+            result ≡ next_chunk flag 1 operations) }
         ensures can_mark_sent { IfSome result (λ next. CanMarkSent self.now next.number) }
     {
         match self.table.oldest(can) {
@@ -233,27 +233,12 @@ impl Transfers {
         self.table.place_of(handle.serial).is_some()
     }
 
-    /// The smallest node that is exhausted and has an unissued chunk of what is marked.
-    fn first_exhausted(&self, exhausted: &[bool], marks: &[bool; 256]) -> Option<u16>
-        requires { length exhausted.now ≤ MAX_NODES }
-        ensures { (test : OperationRecord → Bool) → AreMarks test self.now.table marks.now
-            → IsFirstExhausted (flag_at exhausted.now) test self.now.table result }
-    {
-        for node in 0..exhausted.len() {
-            if flag_at(exhausted, node) && self.table.has(marks, Check::UnissuedTo(node as u16)) {
-                return Some(node as u16);
-            }
-        }
-        None
-    }
-
     /// Where what is marked is complete it goes.
-    fn sync_marked(&mut self, exhausted: &[bool], marks: &[bool; 256]) -> Synced
-        requires { length exhausted.now ≤ MAX_NODES }
-        ensures answer { ForItsOperations self.old (λ operations.
+    fn sync_marked<F: Flags>(&mut self, exhausted: &F, marks: &[bool; 256]) -> Synced
+        ensures answer { (flag : ℕ → Bool) → F.stands exhausted.now flag → ForItsOperations self.old (λ operations.
             (choice : Choice) (test : OperationRecord → Bool)
             → AreMarks test self.old.table marks.now → Agrees choice test
-            → result ≡ sync_answer (flag_at exhausted.now) (chosen choice 1 operations)) }
+            → result ≡ sync_answer flag (chosen choice 1 operations)) }
         ensures stands { ForItsOperations self.old (λ operations.
             (choice : Choice) (test : OperationRecord → Bool)
             → AreMarks test self.old.table marks.now → Agrees choice test
@@ -264,33 +249,17 @@ impl Transfers {
             self.table.drop_marked(marks);
             return Synced::Ok;
         }
-        match self.first_exhausted(exhausted, marks) {
+        match self.table.smallest_marked(marks, exhausted) {
             Some(node) => Synced::Exhausted(node),
             None => Synced::NotReady,
         }
     }
 
-    /// The smallest node that is exhausted and has an unissued chunk of what is meant.
-    fn first_exhausted_of(&self, exhausted: &[bool], pick: Pick) -> Option<u16>
-        requires { length exhausted.now ≤ MAX_NODES }
-        ensures { IsFirstExhausted (flag_at exhausted.now) (fits_pick pick) self.now.table result }
-    {
-        for node in 0..exhausted.len() {
-            if flag_at(exhausted, node)
-                && self.table.any_passes(pick, Check::UnissuedTo(node as u16))
-            {
-                return Some(node as u16);
-            }
-        }
-        None
-    }
-
     /// Where what is meant is complete it goes. While it isn't, the first record that is unfinished answers.
-    fn sync_picked(&mut self, exhausted: &[bool], pick: Pick) -> Synced
-        requires { length exhausted.now ≤ MAX_NODES }
-        ensures answer { ForItsOperations self.old (λ operations. (choice : Choice)
+    fn sync_picked<F: Flags>(&mut self, exhausted: &F, pick: Pick) -> Synced
+        ensures answer { (flag : ℕ → Bool) → F.stands exhausted.now flag → ForItsOperations self.old (λ operations. (choice : Choice)
             → Agrees choice (fits_pick pick)
-            → result ≡ sync_answer (flag_at exhausted.now) (chosen choice 1 operations)) }
+            → result ≡ sync_answer flag (chosen choice 1 operations)) }
         ensures stands { ForItsOperations self.old (λ operations. (choice : Choice)
             → Agrees choice (fits_pick pick)
             → Stands self.new (left_by result choice operations)) }
@@ -300,7 +269,7 @@ impl Transfers {
             self.table.drop_picked(pick);
             return Synced::Ok;
         }
-        match self.first_exhausted_of(exhausted, pick) {
+        match self.table.smallest_target(pick, exhausted) {
             Some(node) => Synced::Exhausted(node),
             None => Synced::NotReady,
         }
@@ -327,10 +296,9 @@ impl Transfers {
     /// stands has the number; `NotYours` where it belongs to another thread; `Ok` where the operation is complete, or
     /// all those of the region are, and their records go; `Exhausted` with the smallest exhausted node to which a chunk
     /// is unissued; else `NotReady`. (GASNet 1.8.1 extended API, gasnet_try_syncnb.)
-    pub fn try_sync(&mut self, exhausted: &[bool], thread: u16, handle: Handle) -> Synced
-        requires { length exhausted.now ≤ MAX_NODES }
-        ensures answer { ForItsOperations self.old (λ operations.
-            result ≡ handle_answer (flag_at exhausted.now) thread handle.serial operations) }
+    pub fn try_sync<F: Flags>(&mut self, exhausted: &F, thread: u16, handle: Handle) -> Synced
+        ensures answer { (flag : ℕ → Bool) → F.stands exhausted.now flag → ForItsOperations self.old (λ operations.
+            result ≡ handle_answer flag thread handle.serial operations) }
         ensures stands { ForItsOperations self.old (λ operations.
             Stands self.new (after_handle result handle.serial operations)) }
         ensures room { room_of self.new ≡ room_of self.old }
@@ -351,15 +319,14 @@ impl Transfers {
 
     /// A sync of the thread's implicit operations outside regions that doesn't wait: `Ok`, `Exhausted` or `NotReady`,
     /// as with `try_sync`. (GASNet 1.8.1 extended API, gasnet_try_syncnbi_all and its like.)
-    pub fn try_sync_implicit(
+    pub fn try_sync_implicit<F: Flags>(
         &mut self,
-        exhausted: &[bool],
+        exhausted: &F,
         thread: u16,
         which: ImplicitKinds,
     ) -> Synced
-        requires { length exhausted.now ≤ MAX_NODES }
-        ensures answer { ForItsOperations self.old (λ operations.
-            result ≡ implicit_answer (flag_at exhausted.now) thread which operations) }
+        ensures answer { (flag : ℕ → Bool) → F.stands exhausted.now flag → ForItsOperations self.old (λ operations.
+            result ≡ implicit_answer flag thread which operations) }
         ensures stands { ForItsOperations self.old (λ operations.
             Stands self.new (left_by result (implicit_of thread which) operations)) }
         ensures room { room_of self.new ≡ room_of self.old }
@@ -417,10 +384,14 @@ impl Transfers {
     /// A sync of all of these handles that doesn't wait. The first of them that is `BadHandle` or `NotYours` decides;
     /// then it is `Ok` where all are complete or invalid, and their records go; then `Exhausted`, then `NotReady`, over
     /// all of them. Nothing changes unless it is `Ok` (profile). (GASNet 1.8.1 extended API, gasnet_try_syncnb_all.)
-    pub fn try_sync_all(&mut self, exhausted: &[bool], thread: u16, handles: &[Handle]) -> Synced
-        requires { length exhausted.now ≤ MAX_NODES }
-        ensures answer { ForItsOperations self.old (λ operations.
-            result ≡ all_answer (flag_at exhausted.now) thread handles.now operations) }
+    pub fn try_sync_all<F: Flags>(
+        &mut self,
+        exhausted: &F,
+        thread: u16,
+        handles: &[Handle],
+    ) -> Synced
+        ensures answer { (flag : ℕ → Bool) → F.stands exhausted.now flag → ForItsOperations self.old (λ operations.
+            result ≡ all_answer flag thread handles.now operations) }
         ensures stands { ForItsOperations self.old (λ operations.
             Stands self.new (left_by result (members_of handles.now operations) operations)) }
         ensures room { room_of self.new ≡ room_of self.old }
@@ -502,10 +473,9 @@ impl Transfers {
     }
 
     /// A sync of those of these handles that are complete, where none has a fault.
-    fn sync_some(&mut self, exhausted: &[bool], handles: &[Handle]) -> Synced
-        requires { length exhausted.now ≤ MAX_NODES }
-        ensures answer { ForItsOperations self.old (λ operations.
-            result ≡ some_here (flag_at exhausted.now) handles.now operations) }
+    fn sync_some<F: Flags>(&mut self, exhausted: &F, handles: &[Handle]) -> Synced
+        ensures answer { (flag : ℕ → Bool) → F.stands exhausted.now flag → ForItsOperations self.old (λ operations.
+            result ≡ some_here flag handles.now operations) }
         ensures stands { ForItsOperations self.old (λ operations.
             Stands self.new (left_by result (whole_of handles.now operations) operations)) }
         ensures room { room_of self.new ≡ room_of self.old }
@@ -517,7 +487,7 @@ impl Transfers {
             return Synced::Ok;
         }
         self.mark_all(handles, &mut marks);
-        match self.first_exhausted(exhausted, &marks) {
+        match self.table.smallest_marked(&marks, exhausted) {
             Some(node) => Synced::Exhausted(node),
             None => Synced::NotReady,
         }
@@ -526,10 +496,14 @@ impl Transfers {
     /// A sync of some of these handles that doesn't wait: as `try_sync_all`, but `Ok` where all are invalid or at least
     /// one is complete, and the records of those that are complete go. (GASNet 1.8.1 extended API,
     /// gasnet_try_syncnb_some.)
-    pub fn try_sync_some(&mut self, exhausted: &[bool], thread: u16, handles: &[Handle]) -> Synced
-        requires { length exhausted.now ≤ MAX_NODES }
-        ensures answer { ForItsOperations self.old (λ operations.
-            result ≡ some_answer (flag_at exhausted.now) thread handles.now operations) }
+    pub fn try_sync_some<F: Flags>(
+        &mut self,
+        exhausted: &F,
+        thread: u16,
+        handles: &[Handle],
+    ) -> Synced
+        ensures answer { (flag : ℕ → Bool) → F.stands exhausted.now flag → ForItsOperations self.old (λ operations.
+            result ≡ some_answer flag thread handles.now operations) }
         ensures stands { ForItsOperations self.old (λ operations.
             Stands self.new (left_by result (whole_of handles.now operations) operations)) }
         ensures room { room_of self.new ≡ room_of self.old }

@@ -2,7 +2,7 @@ use Rattle.std.proofs.Common.{◌≡◌, false, sym, subst, ◌∙◌}
 use Rattle.spec_node.specs.Step.{is_exhausted}
 use Rattle.spec_node.specs.Under.{under}
 use Rattle.node_rules.specs.EndpointLocal.{core_of}
-use Rattle.node_endpoint.proofs.Flags.{own_exhausted}
+use Rattle.node_endpoint.proofs.OwnNumbers.{own_exhausted}
 use Rattle.node_endpoint.proofs.extended.Extended.has_exhausted.Goals as goal
 
 pub returns : goal.returns

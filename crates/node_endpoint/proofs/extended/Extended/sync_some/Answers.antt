@@ -1,14 +1,13 @@
-use Rattle.std.proofs.Common.{arith, take, length, sym, ap, ◌∙◌}
+use Rattle.std.proofs.Common.{take, length, sym, ap, ◌∙◌}
 use Rattle.node_rules.specs.TransferCalls.{with_invalid, emptied_by}
-use Rattle.node_endpoint.proofs.Syncs.{prefix_exhausted, some_of, group_does, emptied_unless}
+use Rattle.node_endpoint.proofs.Syncs.{some_of, group_does, emptied_unless}
 use Rattle.node_endpoint.proofs.extended.Extended.sync_some.Goals as goal
 
 pub returns-in-Ok : goal.returns-in-Ok
 returns-in-Ok c =
-    group_does (some_of c.args.regs.now) c.args.core.now c.args.self.now c.try_sync_some-says.new.self
-    (take c.from.result c.exhausted-exhausted.result) c.args.thread (take (length c.args.regs.now) c.handles_in-handles.result)
+    group_does (some_of c.args.regs.now) c.args.core.now c.args.self.now c.try_sync_some-says.new.self c.args.thread (take (length c.args.regs.now) c.handles_in-handles.result)
     c.whole_registers-whole.result.items
-    c.try_sync_some-says.result c.empty.new.registers (prefix_exhausted c.args.core.now c.args.self.now c.exhausted-exhausted.result c.from.result (omega (arith, c.from.ensures, c.requires.whole.nodes)) c.exhausted-exhausted.ensures) c.handles_in-handles.ensures
+    c.try_sync_some-says.result c.empty.new.registers c.handles_in-handles.ensures
     c.whole_registers-whole.ensures
     (c.empty.ensures
     ∙ (ap (λ w. with_invalid w c.args.self.now.registers) c.as_slice.ensures.value
@@ -17,10 +16,9 @@ returns-in-Ok c =
 
 pub returns-in_default : goal.returns-in_default
 returns-in_default c =
-    group_does (some_of c.args.regs.now) c.args.core.now c.args.self.now c.try_sync_some-says.new.self
-    (take c.from.result c.exhausted-exhausted.result) c.args.thread (take (length c.args.regs.now) c.handles_in-handles.result)
+    group_does (some_of c.args.regs.now) c.args.core.now c.args.self.now c.try_sync_some-says.new.self c.args.thread (take (length c.args.regs.now) c.handles_in-handles.result)
     c.whole_registers-whole.result.items
-    c.try_sync_some-says.result c.args.self.now.registers (prefix_exhausted c.args.core.now c.args.self.now c.exhausted-exhausted.result c.from.result (omega (arith, c.from.ensures, c.requires.whole.nodes)) c.exhausted-exhausted.ensures) c.handles_in-handles.ensures
+    c.try_sync_some-says.result c.args.self.now.registers c.handles_in-handles.ensures
     c.whole_registers-whole.ensures
     (sym (emptied_unless c.try_sync_some-says.result c.whole_registers-whole.result.items c.args.self.now.registers
     c.in_default.not-Ok))
