@@ -94,7 +94,7 @@ LINE = Way(
             ("text_calls", "call_at", "'short 1 128 5': the form of that name, and its words"),
         ]),
         Step(0, ("sim_run", "run_job", "a world that was just opened, and the job's lines")),
-        Step(1, ("sim_run", "line_at", "the line as a WorldEvent"), [
+        Step(1, ("sim_run", "world_event", "its event, as the world has it"), [
             ("text_script", "call_of", "its call; the operands cN are read from the node's cells"),
         ]),
         Step(1, ("sim_world", "step", "one event of the world"), [
